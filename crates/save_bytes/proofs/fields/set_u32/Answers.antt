@@ -1,0 +1,7 @@
+use Rattle.std.proofs.Common.{refl}
+use Rattle.byteorder.specs.Endian.{little_bytes}
+use Rattle.save_bytes.proofs.FieldLemmas.{field_put}
+use Rattle.save_bytes.proofs.fields.set_u32.Goals as goal
+
+pub returns : goal.returns
+returns c = field_put c.args.at 4 c.args.bytes.now (little_bytes 4 c.args.n) c.write_u32.new.buf refl c.requires c.write_u32.ensures
