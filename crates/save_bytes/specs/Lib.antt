@@ -1,1 +1,12 @@
 pub mod Fields
+pub mod Cells
+pub mod CellNumbers
+pub mod State
+pub mod Blocks
+pub mod Refusals
+pub mod Answers
+pub mod Stays
+pub mod Puts
+pub mod Spots
+pub mod Memory
+pub mod MemoryLaws
