@@ -1,11 +1,11 @@
 -- One call of a space after another.
-use Rattle.std.proofs.Common.{◌≡◌, ℕ, ◌≤◌, Option, Some, None, ◌∙◌, ap, arith}
+use Rattle.std.proofs.Common.{◌≡◌, ℕ, ◌+◌, ◌≤◌, Option, Some, None, ◌∙◌, ap, arith}
 use Rattle.save_bytes.specs.declared.space.Bad.{Bad}
 use Rattle.save_bytes.specs.declared.space.Bad.TheVariants.{Disk, Damaged}
 use Rattle.save_bytes.specs.State.{Shape, State}
 use Rattle.save_bytes.specs.Refusals.{Rose, OnDisk, UnlessDisk}
 use Rattle.save_bytes.specs.Stays.{SameTwins, SameSpace, SameCells, Stays}
-use Rattle.save_bytes.specs.Spots.{Spot, Frame, LandsAsBefore, Unmoved}
+use Rattle.save_bytes.specs.Spots.{Spot, Frame, Misses, LandsAsBefore, Unmoved}
 
 -- facts under `UnlessDisk`
 pub UnlessDisk-map : (refusal : Option Bad) {P Q : Type 0} → (P → Q) → UnlessDisk refusal P → UnlessDisk refusal Q
@@ -46,6 +46,10 @@ Stays-join s t u refusal h k =
       space = SameSpace-join s t u refusal h.space k.space;
       cells = λ told. UnlessDisk-map refusal (λ (same : SameCells t u). λ x below. same x (omega arith) ∙ h.cells told x below) (k.cells (rw h.space.told told));
     }
+
+-- what a put would have missed before, it misses now
+pub Misses-later : (size at n : ℕ) (old new : ℕ → Spot → Type 0) (spot : Spot) → at + n ≤ size → LandsAsBefore size old new → Misses old at n spot → Misses new at n spot
+Misses-later size at n old new spot fits as_before misses k h lands = misses k h (as_before (at + k) (omega arith) spot lands)
 
 module _ {A : Type 0} (state : A → State) (keeps : Spot → A → A → Type 0) (lands : A → ℕ → Spot → Type 0) (join : (spot : Spot) (s t u : A) → keeps spot s t → keeps spot t u → keeps spot s u) where
   pub Unmoved-join : (s t u : A) (refusal : Option Bad) → Stays (state s) (state t) None → Unmoved keeps lands (state s) s t None → Unmoved keeps lands (state t) t u refusal → Unmoved keeps lands (state s) s u refusal

@@ -1,11 +1,11 @@
 -- A space that shows the cells of another at places of its own.
-use Rattle.std.proofs.Common.{◌≡◌, ◌≢◌, ◌⊎◌, ℕ, ◌+◌, ◌<◌, ◌≤◌, List, length, get_or, IsTrue, Option, Some, None, refl, sym, ◌∙◌, ap, subst, arith, inl, inr, ⊎_elim}
+use Rattle.std.proofs.Common.{◌≡◌, ◌≢◌, ℕ, ◌+◌, ◌<◌, ◌≤◌, List, length, IsTrue, Option, Some, None, ◌∙◌, ap, arith, inl, inr, ⊎_elim}
 use Rattle.save_bytes.specs.declared.space.Bad.{Bad}
 use Rattle.save_bytes.specs.declared.space.Bad.TheVariants.{Disk, Damaged}
 use Rattle.save_bytes.specs.Cells.{Cell, Byte, Blank, Spoilt, IsUnspoilt}
-use Rattle.save_bytes.specs.State.{Shape, State, IsWritable}
+use Rattle.save_bytes.specs.State.{State}
 use Rattle.save_bytes.specs.Answers.{IsReady, IsFirstSpoilt}
-use Rattle.save_bytes.specs.Puts.{IsMet, HasBlank, SoftensBlank, SoftensFrom, Softens, HasPut}
+use Rattle.save_bytes.specs.Puts.{IsMet, SoftensFrom, HasPut}
 
 -- each place of the view is a place of the base
 pub record Shows (base view : State) (place : ℕ → ℕ) : Type 0 where
