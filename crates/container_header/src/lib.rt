@@ -3,6 +3,9 @@
 
 mod fault;
 mod header;
+mod layout;
+mod reading;
+mod sector;
 
 pub use fault::HeaderFault;
 pub use header::{Extent, Header, Kind};

@@ -1,0 +1,4 @@
+pub mod HeaderBytes
+pub mod Soundness
+pub mod HeaderRead
+pub mod Flips
