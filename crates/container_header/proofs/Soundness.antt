@@ -1,5 +1,5 @@
 -- No condition of the layout fails exactly where a header is sound.
-use Rattle.std.proofs.Common.{◌≡◌, ℕ, suc, ◌+◌, ◌≤◌, Bool, true, false, ◌==◌, ◌&&◌, ◌||◌, not, nat_lt, cond, None, List, [], ◌∷◌, refl, arith}
+use Rattle.std.proofs.Common.{◌≡◌, ℕ, suc, ◌+◌, ◌≤◌, Bool, true, false, ◌==◌, ◌&&◌, ◌||◌, not, nat_lt, cond, None, List, [], ◌∷◌, refl, arith, lit≤}
 use Rattle.std.proofs.lemmas.Bool.{false≢true, ltb-false, le-ltb, leb-true, le-leb, eqb-true, eq-eqb, and_parts, and_from, cond_both, or_parts, or_from, not-false, not_from_true}
 use Rattle.std.proofs.lemmas.Bool.Decides.{nat_tests}
 use Rattle.std.specs.List.{list_any}
@@ -7,7 +7,8 @@ use Rattle.container_header.specs.declared.header.Extent.{Extent}
 use Rattle.container_header.specs.declared.header.Header.{Header}
 use Rattle.container_header.specs.Extents.{lies_inside, overlap, some_overlap}
 use Rattle.container_header.specs.Conditions.{max_length, table_at, regions, is_bad_descriptor, is_bad_partition, layout_faults, first_failing}
-use Rattle.container_header.specs.Sound.{IsInside, IsApart, IsDescriptor, IsPartition, IsSound}
+use Rattle.container_header.specs.Sound.{IsInside, IsApart, IsDescriptor, IsPartition, IsSound, active_at, inactive_at}
+use Rattle.container_header.specs.Raw.{other_table, flipped}
 
 -- none of the tests is met
 abbrev NoneHolds : List Bool → Type 0
@@ -207,3 +208,20 @@ sound_from header n e = none_sound header n (none_from 1 (layout_faults header n
 
 pub sound_to : (header : Header) (n : ℕ) → IsSound header n → first_failing 1 (layout_faults header n) ≡ None
 sound_to header n s = none_to 1 (layout_faults header n) (sound_none header n s)
+
+at_most_one : (active : ℕ) → other_table active ≤ 1
+at_most_one active = cond_both (active == 0) 1 0 (λ x. x ≤ 1) (λ _. lit≤ tt) (λ _. lit≤ tt)
+
+-- a flipped header is as sound as it was
+pub sound-flipped : (header : Header) (hash : List ℕ) (n : ℕ) → IsSound header n → IsSound (flipped header hash) n
+sound-flipped header hash n s =
+    let none = sound_none header n s in
+    let active = other_table header.active in
+    none_sound (flipped header hash) n (none.0, (none.1.0, (in_two_to active 0 (omega arith) (at_most_one header.active), none.1.1.1)))
+
+-- and its tables change their places
+pub active_at-flipped : (header : Header) (hash : List ℕ) → active_at (flipped header hash) ≡ inactive_at header
+active_at-flipped header hash = elim (header.active == 0) as (λ first. cond (cond first 1 0 == 0) header.primary header.secondary ≡ cond first header.secondary header.primary) [ true ↦ refl | false ↦ refl ]
+
+pub inactive_at-flipped : (header : Header) (hash : List ℕ) → inactive_at (flipped header hash) ≡ active_at header
+inactive_at-flipped header hash = elim (header.active == 0) as (λ first. cond (cond first 1 0 == 0) header.secondary header.primary ≡ cond first header.primary header.secondary) [ true ↦ refl | false ↦ refl ]

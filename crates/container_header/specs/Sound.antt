@@ -16,6 +16,10 @@ inactive_at header = if header.active == 0 then header.secondary else header.pri
 abbrev pub Covers : Extent → ℕ → Type 0
 Covers extent place = (extent.at ≤ place) × (place < extent.at + extent.size)
 
+-- the number lies in the range from low to high, both ends counted
+abbrev pub IsWithin : ℕ → ℕ → ℕ → Type 0
+IsWithin low high x = (low ≤ x) × (x ≤ high)
+
 -- the beginning and the end of a range lie in the range from low to high
 pub record IsInside (extent : Extent) (low high : ℕ) : Type 0 where
   pub begins : low ≤ extent.at

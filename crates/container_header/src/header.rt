@@ -135,6 +135,9 @@ impl Header {
     pub fn flip(&self, hash: &[u8; 32]) -> Header
         ensures flipped { result ≡ flipped self.now hash.now }
         ensures of_raw { IsOfRaw self.now → IsOfRaw result }
+        ensures sound { (len : ℕ) → IsSound self.now len → IsSound result len }
+        ensures active { active_at result ≡ inactive_at self.now }
+        ensures inactive { inactive_at result ≡ active_at self.now }
     {
         let active = other_table(self.active);
         let hash_place = self.kind.hash_place();

@@ -3,6 +3,7 @@
 
 mod fault;
 mod header;
+pub mod laws;
 mod layout;
 mod reading;
 mod sector;

@@ -1,5 +1,8 @@
-use Rattle.std.proofs.Common.{◌≡◌, ◌<◌, length, arith, sym, subst}
+use Rattle.std.proofs.Common.{◌≡◌, ◌<◌, length, arith, sym, subst, ap, ◌∙◌}
+use Rattle.container_header.specs.declared.header.Header.{Header}
+use Rattle.container_header.specs.Sound.{active_at, inactive_at, IsSound}
 use Rattle.container_header.specs.Raw.{IsOfRaw}
+use Rattle.container_header.proofs.Soundness.{sound-flipped, active_at-flipped, inactive_at-flipped}
 use Rattle.container_header.proofs.Flips.{flip_bytes, places_fit, flipped-of_raw}
 use Rattle.container_header.proofs.header.Header.flip.Goals as goal
 
@@ -21,3 +24,12 @@ pub returns-clause-of_raw : goal.returns-clause-of_raw
 returns-clause-of_raw c = λ h.
     let size : length c.args.hash.now ≡ 32 = omega arith in
     subst IsOfRaw (sym (returns-clause-flipped c)) (flipped-of_raw c.args.self.now c.args.hash.now size h)
+
+pub returns-clause-sound : goal.returns-clause-sound
+returns-clause-sound c = λ len s. subst (λ (header : Header). IsSound header len) (sym (returns-clause-flipped c)) (sound-flipped c.args.self.now c.args.hash.now len s)
+
+pub returns-clause-active : goal.returns-clause-active
+returns-clause-active c = ap active_at (returns-clause-flipped c) ∙ active_at-flipped c.args.self.now c.args.hash.now
+
+pub returns-clause-inactive : goal.returns-clause-inactive
+returns-clause-inactive c = ap inactive_at (returns-clause-flipped c) ∙ inactive_at-flipped c.args.self.now c.args.hash.now
