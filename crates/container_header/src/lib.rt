@@ -3,6 +3,10 @@
 
 mod fault;
 mod header;
+pub mod laws;
+mod layout;
+mod reading;
+mod sector;
 
 pub use fault::HeaderFault;
 pub use header::{Extent, Header, Kind};
