@@ -1,9 +1,9 @@
 -- Images and their sectors.
-use Rattle.std.proofs.Common.{◌≡◌, ◌⊎◌, ℕ, ◌+◌, ◌-◌, ◌*◌, ◌/◌, ◌%◌, ◌<◌, ◌≤◌, Bool, true, false, List, [], ◌∷◌, length, get_or, take, drop, refl, sym, ◌∙◌, ap, subst, inl, inr, ⊎_elim, cond, arith, get_or-take, get_or-drop}
+use Rattle.std.proofs.Common.{◌≡◌, ℕ, ◌+◌, ◌*◌, ◌/◌, ◌%◌, ◌<◌, ◌≤◌, Bool, true, false, List, [], ◌∷◌, length, get_or, drop, refl, sym, ◌∙◌, ap, inl, inr, ⊎_elim, cond, arith, get_or-take, get_or-drop}
 use Rattle.std.proofs.lemmas.List.{ext_get_or}
 use Rattle.std.proofs.lemmas.Nat.{div-add-mod'}
 use Rattle.save_disk.specs.Trace.{Event, Write, Sync, Said, sector_cut, image_after}
-use Rattle.save_disk.specs.Stops.{has_sync, synced, unsynced, HasWrite, HasNoWrite, IsVersion, CrashMayLeave}
+use Rattle.save_disk.specs.Stops.{has_sync, synced, unsynced, HasWrite, HasNoWrite, CrashMayLeave}
 
 -- a byte of a sector is the image's
 in_sector : (grain : ℕ) (xs : List ℕ) (sector k : ℕ) → k < grain → get_or (sector_cut grain xs sector) k 0 ≡ get_or xs (sector * grain + k) 0

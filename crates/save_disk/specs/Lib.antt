@@ -1,3 +1,9 @@
 pub mod Trace
 pub mod State
 pub mod Stops
+pub mod Calls
+pub mod CallLogs
+pub mod KeptEvents
+pub mod Traces
+pub mod Memory
+pub mod MemDesks

@@ -1,5 +1,5 @@
 -- What a stop may leave: each sector by itself is what the last sync kept, or any later write to it.
-use Rattle.std.specs.Prelude.{ℕ, ◌-◌, ◌*◌, ◌<◌, ◌≡◌, ◌⊎◌, Bool, true, false, ◌||◌, if◌then◌else◌, List, [], ◌∷◌, ◌++◌, length, take, drop, Option, Some}
+use Rattle.std.specs.Prelude.{ℕ, ◌-◌, ◌*◌, ◌<◌, ◌≡◌, ◌⊎◌, Bool, true, false, ◌||◌, if◌then◌else◌, List, [], ◌∷◌, ◌++◌, length, take, Option, Some}
 use Rattle.save_disk.specs.Trace.{Event, Write, Sync, Said, Told, sector_cut, image_after}
 
 abbrev pub is_sync : Event → Bool

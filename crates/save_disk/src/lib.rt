@@ -1,10 +1,15 @@
 //! What lies outside: a disk that keeps sectors, a desk that is heard and spoken to, and signers of headers.
 #![tactic(auto)]
 
+mod calls;
 mod disk;
 mod laws;
+mod memory;
 mod signer;
+mod trace;
 
+pub use calls::Call;
 pub use disk::{Desk, Disk, Failed};
 pub use laws::leaves_start;
+pub use memory::MemDesk;
 pub use signer::{PlainSigner, Signer, ZeroSigner};
