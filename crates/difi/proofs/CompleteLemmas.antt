@@ -8,7 +8,7 @@ use Rattle.difi.specs.declared.descriptor.Difi.{Difi}
 use Rattle.difi.specs.Places.{lies_inside, overlap, some_overlap, some_outside, some_empty, extent_of, copies_of, blocks_of, bitmap_size}
 use Rattle.difi.specs.Fields.{fields, ivfc_extent, dpfs_extent, master_extent, ivfc_place, dpfs_place}
 use Rattle.difi.specs.Conditions.{reading, parts, difi_tests, name_tests, level_tests, verdict, has_bad_log, has_no_place, has_bad_copies, has_short_bitmap, has_overlapping_copies, pairs, hash_levels, inner_levels, has_bad_level, has_overlapping_levels, external_extent, has_bad_external, has_too_few_entries}
-use Rattle.difi.specs.Sound.{AreApart, HasParts, HasBlockSizes, IsPlaced, HasCopies, HasHashLevels, HasExternalLevel, IsSound, IsDescriptor}
+use Rattle.difi.specs.Sound.{AreApart, HasParts, HasBlockSizes, IsPlaced, HasCopies, HasHashLevels, HasExternalLevel, HasSoundLevels, IsSound, IsDescriptor}
 use Rattle.difi.proofs.TestLemmas.{AllApart, some_overlap-apart, list_any-apart, not-lies_inside, is_outside-between, eqb-not_empty, ltb-enough_entries, is_bad_part-inside, ltb-one_of_two, not-named, not-numbered}
 use Rattle.difi.proofs.Verdicts.{passes, reading-ok}
 
@@ -87,9 +87,9 @@ has_bad_external-none difi part_len h =
     external_inside difi.external (external_extent difi) (pairs difi) part_len (λ e. (h e).inside)
     (λ e. list_any-apart (external_extent difi) (pairs difi) ((h e).apart1, ((h e).apart2, ((h e).apart3, tt))))
 
-levels_pass : (difi : Difi) (size part_len : ℕ) → IsSound difi size part_len → verdict (level_tests difi part_len) ≡ Ok tt
+levels_pass : (difi : Difi) (part_len : ℕ) → HasSoundLevels difi part_len → verdict (level_tests difi part_len) ≡ Ok tt
 unfolding level_tests
-levels_pass difi size part_len h =
+levels_pass difi part_len h =
     passes _ _ _ (has_bad_log-none difi h.block_sizes)
     (passes _ _ _ (has_bad_copies-none difi part_len h.copies)
     (passes _ _ _ (has_short_bitmap-none difi part_len h.copies)
@@ -122,6 +122,6 @@ difi_passes table place size h p selector =
 pub reading-sound : (table : List ℕ) (place size part_len : ℕ) → IsDescriptor table place size → IsSound (fields table place) size part_len → reading table place size part_len ≡ Ok (fields table place)
 reading-sound table place size part_len h sound =
     reading-ok table place size part_len
-    (difi_passes table place size h sound.parts sound.selector)
+    (difi_passes table place size h sound.parts sound.levels.selector)
     (names_pass table place size h)
-    (levels_pass (fields table place) size part_len sound)
+    (levels_pass (fields table place) part_len sound.levels)

@@ -9,7 +9,7 @@ use Rattle.difi.specs.declared.fault.DifiFault.{DifiFault}
 use Rattle.difi.specs.Places.{some_overlap, some_outside, some_empty, extent_of, copies_of, blocks_of, bitmap_size}
 use Rattle.difi.specs.Fields.{fields, word_at, ivfc_extent, dpfs_extent, master_extent, ivfc_place, dpfs_place}
 use Rattle.difi.specs.Conditions.{reading, parts, difi_tests, name_tests, level_tests, verdict, has_bad_log, has_no_place, has_bad_copies, has_short_bitmap, has_overlapping_copies, pairs, hash_levels, inner_levels, has_bad_level, has_overlapping_levels, external_extent, has_bad_external, has_too_few_entries}
-use Rattle.difi.specs.Sound.{AreApart, HasParts, HasBlockSizes, IsPlaced, HasCopies, HasHashLevels, HasExternalLevel, IsSound, IsDescriptor}
+use Rattle.difi.specs.Sound.{AreApart, HasParts, HasBlockSizes, IsPlaced, HasCopies, HasHashLevels, HasExternalLevel, HasSoundLevels, IsSound, IsDescriptor}
 use Rattle.difi.proofs.TestLemmas.{AllApart, all_apart, apart_from, ends_inside, between, not_empty, enough_entries, part_inside, part_size, one_of_two, named, numbered}
 use Rattle.difi.proofs.Verdicts.{holds, all_pass}
 
@@ -228,11 +228,13 @@ is_read table place size part_len difi h =
     let levels = on_levels (fields table place) part_len passed.levels in
     let sound : IsSound (fields table place) size part_len = record {
       parts = first.parts;
-      selector = first.selector;
-      block_sizes = levels.block_sizes;
-      copies = levels.copies;
-      hash_levels = levels.hash_levels;
-      external_level = levels.external_level;
+      levels = record {
+        selector = first.selector;
+        block_sizes = levels.block_sizes;
+        copies = levels.copies;
+        hash_levels = levels.hash_levels;
+        external_level = levels.external_level;
+      };
     } in
     record {
       fields = passed.value;

@@ -89,14 +89,18 @@ pub record HasExternalLevel (difi : Difi) (part_len : ℕ) : Type 0 where
   pub apart2 : AreApart (external_extent difi) (copies_of difi.dpfs2)
   pub apart3 : AreApart (external_extent difi) (copies_of difi.dpfs3)
 
--- a descriptor of a size, for a partition of a length, on which no condition fails
-pub record IsSound (difi : Difi) (size part_len : ℕ) : Type 0 where
-  pub parts : HasParts difi size
+-- the selector names a copy, and both trees are laid out soundly in a partition of a length
+pub record HasSoundLevels (difi : Difi) (part_len : ℕ) : Type 0 where
   pub selector : difi.selector < 2
   pub block_sizes : HasBlockSizes difi
   pub copies : HasCopies difi part_len
   pub hash_levels : HasHashLevels difi
   pub external_level : difi.external ≡ true → HasExternalLevel difi part_len
+
+-- a descriptor of a size, for a partition of a length, on which no condition fails
+pub record IsSound (difi : Difi) (size part_len : ℕ) : Type 0 where
+  pub parts : HasParts difi size
+  pub levels : HasSoundLevels difi part_len
 
 -- the size of a pair of copies is a number of 64 bits
 pub record CopiesFit (difi : Difi) : Type 0 where

@@ -7,13 +7,14 @@ ghost use Rattle.difi.specs.Conditions.{difi_tests, name_tests, level_tests, ver
 ghost use Rattle.difi.specs.Places.{some_overlap};
 ghost use Rattle.difi.specs.Sound.{HasBlockSizes, CopiesFit};
 
-use crate::descriptor::{Difi, extent_at};
+use crate::descriptor::Difi;
 use crate::fault::DifiFault;
+use crate::fields::extent_at;
 use crate::places::{Extent2, LevelPlace, some_empty, some_outside, some_overlap};
 use save_bytes::u32_at;
 
 /// The bytes of each part that are read.
-pub(crate) const DIFI_SIZE: u64 = 0x44;
+const DIFI_SIZE: u64 = 0x44;
 
 const IVFC_SIZE: u64 = 0x78;
 
@@ -23,8 +24,7 @@ const DPFS_SIZE: u64 = 0x50;
 const ENTRY_SIZE: u64 = 32;
 
 fn has_name(table: &[u8], at: usize, name: &[u8]) -> bool
-    requires inside { at + 4 ≤ length table.now }
-    requires four { length name.now ≡ 4 }
+    requires { at + 4 ≤ length table.now }
     ensures { result ≡ has_name table.now at name.now }
 {
     &table[at..at + 4] == name

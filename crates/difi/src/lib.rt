@@ -5,8 +5,12 @@
 mod conditions;
 mod descriptor;
 mod fault;
+mod fields;
 mod places;
 
 pub use descriptor::Difi;
 pub use fault::DifiFault;
 pub use places::{Extent2, LevelPlace};
+
+#[cfg(test)]
+mod tests;
