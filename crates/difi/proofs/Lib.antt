@@ -1,0 +1,5 @@
+pub mod PlaceLemmas
+pub mod Verdicts
+pub mod TestLemmas
+pub mod SoundLemmas
+pub mod CompleteLemmas
