@@ -27,11 +27,14 @@ pub record Log : Type 0 where
   -- how many calls are not in the list, since their record found no memory
   pub short : ℕ
 
+abbrev pub no_faults : Counts
+no_faults = record { disk = 0; source = 0; sink = 0 }
+
 -- no call was made and none is named
 pub record IsNewLog (log : Log) : Type 0 where
   pub calls : log.calls ≡ []
   pub named : (call : Call) → log.named call ≡ None
-  pub counts : log.counts ≡ record { disk = 0; source = 0; sink = 0 }
+  pub counts : log.counts ≡ no_faults
   pub short : log.short ≡ 0
 
 -- the next call of this kind is to fail

@@ -1,5 +1,4 @@
 -- The events that a desk in memory keeps.
-use Rattle.std.specs.Prelude.{ℕ, Bool, ◌==◌, ◌||◌}
 use Rattle.save_disk.specs.declared.trace.KeptEvent.{KeptEvent}
 use Rattle.save_disk.specs.declared.trace.KeptEvent.TheVariants as kept
 use Rattle.save_disk.specs.Trace.{Event, Write, Sync, Said}
@@ -8,7 +7,3 @@ abbrev pub event_of : KeptEvent → Event
 event_of (kept.Write sector bytes) = Write sector bytes.items
 event_of kept.Sync = Sync
 event_of (kept.Said bytes) = Said bytes.items
-
--- the bytes that a sector may have
-abbrev pub is_grain : ℕ → Bool
-is_grain grain = (grain == 512) || (grain == 4096)

@@ -3,7 +3,7 @@ use Rattle.std.specs.Prelude.{ℕ, ◌≡◌, ◌⊎◌, Bool, true, false, ◌=
 use Rattle.std.proofs.Common.{inl, inr, arith, eqb-true}
 use Rattle.save_disk.specs.declared.memory.MemDesk.{MemDesk}
 use Rattle.save_disk.specs.State.{State, IsSound}
-use Rattle.save_disk.specs.KeptEvents.{is_grain}
+use Rattle.save_disk.specs.Grains.{known_grain}
 use Rattle.save_disk.specs.CallLogs.{log_of}
 use Rattle.save_disk.specs.Traces.{told_of}
 use Rattle.save_disk.specs.Memory.{Memory, state_from}
@@ -13,14 +13,6 @@ memory_of desk = record { trace = told_of desk.trace; log = log_of desk.log }
 
 abbrev pub state_of : MemDesk → State
 state_of desk = state_from (memory_of desk)
-
-grain_cases : (a b : Bool) {P Q : Type 0} → (IsTrue a → P) → (IsTrue b → Q) → IsTrue (a || b) → P ⊎ Q
-grain_cases true b p q h = inl (p h)
-grain_cases false b p q h = inr (q h)
-
--- a grain is one of the two
-pub known_grain : (grain : ℕ) → IsTrue (is_grain grain) → (grain ≡ 512) ⊎ (grain ≡ 4096)
-known_grain grain h = grain_cases (grain == 512) (grain == 4096) (λ e. eqb-true _ _ e) (λ e. eqb-true _ _ e) h
 
 pub is_sound : (desk : MemDesk) → IsSound (state_of desk)
 is_sound desk = record {

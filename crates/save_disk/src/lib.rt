@@ -3,13 +3,17 @@
 
 mod calls;
 mod disk;
+mod file;
 mod laws;
 mod memory;
 mod signer;
+#[cfg(test)]
+mod tests;
 mod trace;
 
 pub use calls::Call;
 pub use disk::{Desk, Disk, Failed};
+pub use file::FileDesk;
 pub use laws::leaves_start;
 pub use memory::MemDesk;
 pub use signer::{PlainSigner, Signer, ZeroSigner};

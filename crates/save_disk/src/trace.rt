@@ -3,7 +3,8 @@
 ghost use Rattle.std.specs.Prelude.{◌≡◌, ◌*◌, ◌-◌, ◌+◌, ◌<◌, ◌≤◌, ◌++◌, [], ◌∷◌, ◌==◌, ◌||◌, min, length, map, take, drop, replicate, vec_len, vec_capacity, IsTrue, IfOk, OnErr};
 ghost use Rattle.save_disk.specs.Trace.{Write, Sync, Said, with_sector, image_after, said_of, sector_of, image_now};
 ghost use Rattle.save_disk.specs.State.{then_event};
-ghost use Rattle.save_disk.specs.KeptEvents.{event_of, is_grain};
+ghost use Rattle.save_disk.specs.Grains.{is_grain};
+ghost use Rattle.save_disk.specs.KeptEvents.{event_of};
 
 use std::alloc::{AllocError, Global};
 

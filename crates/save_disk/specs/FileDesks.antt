@@ -1,0 +1,16 @@
+-- What a desk over a file shows.
+use Rattle.std.specs.Prelude.{None}
+use Rattle.save_disk.specs.declared.file.FileDesk.{FileDesk}
+use Rattle.save_disk.specs.State.{State, IsSound}
+use Rattle.save_disk.specs.Grains.{known_grain}
+
+abbrev pub file_state : FileDesk → State
+file_state desk = record {
+  told = None;
+  size = desk.size;
+  grain = desk.grain;
+  counts = record { disk = desk.disk; source = desk.source; sink = desk.sink };
+}
+
+pub is_sound : (desk : FileDesk) → IsSound (file_state desk)
+is_sound desk = record { grain = known_grain desk.grain desk.is_known; size = desk.is_small; told_size = tt; told_grain = tt }
