@@ -6,10 +6,9 @@ use Rattle.container_header.specs.declared.fault.HeaderFault.{HeaderFault}
 use Rattle.container_header.specs.declared.fault.HeaderFault.TheVariants.{NotImage}
 use Rattle.container_header.specs.Conditions.{reading, reading_of, first_bytes}
 use Rattle.save_disk.specs.Trace.{sector_of}
-use Rattle.save_top.specs.declared.finding.Finding.TheVariants.{NotBuilt}
 use Rattle.save_top.specs.declared.order.Act.{Act}
 use Rattle.save_top.specs.declared.order.Act.TheVariants.{Info}
-use Rattle.save_top.specs.Finding.{finding_of, of_reading, of_header, of_table, is_first_form, reply_on, reply_by}
+use Rattle.save_top.specs.Finding.{finding_of, of_reading, reply_on, reply_by}
 
 -- an image that is shorter than its first 512 bytes is none
 pub reading_short : (image : List ℕ) → length image < 512 → Err NotImage ≡ reading image
@@ -33,12 +32,6 @@ front_of_sector grain image sector wide long is =
 pub finding_is : (image : List ℕ) (header : Result Header HeaderFault) → header ≡ reading image → of_reading header image ≡ finding_of image
 unfolding finding_of
 finding_is image header is = ap (λ (r : Result Header HeaderFault). of_reading r image) is
-
-pub table_decides : (header : Header) (image : List ℕ) → true ≡ is_first_form header → of_table header image ≡ of_header header image
-table_decides header image first = ap (λ (b : Bool). cond b (of_table header image) NotBuilt) first
-
-pub not_built : (header : Header) (image : List ℕ) → false ≡ is_first_form header → NotBuilt ≡ of_header header image
-not_built header image other = ap (λ (b : Bool). cond b (of_table header image) NotBuilt) other
 
 -- `info` is the only act
 pub only_info : (act : Act) (image : List ℕ) → reply_on (finding_of image) ≡ reply_by act image

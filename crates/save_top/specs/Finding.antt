@@ -1,19 +1,16 @@
 -- What `info` answers, as a function of the image.
-use Rattle.std.specs.Prelude.{ℕ, ◌==◌, ◌&&◌, bytes_eq, Bool, true, false, List, take, drop, Result, Ok, Err, codes, if◌then◌else◌}
+use Rattle.std.specs.Prelude.{ℕ, bytes_eq, List, take, drop, Result, Ok, Err, codes, if◌then◌else◌}
 use Rattle.sha2.specs.Sha256.{sha256}
-use Rattle.container_header.specs.declared.header.Kind.{Kind}
-use Rattle.container_header.specs.declared.header.Kind.TheVariants.{Disa, Diff}
 use Rattle.container_header.specs.declared.header.Header.{Header}
 use Rattle.container_header.specs.declared.fault.HeaderFault.{HeaderFault}
-use Rattle.container_header.specs.declared.fault.HeaderFault.TheVariants as faults
 use Rattle.container_header.specs.Conditions.{reading}
 use Rattle.container_header.specs.Sound.{active_at}
 use Rattle.save_top.specs.declared.finding.Finding.{Finding}
-use Rattle.save_top.specs.declared.finding.Finding.TheVariants.{Sound, NotImage, NotBuilt, TableHash}
+use Rattle.save_top.specs.declared.finding.Finding.TheVariants.{Sound, Unsound, TableHash}
 use Rattle.save_top.specs.declared.order.Order.{Order}
 use Rattle.save_top.specs.declared.order.Act.{Act}
 use Rattle.save_top.specs.declared.order.Act.TheVariants.{Info}
-use Rattle.save_top.specs.Texts.{info_text}
+use Rattle.save_top.specs.Texts.{info_text, fault_line}
 
 -- the bytes of the active table
 abbrev pub table_of : Header → List ℕ → List ℕ
@@ -23,25 +20,9 @@ table_of header image = take header.table_size (drop (active_at header) image)
 abbrev pub of_table : Header → List ℕ → Finding
 of_table header image = if bytes_eq (sha256 (table_of header image)) header.hash then Sound header else TableHash
 
-abbrev pub is_disa : Kind → Bool
-is_disa Disa = true
-is_disa Diff = false
-
--- of the sound headers, that of a DISA with one partition is read so far
-abbrev pub is_first_form : Header → Bool
-is_first_form header = is_disa header.kind && (header.parts == 1)
-
-abbrev pub of_header : Header → List ℕ → Finding
-of_header header image = if is_first_form header then of_table header image else NotBuilt
-
-abbrev pub of_fault : HeaderFault → Finding
-of_fault faults.NotImage = NotImage
-of_fault faults.Version = NotBuilt
-of_fault (faults.Layout condition) = NotBuilt
-
 abbrev pub of_reading : Result Header HeaderFault → List ℕ → Finding
-of_reading (Ok header) image = of_header header image
-of_reading (Err fault) image = of_fault fault
+of_reading (Ok header) image = of_table header image
+of_reading (Err fault) image = Unsound fault
 
 unfoldable pub finding_of : List ℕ → Finding
 finding_of image = of_reading (reading image) image
@@ -53,8 +34,7 @@ pub record Reply : Type 0 where
 
 abbrev pub reply_on : Finding → Reply
 reply_on (Sound header) = record { status = 0; text = info_text header }
-reply_on NotImage = record { status = 1; text = codes "refused NotImage\n" }
-reply_on NotBuilt = record { status = 1; text = codes "refused NotBuilt\n" }
+reply_on (Unsound fault) = record { status = 1; text = fault_line fault }
 reply_on TableHash = record { status = 1; text = codes "refused TableHash\n" }
 
 abbrev pub reply_by : Act → List ℕ → Reply

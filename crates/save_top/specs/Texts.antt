@@ -6,6 +6,8 @@ use Rattle.container_header.specs.declared.header.Extent.{Extent}
 use Rattle.container_header.specs.declared.header.Kind.{Kind}
 use Rattle.container_header.specs.declared.header.Kind.TheVariants.{Disa, Diff}
 use Rattle.container_header.specs.declared.header.Header.{Header}
+use Rattle.container_header.specs.declared.fault.HeaderFault.{HeaderFault}
+use Rattle.container_header.specs.declared.fault.HeaderFault.TheVariants.{NotImage, Version, Layout}
 use Rattle.container_header.specs.Sound.{active_at}
 
 -- a name, where a range begins, and its bytes
@@ -35,3 +37,9 @@ unique_line Diff unique = codes "unique " ++ decimal unique ++ codes "\n"
 unfoldable pub info_text : Header → List ℕ
 info_text header =
     kind_line header.kind ++ table_lines header ++ part_lines header ++ unique_line header.kind header.unique ++ codes "hash " ++ encode_lower header.hash ++ codes "\n"
+
+-- what is said of a header that has a fault
+abbrev pub fault_line : HeaderFault → List ℕ
+fault_line NotImage = codes "refused NotImage\n"
+fault_line Version = codes "refused Version\n"
+fault_line (Layout condition) = codes "refused Layout " ++ decimal condition ++ codes "\n"

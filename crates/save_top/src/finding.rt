@@ -5,10 +5,10 @@ ghost use Rattle.container_header.specs.Conditions.{reading};
 ghost use Rattle.container_header.specs.Sound.{IsSound};
 ghost use Rattle.save_disk.specs.State.{IsQuiet, IsSteady, HasCause};
 ghost use Rattle.save_top.specs.Output.{WhenFresh};
-ghost use Rattle.save_top.specs.Finding.{finding_of, of_fault, of_table, is_first_form};
+ghost use Rattle.save_top.specs.Finding.{finding_of, of_table};
 
 use crate::table::{MAX_GRAIN, digest_of};
-use container_header::{Header, HeaderFault, Kind};
+use container_header::{Header, HeaderFault};
 use save_disk::{Disk, Failed};
 
 /// What `info` finds in an image.
@@ -16,9 +16,8 @@ use save_disk::{Disk, Failed};
 pub enum Finding {
     /// A header that no condition refuses, and whose active table has the digest that it says.
     Sound(Header),
-    NotImage,
-    /// A form of image that is not read yet.
-    NotBuilt,
+    /// The first condition of the header that fails.
+    Unsound(HeaderFault),
     /// The active table's digest is another than the header's.
     TableHash,
 }
@@ -55,26 +54,6 @@ fn header_of<D: Disk>(disk: &mut D) -> Result<Result<Header, HeaderFault>, Faile
     Ok(Header::read(&front_of(sector), len))
 }
 
-// What a fault of the header is answered as.
-fn unsound(fault: HeaderFault) -> Finding
-    ensures { result ≡ of_fault fault }
-{
-    match fault {
-        HeaderFault::NotImage => Finding::NotImage,
-        HeaderFault::Version => Finding::NotBuilt,
-        HeaderFault::Layout { .. } => Finding::NotBuilt,
-    }
-}
-
-fn is_first_form(header: &Header) -> bool
-    ensures { result ≡ is_first_form header.now }
-{
-    match header.kind {
-        Kind::Disa => header.parts == 1,
-        Kind::Diff => false,
-    }
-}
-
 // Compares the active table's digest with a sound header's.
 fn check_table<D: Disk>(disk: &mut D, header: &Header) -> Result<Finding, Failed>
     requires { IsSound header.now (D.state disk.old).size }
@@ -99,13 +78,7 @@ pub fn find<D: Disk>(disk: &mut D) -> Result<Finding, Failed>
     ensures cause { HasCause (D.state disk.old).counts.disk (D.state disk.new).counts.disk result }
 {
     match header_of(disk)? {
-        Err(fault) => Ok(unsound(fault)),
-        Ok(header) => {
-            if is_first_form(&header) {
-                check_table(disk, &header)
-            } else {
-                Ok(Finding::NotBuilt)
-            }
-        }
+        Err(fault) => Ok(Finding::Unsound(fault)),
+        Ok(header) => check_table(disk, &header),
     }
 }

@@ -12,6 +12,18 @@ const ZEROS: [u8; 32] = [
     0x55, 0x97, 0x3b, 0x61, 0x25, 0x21, 0xda, 0xb2, 0xde, 0x82, 0x8a, 0x5c, 0xdb, 0x6c, 0x8a, 0xb3,
 ];
 
+// The SHA-256 of 136 zero bytes, as sha256sum gives it.
+const MORE_ZEROS: [u8; 32] = [
+    0xb7, 0x07, 0x24, 0x15, 0x45, 0xa3, 0x46, 0x26, 0x5a, 0xab, 0x1f, 0xfb, 0x32, 0xff, 0x64, 0xb5,
+    0x5b, 0xf8, 0xf8, 0xdc, 0x1b, 0x56, 0xa4, 0x6e, 0xf3, 0x3c, 0xe3, 0xd1, 0x5d, 0xb1, 0x1d, 0x33,
+];
+
+const DIFF_LINES: &str =
+    "kind DIFF\nactive primary\ntable 1024 68\npart A 1536 512\nunique 18446744073709551615\nhash 1751ac12e70e15b4f76c16775cd329ae55973b612521dab2de828a5cdb6c8ab3\n";
+
+const DOUBLE_LINES: &str =
+    "kind DISA\nactive primary\ntable 1024 136\npart A 1536 256\npart B 1792 256\nhash b707241545a346265aab1ffb32ff64b55bf8f8dc1b56a46ef33ce3d15db11d33\n";
+
 const LINES: &str =
     "kind DISA\nactive primary\ntable 1024 68\npart A 1536 512\nhash 1751ac12e70e15b4f76c16775cd329ae55973b612521dab2de828a5cdb6c8ab3\n";
 
@@ -63,11 +75,11 @@ fn first_fault_is_said(rt: HostRuntime) -> Result<(), Fail> {
         (0x18B, 0xB2, "refused TableHash\n"),
         (0x102, b'F', "refused NotImage\n"),
         (0x103, b'X', "refused NotImage\n"),
-        (0x104, 1, "refused NotBuilt\n"),
-        (0x108, 3, "refused NotBuilt\n"),
-        (0x108, 2, "refused NotBuilt\n"),
-        (0x168, 2, "refused NotBuilt\n"),
-        (0x11F, 0xFF, "refused NotBuilt\n"),
+        (0x104, 1, "refused Version\n"),
+        (0x108, 3, "refused Layout 2\n"),
+        (0x108, 2, "refused Layout 8\n"),
+        (0x168, 2, "refused Layout 3\n"),
+        (0x11F, 0xFF, "refused Layout 5\n"),
     ];
     for (at, byte, want) in rows {
         let mut image = smallest();
@@ -85,16 +97,45 @@ fn first_fault_is_said(rt: HostRuntime) -> Result<(), Fail> {
     Ok(())
 }
 
+// A DIFF whose table is the two kinds' shortest, and whose partition follows it.
+fn diff() -> [u8; 2048] {
+    let mut image = [0; 2048];
+    image[0x100..0x104].copy_from_slice(b"DIFF");
+    set_u32(&mut image, 0x104, 0x30000);
+    set_u64(&mut image, 0x108, 512);
+    set_u64(&mut image, 0x110, 1024);
+    set_u64(&mut image, 0x118, 68);
+    set_u64(&mut image, 0x120, 1536);
+    set_u64(&mut image, 0x128, 512);
+    image[0x134..0x154].copy_from_slice(&ZEROS);
+    set_u64(&mut image, 0x154, 0xFFFF_FFFF_FFFF_FFFF);
+    image
+}
+
+// The smallest DISA with a second partition, whose descriptor follows the first one's.
+fn double() -> [u8; 2048] {
+    let mut image = smallest();
+    set_u32(&mut image, 0x108, 2);
+    set_u64(&mut image, 0x120, 136);
+    set_u64(&mut image, 0x138, 68);
+    set_u64(&mut image, 0x140, 68);
+    set_u64(&mut image, 0x150, 256);
+    set_u64(&mut image, 0x158, 1792);
+    set_u64(&mut image, 0x160, 256);
+    image[0x16C..0x18C].copy_from_slice(&MORE_ZEROS);
+    image
+}
+
 #[test]
-fn diff_is_not_built_yet(rt: HostRuntime) -> Result<(), Fail> {
+fn info_says_a_diff_and_two_partitions(rt: HostRuntime) -> Result<(), Fail> {
     let alloc = rt.alloc();
     let words = words_of(alloc, &["F", "info"])?;
-    let mut image = smallest();
-    image[0x102] = b'F';
-    image[0x103] = b'F';
-    let mut desk = MemDesk::new(alloc, &image, b"")?;
-    assert_eq!(rt; run(alloc, &words, &mut desk, &ZeroSigner), REFUSED);
-    assert_eq!(rt; desk.said(), b"refused NotBuilt\n".as_slice());
+    let mut desk = MemDesk::new(alloc, &diff(), b"")?;
+    assert_eq!(rt; run(alloc, &words, &mut desk, &ZeroSigner), DONE);
+    assert_eq!(rt; desk.said(), DIFF_LINES.as_bytes());
+    let mut desk = MemDesk::new(alloc, &double(), b"")?;
+    assert_eq!(rt; run(alloc, &words, &mut desk, &ZeroSigner), DONE);
+    assert_eq!(rt; desk.said(), DOUBLE_LINES.as_bytes());
     Ok(())
 }
 

@@ -1,13 +1,13 @@
-//! The lines that `info` says, put together in a fixed room.
+//! The lines that are said of a header, put together in a fixed room.
 
 ghost use Rattle.std.specs.Prelude.{◌≡◌, ◌+◌, ◌≤◌, [], ◌∷◌, ◌++◌, length, codes, if◌then◌else◌, ◌==◌};
 ghost use Rattle.std.specs.Fmt.{decimal};
 ghost use Rattle.hex.specs.Hex.{encode_lower};
 ghost use Rattle.arrayvec.specs.ArrayVec.{array_vec_len};
-ghost use Rattle.save_top.specs.Texts.{extent_line, kind_line, active_line, table_lines, part_lines, unique_line, info_text};
+ghost use Rattle.save_top.specs.Texts.{extent_line, kind_line, active_line, table_lines, part_lines, unique_line, info_text, fault_line};
 
 use arrayvec::ArrayVec;
-use container_header::{Extent, Header, Kind};
+use container_header::{Extent, Header, HeaderFault, Kind};
 use itoa::Buffer;
 
 /// More bytes than the longest text of `info` has.
@@ -121,4 +121,20 @@ pub fn put_info(out: &mut ArrayVec<u8, ROOM>, header: &Header)
     put_parts(out, header);
     put_unique(out, header.kind, header.unique);
     put_hash(out, &header.hash);
+}
+
+/// Puts the line on a header's fault into an empty room.
+pub fn put_fault(out: &mut ArrayVec<u8, ROOM>, fault: HeaderFault)
+    requires { out.old.items ≡ [] }
+    ensures { out.new.items ≡ fault_line fault }
+{
+    match fault {
+        HeaderFault::NotImage => put(out, b"refused NotImage\n"),
+        HeaderFault::Version => put(out, b"refused Version\n"),
+        HeaderFault::Layout { condition } => {
+            put(out, b"refused Layout ");
+            put_number(out, u64::from(condition));
+            put(out, b"\n");
+        }
+    }
 }

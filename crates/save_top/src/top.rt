@@ -11,7 +11,7 @@ ghost use Rattle.save_top.specs.Finding.{finding_of, reply_on, reply_to};
 
 use crate::finding::{Finding, find};
 use crate::order::{Act, Order};
-use crate::text::{ROOM, put, put_info};
+use crate::text::{ROOM, put, put_fault, put_info};
 use crate::voice::say_all;
 use arrayvec::ArrayVec;
 use save_bytes::Words;
@@ -44,8 +44,7 @@ fn put_finding(out: &mut ArrayVec<u8, ROOM>, finding: &Finding) -> u8
             put_info(out, header);
             return DONE;
         }
-        Finding::NotImage => put(out, b"refused NotImage\n"),
-        Finding::NotBuilt => put(out, b"refused NotBuilt\n"),
+        Finding::Unsound(fault) => put_fault(out, *fault),
         Finding::TableHash => put(out, b"refused TableHash\n"),
     }
     REFUSED
