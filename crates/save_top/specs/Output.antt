@@ -1,7 +1,7 @@
 -- What was said at a moment, beside what is to be said in all.
 use Rattle.std.specs.Prelude.{ℕ, ◌≡◌, List, ◌++◌, Option, Some}
 use Rattle.save_disk.specs.Trace.{Event, Told, OnlySays, IsFresh, said_of}
-use Rattle.save_disk.specs.State.{State}
+use Rattle.save_disk.specs.State.{State, Rose}
 use Rattle.save_disk.specs.Stops.{Since}
 
 -- the first list is a front of the second
@@ -25,3 +25,9 @@ Tells P before after = (told : Told) → before.told ≡ Some told → Since P t
 -- where the desk tells a trace that has no event yet and every read, by the image of its start
 abbrev pub WhenFresh : (Told → Type 0) → State → Type 0
 WhenFresh P before = (told : Told) → before.told ≡ Some told → IsFresh told → P told
+
+-- no count of faults rose
+pub record NoneRose (before after : State) : Type 0 where
+  pub disk : Rose before.counts.disk after.counts.disk → ⊥
+  pub source : Rose before.counts.source after.counts.source → ⊥
+  pub sink : Rose before.counts.sink after.counts.sink → ⊥

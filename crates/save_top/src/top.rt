@@ -6,7 +6,7 @@ ghost use Rattle.save_disk.specs.State.{IsSteady, Rose};
 ghost use Rattle.save_disk.specs.Stops.{Since, AtEachMoment};
 ghost use Rattle.save_top.specs.declared.order.Order.{Order};
 ghost use Rattle.save_top.specs.Words.{order_of};
-ghost use Rattle.save_top.specs.Output.{WhenFresh, SaysFront, SaysAll};
+ghost use Rattle.save_top.specs.Output.{WhenFresh, NoneRose, SaysFront, SaysAll};
 ghost use Rattle.save_top.specs.Finding.{finding_of, reply_on, reply_to};
 
 use crate::finding::{Finding, find};
@@ -87,6 +87,10 @@ pub fn run<D: Desk, G: Signer>(alloc: Global, words: &Words, desk: &mut D, signe
     ensures whole { result ≤ 1 → (order : Order) → order_of words.now ≡ Some order
         → WhenFresh (λ told. (result ≡ (reply_to order told.start).status)
         × Since (SaysAll (reply_to order told.start).text) told (D.state desk.new).told) (D.state desk.old) }
+
+    // Where no count rose, the status is the one that goes with the text.
+    ensures complete { (order : Order) → order_of words.now ≡ Some order → NoneRose (D.state desk.old) (D.state desk.new)
+        → WhenFresh (λ told. result ≡ (reply_to order told.start).status) (D.state desk.old) }
 
     // Each fault has its cause.
     ensures disk_fault { result ≡ 3 → Rose (D.state desk.old).counts.disk (D.state desk.new).counts.disk }
