@@ -86,9 +86,10 @@ impl Header {
     ghost use Rattle.container_header.specs.Raw.{IsOfRaw, flipped};
 
     /// The header of an image of `len` bytes, from the image's first 512 bytes (zeros after its
-    /// end), or the first condition that fails.
+    /// end). Offsets and sizes in it are in bytes.
     ///
-    /// The kind is looked at first, then the version, then the layout's conditions in their order.
+    /// The fault is the first in the order of `HeaderFault`: no image of a known kind, an unknown
+    /// version, and then the conditions of the layout by their numbers.
     pub fn read(sector: &[u8; 512], len: u64) -> Result<Header, HeaderFault>
         ensures exact { (image : List ℕ) → length image ≡ len → sector.now ≡ first_bytes image → result ≡ reading image }
         ensures of_raw { IfOk result IsOfRaw }
@@ -97,7 +98,7 @@ impl Header {
         read_sector(sector, len)
     }
 
-    /// Where the active table stands in the image.
+    /// Where the active table stands, in bytes from the image's front.
     pub fn active_table(&self) -> u64
         ensures { result ≡ active_at self.now }
     {
@@ -108,14 +109,14 @@ impl Header {
         }
     }
 
-    /// Where the table stands that is not active.
+    /// Where the other table stands, in bytes from the image's front.
     pub fn inactive_table(&self) -> u64
         ensures { result ≡ inactive_at self.now }
     {
-        if self.active == 0 {
-            self.secondary
-        } else {
+        if self.active != 0 {
             self.primary
+        } else {
+            self.secondary
         }
     }
 
@@ -130,8 +131,8 @@ impl Header {
         self.raw
     }
 
-    /// The header with the other table active, whose SHA-256 is `hash`. No other field changes, and
-    /// no byte but those of these two.
+    /// The header with the other table active, whose SHA-256 is `hash`. The active byte becomes 1
+    /// where it is 0, and else 0. No other field changes, and no byte but those of these two.
     pub fn flip(&self, hash: &[u8; 32]) -> Header
         ensures flipped { result ≡ flipped self.now hash.now }
         ensures of_raw { IsOfRaw self.now → IsOfRaw result }

@@ -10,3 +10,6 @@ mod sector;
 
 pub use fault::HeaderFault;
 pub use header::{Extent, Header, Kind};
+
+#[cfg(test)]
+mod tests;
