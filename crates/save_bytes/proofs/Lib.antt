@@ -1,1 +1,4 @@
 pub mod FieldLemmas
+pub mod MemoryPuts
+pub mod Steps
+pub mod ListPuts

@@ -1,1 +1,8 @@
 pub mod Fields
+pub mod Cells
+pub mod State
+pub mod Answers
+pub mod Moves
+pub mod Blocks
+pub mod Spots
+pub mod Memory

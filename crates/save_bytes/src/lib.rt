@@ -1,10 +1,16 @@
-//! What every layer shares: the fields of a format and the words of a command line.
+//! What every layer shares: the fields of a format, the words of a command line, and spaces.
 #![tactic(auto)]
 
 mod fields;
+mod memory;
+mod reading;
+mod space;
 mod words;
 
 pub use fields::{set_u32, set_u64, u32_at, u64_at};
+pub use memory::MemSpace;
+pub use reading::{space_copy, space_u32, space_u64};
+pub use space::{Bad, Floor, Space};
 pub use words::Words;
 
 #[cfg(test)]
