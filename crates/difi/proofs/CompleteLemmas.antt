@@ -1,13 +1,13 @@
 -- On a sound descriptor no test fails.
-use Rattle.std.proofs.Common.{◌≡◌, ℕ, ◌+◌, ◌*◌, ◌<◌, ◌≤◌, Bool, true, false, ◌&&◌, ◌||◌, not, List, [], ◌∷◌, take, cond, Result, Ok, Err, refl, arith}
+use Rattle.std.proofs.Common.{◌≡◌, ℕ, ◌+◌, ◌<◌, ◌≤◌, Bool, true, false, ◌&&◌, ◌||◌, not, List, [], ◌∷◌, take, cond, Ok, refl}
 use Rattle.std.specs.List.{list_any}
 use Rattle.std.proofs.lemmas.Bool.{or_from, le-ltb}
 use Rattle.difi.specs.declared.places.Extent2.{Extent2}
 use Rattle.difi.specs.declared.places.LevelPlace.{LevelPlace}
 use Rattle.difi.specs.declared.descriptor.Difi.{Difi}
-use Rattle.difi.specs.Places.{lies_inside, overlap, some_overlap, some_outside, some_empty, extent_of, copies_of, blocks_of, bitmap_size}
+use Rattle.difi.specs.Places.{lies_inside, overlap, some_outside, extent_of, copies_of}
 use Rattle.difi.specs.Fields.{fields, ivfc_extent, dpfs_extent, master_extent, ivfc_place, dpfs_place}
-use Rattle.difi.specs.Conditions.{reading, parts, difi_tests, name_tests, level_tests, verdict, has_bad_log, has_no_place, has_bad_copies, has_short_bitmap, has_overlapping_copies, pairs, hash_levels, inner_levels, has_bad_level, has_overlapping_levels, external_extent, has_bad_external, has_too_few_entries}
+use Rattle.difi.specs.Conditions.{reading, parts, difi_tests, name_tests, level_tests, verdict, has_bad_log, has_no_place, has_bad_copies, has_short_bitmap, has_overlapping_copies, pairs, inner_levels, has_bad_level, has_overlapping_levels, external_extent, has_bad_external, has_too_few_entries}
 use Rattle.difi.specs.Sound.{AreApart, HasParts, HasBlockSizes, IsPlaced, HasCopies, HasHashLevels, HasExternalLevel, HasSoundLevels, IsSound, IsDescriptor}
 use Rattle.difi.proofs.TestLemmas.{AllApart, some_overlap-apart, list_any-apart, not-lies_inside, is_outside-between, eqb-not_empty, ltb-enough_entries, is_bad_part-inside, ltb-one_of_two, not-named, not-numbered}
 use Rattle.difi.proofs.Verdicts.{passes, reading-ok}

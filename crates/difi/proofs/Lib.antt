@@ -3,3 +3,4 @@ pub mod Verdicts
 pub mod TestLemmas
 pub mod SoundLemmas
 pub mod CompleteLemmas
+pub mod KeptLemmas

@@ -1,15 +1,14 @@
 -- A descriptor on which no test fails is sound.
-use Rattle.std.proofs.Common.{◌≡◌, ℕ, ◌+◌, ◌*◌, ◌<◌, ◌≤◌, Bool, true, false, ◌||◌, List, [], ◌∷◌, take, drop, codes, cond, Result, Ok, Err, IfOk, IsOk, refl, arith}
-use Rattle.std.specs.List.{list_any}
-use Rattle.std.proofs.lemmas.Bool.{or_parts, or_from, ltb-false, le-ltb}
+use Rattle.std.proofs.Common.{◌≡◌, ℕ, ◌+◌, ◌<◌, ◌≤◌, Bool, true, false, List, [], ◌∷◌, take, drop, codes, cond, Result, Ok, Err, IfOk, IsOk, refl}
+use Rattle.std.proofs.lemmas.Bool.{or_parts, ltb-false}
 use Rattle.difi.specs.declared.places.Extent2.{Extent2}
 use Rattle.difi.specs.declared.places.LevelPlace.{LevelPlace}
 use Rattle.difi.specs.declared.descriptor.Difi.{Difi}
 use Rattle.difi.specs.declared.fault.DifiFault.{DifiFault}
-use Rattle.difi.specs.Places.{some_overlap, some_outside, some_empty, extent_of, copies_of, blocks_of, bitmap_size}
+use Rattle.difi.specs.Places.{some_outside, extent_of, copies_of}
 use Rattle.difi.specs.Fields.{fields, word_at, ivfc_extent, dpfs_extent, master_extent, ivfc_place, dpfs_place}
-use Rattle.difi.specs.Conditions.{reading, parts, difi_tests, name_tests, level_tests, verdict, has_bad_log, has_no_place, has_bad_copies, has_short_bitmap, has_overlapping_copies, pairs, hash_levels, inner_levels, has_bad_level, has_overlapping_levels, external_extent, has_bad_external, has_too_few_entries}
-use Rattle.difi.specs.Sound.{AreApart, HasParts, HasBlockSizes, IsPlaced, HasCopies, HasHashLevels, HasExternalLevel, HasSoundLevels, IsSound, IsDescriptor}
+use Rattle.difi.specs.Conditions.{reading, parts, difi_tests, name_tests, level_tests, verdict, has_bad_log, has_no_place, has_bad_copies, has_short_bitmap, has_overlapping_copies, pairs, inner_levels, has_bad_level, has_overlapping_levels, external_extent, has_bad_external, has_too_few_entries}
+use Rattle.difi.specs.Sound.{AreApart, HasParts, HasBlockSizes, IsPlaced, HasCopies, HasHashLevels, HasExternalLevel, IsSound, IsDescriptor}
 use Rattle.difi.proofs.TestLemmas.{AllApart, all_apart, apart_from, ends_inside, between, not_empty, enough_entries, part_inside, part_size, one_of_two, named, numbered}
 use Rattle.difi.proofs.Verdicts.{holds, all_pass}
 

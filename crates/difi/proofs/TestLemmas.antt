@@ -1,12 +1,11 @@
 -- Each test of a descriptor as a plain fact, in both directions.
-use Rattle.std.proofs.Common.{◌≡◌, ℕ, ◌+◌, ◌*◌, ◌/◌, ◌<◌, ◌≤◌, max, min, Bool, true, false, ◌&&◌, ◌||◌, not, ◌==◌, nat_lt, nat_le, bytes_eq, cond, List, [], ◌∷◌, refl, inl, inr, arith}
+use Rattle.std.proofs.Common.{◌≡◌, ℕ, ◌+◌, ◌*◌, ◌/◌, ◌<◌, ◌≤◌, max, min, false, not, ◌==◌, nat_lt, bytes_eq, List, [], ◌∷◌, refl, inl, inr, arith}
 use Rattle.std.specs.List.{list_any}
 use Rattle.std.proofs.lemmas.Bool.{cases_lt, ltb-false, le-ltb, eqb-true, eq-eqb, not-false, not_from_true, or_parts, or_from}
 use Rattle.std.proofs.lemmas.Slice.Eq.{bytes_eq-Decides}
 use Rattle.std.proofs.lemmas.Bool.Decides.{nat_tests}
 use Rattle.difi.specs.declared.places.Extent2.{Extent2}
-use Rattle.difi.specs.declared.places.LevelPlace.{LevelPlace}
-use Rattle.difi.specs.Places.{lies_inside, overlap, some_empty, some_outside, some_overlap}
+use Rattle.difi.specs.Places.{lies_inside, overlap, some_overlap}
 use Rattle.difi.specs.Sound.{AreApart, IsBetween}
 use Rattle.difi.specs.Conditions.{is_outside, is_bad_part}
 

@@ -1,5 +1,5 @@
 -- Which conditions of a descriptor fail, in the order in which a fault is named.
-use Rattle.std.specs.Prelude.{ℕ, ◌+◌, ◌*◌, ◌/◌, Bool, ◌&&◌, ◌||◌, not, ◌==◌, nat_lt, List, [], ◌∷◌, ◌++◌, take, codes, Result, Ok, Err, if◌then◌else◌}
+use Rattle.std.specs.Prelude.{ℕ, ◌+◌, Bool, ◌&&◌, ◌||◌, not, ◌==◌, nat_lt, List, [], ◌∷◌, ◌++◌, take, codes, Result, Ok, Err, if◌then◌else◌}
 use Rattle.std.specs.List.{list_any}
 use Rattle.difi.specs.declared.places.Extent2.{Extent2}
 use Rattle.difi.specs.declared.places.LevelPlace.{LevelPlace}
@@ -32,7 +32,8 @@ parts ivfc_at dpfs_at master =
 abbrev pub is_bad_part : Extent2 → ℕ → ℕ → Bool
 is_bad_part part least size = not (lies_inside part 0 size) || nat_lt part.size least
 
--- whether each condition fails on DIFI
+-- whether each condition on DIFI fails: its name and version, the two parts and the master hash inside the
+-- descriptor, all of them apart, and the selector
 unfoldable pub difi_tests : List ℕ → ℕ → ℕ → List (DifiFault × Bool)
 difi_tests table place size =
     (Magic 1, not (has_name table place (codes "DIFI")))
@@ -83,10 +84,10 @@ has_overlapping_copies difi = some_overlap (pairs difi)
 abbrev pub hash_levels : Difi → List Extent2
 hash_levels difi = extent_of difi.ivfc1 ∷ extent_of difi.ivfc2 ∷ extent_of difi.ivfc3 ∷ extent_of difi.ivfc4 ∷ []
 
--- the IVFC levels in DPFS level 3: all but level 4 where that is external
 abbrev pub inner_count : Difi → ℕ
 inner_count difi = if difi.external then 3 else 4
 
+-- the IVFC levels in DPFS level 3: all but level 4 where that is external
 abbrev pub inner_levels : Difi → List Extent2
 inner_levels difi = take (inner_count difi) (hash_levels difi)
 
@@ -111,7 +112,7 @@ has_too_few_entries difi =
     nat_lt (entries_in difi.master.size) (blocks_of difi.ivfc1) || nat_lt (entries_in difi.ivfc1.size) (blocks_of difi.ivfc2)
     || nat_lt (entries_in difi.ivfc2.size) (blocks_of difi.ivfc3) || nat_lt (entries_in difi.ivfc3.size) (blocks_of difi.ivfc4)
 
--- whether each condition fails on the levels, for a partition of a length
+-- whether each condition on the levels fails, for a partition of a length
 unfoldable pub level_tests : Difi → ℕ → List (DifiFault × Bool)
 level_tests difi part_len =
     (Layout 6, has_bad_log difi)
@@ -124,11 +125,12 @@ level_tests difi part_len =
     ∷ (Layout 13, has_too_few_entries difi)
     ∷ []
 
--- the first fault whose condition fails
+-- the fault of the first test that fails
 abbrev pub verdict : List (DifiFault × Bool) → Result (Unit {0}) DifiFault
 verdict [] = Ok tt
 verdict (test ∷ tests) = if test.1 then Err test.0 else verdict tests
 
+-- all of them, in the order in which a fault is named
 unfoldable pub tests : List ℕ → ℕ → ℕ → ℕ → List (DifiFault × Bool)
 tests table place size part_len =
     difi_tests table place size

@@ -57,15 +57,23 @@ fn checked(table: &[u8], place: usize, size: u64, part_len: u64) -> Result<Difi,
 }
 
 impl Difi {
-    /// Reads the descriptor of `size` bytes at `place` of a table, for a partition of `part_len`
-    /// bytes. The answer is an error exactly where a condition fails, and names the first.
+    /// Reads the descriptor of `size` bytes from `place` on in a table, for a partition of
+    /// `part_len` bytes.
+    ///
+    /// # Errors
+    ///
+    /// The first condition that fails. In their order they are: DIFI's name and version; conditions
+    /// 1 to 5 of the layout, on the parts of the descriptor and the selector; the names and versions
+    /// of IVFC and DPFS; conditions 6 to 13, on the levels.
     pub fn read(table: &[u8], place: u64, size: u64, part_len: u64) -> Result<Difi, DifiFault>
         requires inside { place + size ≤ length table.now }
         requires whole { 0x44 ≤ size }
         ensures exact { result ≡ reading table.now place size part_len }
         ensures fields { IfOk result (λ difi. difi ≡ fields table.now place) }
         ensures sound { IfOk result (λ difi. IsSound difi size part_len) }
-        ensures ok { IsOk result ↔ (IsDescriptor table.now place size × IsSound (fields table.now place) size part_len) }
+        // No condition fails: stated as facts, and not as the tests in their order.
+        ensures ok { IsOk result
+            ↔ (IsDescriptor table.now place size × IsSound (fields table.now place) size part_len) }
     {
         checked(table, place as usize, size, part_len)
     }
@@ -74,7 +82,12 @@ impl Difi {
     pub fn patch(&self, table: &mut [u8], selector: u8)
         requires inside { self.now.place + 0x44 ≤ length table.old }
         requires selector { selector < 2 }
-        ensures { table.new ≡ slice_set table.old (self.now.place + 0x39) selector }
+        ensures byte { table.new ≡ slice_set table.old (self.now.place + 0x39) selector }
+        // What was read there is read again, with that selector.
+        ensures read { (size part_len : ℕ)
+            → reading table.old self.now.place size part_len ≡ Ok self.now
+            → reading table.new self.now.place size part_len
+            ≡ Ok (record self.now { selector = selector }) }
     {
         table[self.place as usize + 0x39] = selector;
     }

@@ -1,4 +1,4 @@
-use Rattle.std.proofs.Common.{◌≡◌, ap, is_ok, sym, ◌∙◌, subst, IsOk}
+use Rattle.std.proofs.Common.{◌≡◌, ap, is_ok, sym, ◌∙◌, subst}
 use Rattle.difi.proofs.SoundLemmas.{is_read, if_ok, ok_value}
 use Rattle.difi.proofs.CompleteLemmas.{reading-sound}
 use Rattle.difi.specs.Fields.{fields}
