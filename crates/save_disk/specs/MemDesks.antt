@@ -1,6 +1,5 @@
 -- What a desk in memory shows.
-use Rattle.std.specs.Prelude.{ℕ, ◌≡◌, ◌⊎◌, Bool, true, false, ◌==◌, ◌||◌, IsTrue, refl}
-use Rattle.std.proofs.Common.{inl, inr, arith, eqb-true}
+use Rattle.std.specs.Prelude.{refl}
 use Rattle.save_disk.specs.declared.memory.MemDesk.{MemDesk}
 use Rattle.save_disk.specs.State.{State, IsSound}
 use Rattle.save_disk.specs.Grains.{known_grain}
@@ -17,7 +16,7 @@ state_of desk = state_from (memory_of desk)
 pub is_sound : (desk : MemDesk) → IsSound (state_of desk)
 is_sound desk = record {
   grain = known_grain desk.trace.grain desk.trace.is_known;
-  size = omega (arith, desk.trace.start.ok.0, desk.trace.start.ok.1, desk.trace.start.small);
+  size = desk.trace.is_small;
   told_size = refl;
   told_grain = refl;
 }

@@ -152,7 +152,7 @@ impl Disk for MemDesk {
         ensures cause { HasCause (state_of self.old).counts.disk (state_of self.new).counts.disk result }
         ensures ends { let trace = (memory_of self.old).trace in Ends Call.Sync (λ _. then_event Sync trace) trace (memory_of self.old) (memory_of self.new) result }
     {
-        if self.trace.keep(&[]).is_err() {
+        if self.trace.make_room(0).is_err() {
             return Err(self.log.fall_short(Call::Sync));
         }
         if self.log.enlist(Call::Sync)? {

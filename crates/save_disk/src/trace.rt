@@ -1,6 +1,6 @@
 //! What a desk in memory remembers: the image, what happened to it, and its source.
 
-ghost use Rattle.std.specs.Prelude.{◌≡◌, ◌*◌, ◌-◌, ◌+◌, ◌<◌, ◌≤◌, ◌++◌, [], ◌∷◌, ◌==◌, ◌||◌, min, length, map, take, drop, replicate, vec_len, vec_capacity, IsTrue, IfOk, OnErr};
+ghost use Rattle.std.specs.Prelude.{◌≡◌, ◌*◌, ◌-◌, ◌+◌, ◌^◌, ◌<◌, ◌≤◌, ◌++◌, [], ◌∷◌, ◌==◌, ◌||◌, min, length, map, take, drop, replicate, vec_len, vec_capacity, IsTrue, IfOk, OnOk};
 ghost use Rattle.save_disk.specs.Trace.{Write, Sync, Said, with_sector, image_after, said_of, sector_of, image_now};
 ghost use Rattle.save_disk.specs.State.{then_event};
 ghost use Rattle.save_disk.specs.Grains.{is_grain};
@@ -27,6 +27,7 @@ pub(crate) struct Trace {
     source: Vec<u8>,
     heard: usize,
     ghost is_known: { IsTrue (is_grain grain) },
+    ghost is_small: { length start.items < 2 ^ 64 },
     ghost is_sized: { length image.items ≡ length start.items },
     ghost is_written: { image.items ≡ image_after grain start.items (map event_of events.items) },
     ghost is_said: { said.items ≡ said_of (map event_of events.items) },
@@ -81,16 +82,23 @@ impl Trace {
         &self.said
     }
 
-    /// A copy of the bytes, and room for an event that says as many.
+    /// Makes room for an event that says `n` bytes.
+    pub(crate) fn make_room(&mut self, n: usize) -> Result<(), AllocError>
+        ensures told { told_of self.new ≡ told_of self.old }
+        ensures room { OnOk result (HasRoom n self.new) }
+    {
+        self.events.reserve(1)?;
+        self.said.reserve(n)
+    }
+
+    /// A copy of the bytes, and room for an event that says them.
     pub(crate) fn keep(&mut self, bytes: &[u8]) -> Result<Vec<u8>, AllocError>
         ensures told { told_of self.new ≡ told_of self.old }
         ensures kept { IfOk result (λ kept. kept.items ≡ bytes.now) }
-        ensures room { IfOk result (λ kept. HasRoom (length bytes.now) self.new) }
+        ensures room { OnOk result (HasRoom (length bytes.now) self.new) }
     {
-        let alloc = *self.events.allocator();
-        self.events.reserve(1)?;
-        self.said.reserve(bytes.len())?;
-        bytes.to_vec(alloc)
+        self.make_room(bytes.len())?;
+        bytes.to_vec(*self.events.allocator())
     }
 
     pub(crate) fn read(&self, sector: u64, out: &mut [u8])
