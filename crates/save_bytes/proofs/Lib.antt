@@ -1,4 +1,6 @@
 pub mod FieldLemmas
-pub mod MemoryPuts
-pub mod Steps
-pub mod ListPuts
+pub mod MemoryLemmas
+pub mod SpaceLemmas
+pub mod CellLemmas
+pub mod PutLemmas
+pub mod ViewLemmas

@@ -1,8 +1,12 @@
 pub mod Fields
 pub mod Cells
+pub mod CellNumbers
 pub mod State
-pub mod Answers
-pub mod Moves
 pub mod Blocks
+pub mod Refusals
+pub mod Answers
+pub mod Stays
+pub mod Puts
 pub mod Spots
 pub mod Memory
+pub mod MemoryLaws

@@ -1,30 +1,34 @@
--- What a contract sees of a space.
-use Rattle.std.specs.Prelude.{◌≡◌, ℕ, ◌+◌, ◌<◌, ◌≤◌, Bool, IsTrue, IsFalse}
+-- What a contract sees of a space, and where its calls may be made.
+use Rattle.std.specs.Prelude.{◌≡◌, ℕ, ◌+◌, ◌<◌, ◌≤◌, Bool, false, IsTrue}
 use Rattle.save_bytes.specs.Cells.{Cell}
 
 -- what no call changes
 pub record Shape : Type 0 where
   -- how many places there are
   pub size : ℕ
-  -- the space lies on those below it as it should
+  -- it lies on the spaces below it as it should
   pub sound : Bool
   -- no call answers that a cell is damaged
   pub plain : Bool
   -- the first place for writing
   pub first : ℕ
-  -- the block in which damage spreads, for each place at the bottom
-  pub block : ℕ → ℕ
+  -- there may be twins or fixed places
+  pub doubled : Bool
+  -- where the block begins, and how long it is, in which damage spreads at a place of the bottom
+  pub block_start : ℕ → ℕ
+  pub block_len : ℕ → ℕ
 
+-- what a contract sees of a space at one moment
 pub record State : Type 0 where
   pub shape : Shape
-  -- the cells, the bottom and the fixed places mean something: until a call answers `Disk`
+  -- the next three mean something: only a call that answers `Disk` may end it
   pub told : Bool
   pub cells : ℕ → Cell
-  -- for each place its place at the bottom: two places that have one there are twins
+  -- each place's place at the bottom: two places that have the same one are twins
   pub bottom : ℕ → ℕ
   -- the places by which the space finds its bytes
   pub is_fixed : ℕ → Bool
-  -- the faults of the disk below
+  -- the count of faults of the disk below
   pub faults : ℕ
 
 -- the n places from a place on lie in a sound space
@@ -32,9 +36,14 @@ pub record IsInside (shape : Shape) (at n : ℕ) : Type 0 where
   pub sound : IsTrue shape.sound
   pub inside : at + n ≤ shape.size
 
--- the n places from a place on may be written: no two are twins, and none is fixed
+-- the n places from a place on may be written: where the cells are told, no two are twins and none is fixed
 pub record IsWritable (s : State) (at n : ℕ) : Type 0 where
   pub inside : IsInside s.shape at n
   pub behind_first : s.shape.first ≤ at
   pub apart : IsTrue s.told → (j k : ℕ) → j < n → k < n → s.bottom (at + j) ≡ s.bottom (at + k) → j ≡ k
-  pub free : IsTrue s.told → (k : ℕ) → k < n → IsFalse (s.is_fixed (at + k))
+  pub free : IsTrue s.told → (k : ℕ) → k < n → s.is_fixed (at + k) ≡ false
+
+-- no two places are twins, and none is fixed
+pub record HasNoTwins (s : State) : Type 0 where
+  pub apart : (x y : ℕ) → s.bottom x ≡ s.bottom y → x ≡ y
+  pub free : (x : ℕ) → s.is_fixed x ≡ false

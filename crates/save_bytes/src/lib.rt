@@ -1,4 +1,4 @@
-//! What every layer shares: the fields of a format, the words of a command line, and spaces.
+//! What every layer shares: the fields of a format, the words of a command line, and spaces, which are lists of cells.
 #![tactic(auto)]
 
 mod fields;

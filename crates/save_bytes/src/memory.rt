@@ -1,13 +1,13 @@
 //! A space over bytes in memory.
 
-ghost use Rattle.std.specs.Prelude.{◌≡◌, ℕ, ◌≤◌, length, IsTrue, replicate, slice_range};
-ghost use Rattle.std.specs.Borrow.{sem};
-ghost use Rattle.std.specs.Io.BufRead.{Rests};
-ghost use Rattle.save_bytes.specs.Memory.{memory_state, sound_fits, MemoryKeeps, MemoryLands, MemoryKeeps-same, MemoryKeeps-join, MemoryKeeps-shape};
+ghost use Rattle.std.specs.Prelude.{refl, ◌≡◌, ◌+◌, ◌≤◌, length, replicate, slice_range, IsTrue};
+ghost use Rattle.save_bytes.specs.Fields.{with_bytes};
+ghost use Rattle.save_bytes.specs.Memory.{memory_state, IsMemoryOf, MemoryKeeps, MemoryLands};
+ghost use Rattle.save_bytes.specs.MemoryLaws.{memory_size_fits, MemoryKeeps-same, MemoryKeeps-join, SameMemory-shape, memory_blocks};
 
 use crate::space::{Bad, Floor, Space};
 
-/// Bytes in memory, with damage spreading in blocks of one length.
+/// Bytes in memory as a space. Damage spreads in blocks of one length, the last one cut by the end.
 #[derive(Drop)]
 pub struct MemSpace<'a> {
     bytes: &'a mut [u8],
@@ -15,33 +15,34 @@ pub struct MemSpace<'a> {
 }
 
 impl<'a> MemSpace<'a> {
-    /// A space of these bytes, with blocks of `block` bytes.
+    /// The space of these bytes, with blocks of `block` bytes.
     pub fn new(bytes: &'a mut [u8], block: u64) -> MemSpace<'a>
         requires { 1 ≤ block }
-        ensures same_reference { result.bytes.ghost_name ≡ bytes.entry.ghost_name }
-        ensures bytes { result.bytes.now ≡ bytes.old }
-        ensures block { result.block ≡ block }
+        ensures memory { IsMemoryOf result bytes.entry block }
+        ensures sound { IsTrue (memory_state result).shape.sound }
     {
         MemSpace { bytes, block }
     }
 }
 
-impl<'a> Space for MemSpace<'a> {
+impl Space for MemSpace<'_> {
     ghost state = { memory_state };
 
     ghost keeps = { MemoryKeeps };
 
-    ghost lands = { MemoryLands };
+    ghost lands = { λ s. MemoryLands };
 
-    ghost size_fits = { λ s sound. sound_fits s sound };
+    ghost size_fits = { memory_size_fits };
 
-    ghost plain_bytes = { λ s p t x. tt };
+    ghost plain_bytes = { λ s plain told x. tt };
+
+    ghost no_twins = { λ s single. record { apart = λ x y same. same; free = λ x. refl } };
 
     ghost keeps_same = { MemoryKeeps-same };
 
     ghost keeps_join = { MemoryKeeps-join };
 
-    ghost keeps_shape = { MemoryKeeps-shape };
+    ghost keeps_shape = { λ s t kept. SameMemory-shape s t kept.0 };
 
     fn len(&self) -> u64 {
         self.bytes.len() as u64
@@ -53,50 +54,60 @@ impl<'a> Space for MemSpace<'a> {
         Ok(part(&self.bytes, start, end))
     }
 
-    fn ready(&mut self, at: u64, n: u64) -> Result<(), Bad> {
+    fn ready(&mut self, _at: u64, _n: u64) -> Result<(), Bad> {
         Ok(())
     }
 
     fn put(&mut self, at: u64, bytes: &[u8]) -> Result<(), Bad> {
-        let start = at as usize;
-        self.bytes[start..start + bytes.len()].copy_from_slice(bytes);
+        write_part(&mut *self.bytes, at as usize, bytes);
         Ok(())
     }
 }
 
-impl<'a> Floor for MemSpace<'a> {
-    ghost use Rattle.save_bytes.specs.Memory.{memory_alike};
+impl Floor for MemSpace<'_> {
+    ghost ground = { λ s. record { first = refl; single = refl; bottom = λ x. refl } };
 
-    ghost block_alike = { λ s told x y h k one. memory_alike s x y };
+    ghost blocks = { λ s. memory_blocks (length s.bytes.now) s.block };
+
+    ghost alike = { λ s told x y h i same. tt };
 
     fn block_of(&self, at: u64) -> (u64, u64) {
         let start = at / self.block * self.block;
         (start, self.block.min(self.bytes.len() as u64 - start))
     }
 
-    fn clear_ready(&mut self, at: u64) -> Result<(), Bad> {
+    fn clear_ready(&mut self, _at: u64) -> Result<(), Bad> {
         Ok(())
     }
 
     fn clear(&mut self, at: u64) -> Result<(), Bad> {
-        let (start, n) = self.block_of(at);
-        let start = start as usize;
-        let end = start + n as usize;
-        zero(&mut self.bytes[start..end]);
+        let (start, len) = self.block_of(at);
+        zero_part(&mut *self.bytes, start as usize, len as usize);
         Ok(())
     }
 }
 
-fn zero(bytes: &mut [u8])
-    ensures { bytes.new ≡ replicate (length bytes.old) 0 }
-{
-    bytes.fill(0);
-}
-
+// The bytes from `start` up to `end`.
 fn part<'b>(bytes: &'b &mut [u8], start: usize, end: usize) -> &'b [u8]
-    requires order { start ≤ end }
+    requires ordered { start ≤ end }
     requires inside { end ≤ length bytes.now.now }
     ensures { result.now ≡ slice_range bytes.now.now start end }
 {
     &bytes[start..end]
+}
+
+// Puts a piece into the bytes from `start` on.
+fn write_part(bytes: &mut [u8], start: usize, piece: &[u8])
+    requires { start + length piece.now ≤ length bytes.old }
+    ensures { bytes.new ≡ with_bytes bytes.old start piece.now }
+{
+    bytes[start..start + piece.len()].copy_from_slice(piece);
+}
+
+// Makes `len` bytes from `start` on zero.
+fn zero_part(bytes: &mut [u8], start: usize, len: usize)
+    requires { start + len ≤ length bytes.old }
+    ensures { bytes.new ≡ with_bytes bytes.old start (replicate len 0) }
+{
+    bytes[start..start + len].fill(0);
 }

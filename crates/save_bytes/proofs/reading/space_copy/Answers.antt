@@ -1,30 +1,18 @@
-use Rattle.std.proofs.Common.{◌≡◌, ℕ, ◌+◌, ◌-◌, ◌<◌, ◌≤◌, length, slice_index, None, Some, IsTrue, arith, sym, ◌∙◌, ap, subst}
-use Rattle.save_bytes.proofs.Steps.{stays_join, unmoved_join}
-use Rattle.save_bytes.proofs.ListPuts.{length-put, copied}
+use Rattle.std.proofs.Common.{◌≡◌, ◌-◌, ◌≤◌, None, length, arith}
+use Rattle.std.proofs.lemmas.List.{places}
+use Rattle.save_bytes.proofs.CellLemmas.{copy_more}
+use Rattle.save_bytes.proofs.SpaceLemmas.{Stays-join, Unmoved-join}
 use Rattle.save_bytes.proofs.reading.space_copy.Goals as goal
-
-pub overflow_add-at : goal.overflow_add-at
-overflow_add-at g c = omega (arith, g.met.S.Space.size_fits c.args.space.now c.requires.sound)
-
-pub returns-in-Err-clause-unmoved : goal.returns-in-Err-clause-unmoved
-returns-in-Err-clause-unmoved g c =
-    let space = g.S.Space in
-    let before = c.loop-done.invariant in
-    unmoved_join space.keeps space.lands g.met.S.Space.keeps_join (space.state c.args.space.now).told (space.state c.loop-done.space).told c.args.space.now c.loop-done.space c.piece.follows.lender-at-none (Some c.in-Err.bad) before.1.goes.told before.2 (rw c.in-Err.is at c.piece.follows.holds-at-none.1)
 
 pub loop-done-preserved : goal.loop-done-preserved
 loop-done-preserved g c =
-    let space = g.S.Space in
-    let before = c.loop-done.invariant in
-    let old = c.args.space.now in
-    let mid = c.loop-done.space in
-    let new = c.piece.follows.lender-at-none in
-    let piece = c.in-Ok.ensures.piece in
-    let bytes = c.in-Ok.piece.now in
-    let fits : c.loop-done.done + length bytes ≤ length c.loop-done.out = omega (arith, piece.bounded) in
-    let part = c.copy_from_slice.ensures.after in (
-      omega (arith, length-put c.loop-done.done c.loop-done.out bytes c.copy_from_slice.new.self fits part),
-      stays_join (space.state old) (space.state mid) (space.state new) None before.1 (rw c.in-Ok.is at c.piece.follows.holds-at-none.0),
-      unmoved_join space.keeps space.lands g.met.S.Space.keeps_join (space.state old).told (space.state mid).told old mid new None before.1.goes.told before.2 (rw c.in-Ok.is at c.piece.follows.holds-at-none.1),
-      λ told. copied (space.state old).cells (space.state mid).cells c.args.at c.loop-done.done (space.state old).shape.size c.loop-done.out bytes c.copy_from_slice.new.self fits part (before.3 told) (before.1.cells told) (omega (arith, c.requires.inside)) (piece.bytes (subst IsTrue (sym before.1.goes.told) told)),
-    )
+    let out = c.loop-done.out in
+    let part = c.copy_piece.new.out in
+    let long : length part ≡ length out - c.loop-done.done = grind (arith, places) in
+    let some : c.in_ok-done.field-0 ≤ length part = grind (arith, places) in
+    record {
+      within = grind (arith, places);
+      bytes = λ told. copy_more _ (g.S.Space.state c.loop-done.space).cells (g.S.Space.state c.args.space.now).shape.size c.args.at c.loop-done.done c.in_ok-done.field-0 out part (omega arith) (c.loop-done.invariant.stays.cells told) long c.loop-done.invariant.within some (c.loop-done.invariant.bytes told) (c.in_ok-done.ensures.bytes (rw c.loop-done.invariant.stays.space.told told));
+      stays = Stays-join _ _ _ None c.loop-done.invariant.stays c.in_ok-done.ensures.stays;
+      unmoved = Unmoved-join g.S.Space.state g.S.Space.keeps g.S.Space.lands g.met.S.Space.keeps_join _ _ _ None c.loop-done.invariant.stays c.loop-done.invariant.unmoved c.in_ok-done.ensures.unmoved;
+    }

@@ -1,15 +1,16 @@
-use Rattle.std.proofs.Common.{◌≡◌, ℕ, ◌+◌, ◌-◌, ◌<◌, ◌≤◌, length, slice_index, None, IsTrue}
-use Rattle.save_bytes.specs.Cells.{Byte}
-use Rattle.save_bytes.specs.Moves.{Stays}
+use Rattle.std.proofs.Common.{◌-◌, ◌≤◌, IsTrue, None, length, take}
+use Rattle.save_bytes.specs.Cells.{AreBytesAt}
+use Rattle.save_bytes.specs.Stays.{Stays}
 use Rattle.save_bytes.specs.Spots.{Unmoved}
 use Rattle.save_bytes.proofs.reading.space_copy.Given as goal
 
 abbrev pub invariant-loop-done : goal.invariant-loop-done
-invariant-loop-done g l =
-    let s = g.S.Space in
-    (l.done ≤ length l.out) × Stays (s.state l.initial.space) (s.state l.space) None
-    × Unmoved s.keeps s.lands (s.state l.initial.space).told l.initial.space l.space None
-    × (IsTrue (s.state l.initial.space).told → (k : ℕ) → k < l.done → (s.state l.initial.space).cells (l.at + k) ≡ Byte (slice_index l.out k))
+invariant-loop-done g l = record {
+  within : l.done ≤ length l.out;
+  bytes : IsTrue (g.S.Space.state l.initial.space).told → AreBytesAt (g.S.Space.state l.initial.space).cells l.at (take l.done l.out);
+  stays : Stays (g.S.Space.state l.initial.space) (g.S.Space.state l.space) None;
+  unmoved : Unmoved g.S.Space.keeps g.S.Space.lands (g.S.Space.state l.initial.space) l.initial.space l.space None;
+}
 
 abbrev pub decreases-loop-done : goal.decreases-loop-done
-decreases-loop-done g l = length l.out - l.done
+decreases-loop-done g l = length l.initial.out - l.done
