@@ -1,6 +1,6 @@
 //! The calls that a desk in memory was given, and which of them are to fail.
 
-ghost use Rattle.std.specs.Prelude.{◌≡◌, ◌≢◌, ◌<◌, ◌↔◌, ℕ, [], None, Some, IfOk, OnErr, IsTrue, slice_index, slice_get};
+ghost use Rattle.std.specs.Prelude.{◌≡◌, ◌≢◌, ◌<◌, ◌↔◌, Some, IfOk, OnErr, IsTrue, slice_index, slice_get};
 ghost use Rattle.save_disk.specs.declared.calls.Call.{Call};
 ghost use Rattle.save_disk.specs.Calls.{place_of, count_of, listed, faulted, fell_short, IsNewLog, IsNamed, NoneFell};
 

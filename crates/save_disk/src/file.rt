@@ -1,6 +1,6 @@
 //! A desk over a file, the standard input and the standard output.
 
-ghost use Rattle.std.specs.Prelude.{◌≡◌, ◌*◌, ◌^◌, ◌<◌, ◌≤◌, None, length, take, IsTrue, IfOk, OnOk, OnErr};
+ghost use Rattle.std.specs.Prelude.{◌≡◌, ◌*◌, ◌^◌, ◌<◌, ◌≤◌, None, length, take, IsTrue, IsErr, IfOk, OnOk, OnErr};
 ghost use Rattle.save_disk.specs.Trace.{Write, Sync, Said};
 ghost use Rattle.save_disk.specs.State.{IsSteady, IsQuiet, Happens, IsRead, GoesOn, WriteFails, Hears, HasCause};
 ghost use Rattle.save_disk.specs.Calls.{no_faults};
@@ -39,7 +39,7 @@ pub struct FileDesk<'a> {
 }
 
 impl<'a> FileDesk<'a> {
-    ghost use Rattle.save_disk.specs.FileDesks.{file_state};
+    ghost use Rattle.save_disk.specs.FileDesks.{file_state, IsClosed, IsMute};
 
     /// A desk over the file at a path, in sectors of `grain` bytes. It is opened for reading alone where it
     /// may not be written. Where nothing stands at the path and `create` gives a length in bytes, a file of so
@@ -72,8 +72,9 @@ impl<'a> FileDesk<'a> {
     pub fn none(_rt: &'a HostRuntime) -> FileDesk<'a>
         ensures told { (file_state result).told ≡ None }
         ensures grain { (file_state result).grain ≡ 512 }
-        ensures size { (file_state result).size ≡ 0 }
         ensures counts { (file_state result).counts ≡ no_faults }
+        ensures closed { IsClosed result }
+        ensures mute { IsMute result }
     {
         FileDesk {
             opened: None,
@@ -89,7 +90,7 @@ impl<'a> FileDesk<'a> {
 }
 
 impl<'a> Disk for FileDesk<'a> {
-    ghost use Rattle.save_disk.specs.FileDesks.{file_state, is_sound};
+    ghost use Rattle.save_disk.specs.FileDesks.{file_state, is_sound, IsClosed, StaysClosed};
 
     ghost state = { file_state };
 
@@ -99,7 +100,14 @@ impl<'a> Disk for FileDesk<'a> {
         self.grain
     }
 
-    fn len(&mut self) -> Result<u64, Failed> {
+    fn len(&mut self) -> Result<u64, Failed>
+        ensures value { IfOk result (λ n. n ≡ (file_state self.old).size) }
+        ensures quiet { IsQuiet (file_state self.old) (file_state self.new) }
+        ensures steady { IsSteady (file_state self.old) (file_state self.new) }
+        ensures cause { HasCause (file_state self.old).counts.disk (file_state self.new).counts.disk result }
+        ensures closed { IsClosed self.old → IsErr result }
+        ensures stays { StaysClosed self.old self.new }
+    {
         let outcome = match &self.opened {
             Some(_) => Ok(self.size),
             None => Err(Failed),
@@ -107,7 +115,16 @@ impl<'a> Disk for FileDesk<'a> {
         counted(outcome, &mut self.disk)
     }
 
-    fn read(&mut self, sector: u64, out: &mut [u8]) -> Result<(), Failed> {
+    fn read(&mut self, sector: u64, out: &mut [u8]) -> Result<(), Failed>
+        requires begins_inside { sector * (file_state self.old).grain < (file_state self.old).size }
+        requires whole { length out.old ≡ (file_state self.old).grain }
+        ensures value { OnOk result (IsRead (file_state self.old) sector out.new) }
+        ensures quiet { IsQuiet (file_state self.old) (file_state self.new) }
+        ensures steady { IsSteady (file_state self.old) (file_state self.new) }
+        ensures cause { HasCause (file_state self.old).counts.disk (file_state self.new).counts.disk result }
+        ensures closed { IsClosed self.old → IsErr result }
+        ensures stays { StaysClosed self.old self.new }
+    {
         let at = sector * self.grain;
         let part = (self.size - at).min(self.grain) as usize;
         let outcome = match &self.opened {
@@ -117,7 +134,16 @@ impl<'a> Disk for FileDesk<'a> {
         counted(outcome, &mut self.disk)
     }
 
-    fn write(&mut self, sector: u64, bytes: &[u8]) -> Result<(), Failed> {
+    fn write(&mut self, sector: u64, bytes: &[u8]) -> Result<(), Failed>
+        requires begins_inside { sector * (file_state self.old).grain < (file_state self.old).size }
+        requires whole { length bytes.now ≡ (file_state self.old).grain }
+        ensures written { OnOk result (Happens (Write sector bytes.now) (file_state self.old) (file_state self.new)) }
+        ensures failed { OnErr result (GoesOn (WriteFails sector bytes.now) (file_state self.old) (file_state self.new)) }
+        ensures steady { IsSteady (file_state self.old) (file_state self.new) }
+        ensures cause { HasCause (file_state self.old).counts.disk (file_state self.new).counts.disk result }
+        ensures closed { IsClosed self.old → IsErr result }
+        ensures stays { StaysClosed self.old self.new }
+    {
         let at = sector * self.grain;
         let part = (self.size - at).min(self.grain) as usize;
         let outcome = match &self.opened {
@@ -127,7 +153,14 @@ impl<'a> Disk for FileDesk<'a> {
         counted(outcome, &mut self.disk)
     }
 
-    fn sync(&mut self) -> Result<(), Failed> {
+    fn sync(&mut self) -> Result<(), Failed>
+        ensures synced { OnOk result (Happens Sync (file_state self.old) (file_state self.new)) }
+        ensures failed { OnErr result (IsQuiet (file_state self.old) (file_state self.new)) }
+        ensures steady { IsSteady (file_state self.old) (file_state self.new) }
+        ensures cause { HasCause (file_state self.old).counts.disk (file_state self.new).counts.disk result }
+        ensures closed { IsClosed self.old → IsErr result }
+        ensures stays { StaysClosed self.old self.new }
+    {
         let outcome = match &mut self.opened {
             Some(opened) => sync(opened).or(Err(Failed)),
             None => Err(Failed),
@@ -137,11 +170,20 @@ impl<'a> Disk for FileDesk<'a> {
 }
 
 impl<'a> Desk for FileDesk<'a> {
-    fn hear(&mut self, out: &mut [u8]) -> Result<usize, Failed> {
-        if self.is_at_end {
-            return Ok(0);
-        }
+    ghost use Rattle.save_disk.specs.FileDesks.{file_state, IsMute, StaysClosed};
+
+    fn hear(&mut self, out: &mut [u8]) -> Result<usize, Failed>
+        requires { 1 ≤ length out.old }
+        ensures count { IfOk result (λ n. n ≤ length out.new) }
+        ensures heard { IfOk result (λ n. GoesOn (Hears n out.new) (file_state self.old) (file_state self.new)) }
+        ensures failed { OnErr result (IsQuiet (file_state self.old) (file_state self.new)) }
+        ensures steady { IsSteady (file_state self.old) (file_state self.new) }
+        ensures cause { HasCause (file_state self.old).counts.source (file_state self.new).counts.source result }
+        ensures mute { IsMute self.old → IsErr result }
+        ensures stays { StaysClosed self.old self.new }
+    {
         let outcome = match self.streams {
+            Some(_) if self.is_at_end => Ok(0),
             Some(rt) => rt.stdin().read(out).or(Err(Failed)),
             None => Err(Failed),
         };
@@ -150,7 +192,17 @@ impl<'a> Desk for FileDesk<'a> {
         Ok(n)
     }
 
-    fn say(&mut self, bytes: &[u8]) -> Result<usize, Failed> {
+    fn say(&mut self, bytes: &[u8]) -> Result<usize, Failed>
+        requires { 1 ≤ length bytes.now }
+        ensures some { IfOk result (λ n. 1 ≤ n) }
+        ensures count { IfOk result (λ n. n ≤ length bytes.now) }
+        ensures said { IfOk result (λ n. Happens (Said (take n bytes.now)) (file_state self.old) (file_state self.new)) }
+        ensures failed { OnErr result (IsQuiet (file_state self.old) (file_state self.new)) }
+        ensures steady { IsSteady (file_state self.old) (file_state self.new) }
+        ensures cause { HasCause (file_state self.old).counts.sink (file_state self.new).counts.sink result }
+        ensures mute { IsMute self.old → IsErr result }
+        ensures stays { StaysClosed self.old self.new }
+    {
         let outcome = match self.streams {
             Some(rt) => write_some(rt, bytes),
             None => Err(Failed),

@@ -1,6 +1,6 @@
 //! A desk in memory, whose calls fail where they are told to.
 
-ghost use Rattle.std.specs.Prelude.{◌≡◌, ◌≢◌, ◌⊎◌, ◌*◌, ◌<◌, ◌≤◌, [], None, Some, min, length, take, drop, slice_get, IfOk, OnOk, OnErr};
+ghost use Rattle.std.specs.Prelude.{◌≡◌, ◌≢◌, ◌*◌, ◌<◌, ◌≤◌, Some, min, length, take, slice_get, IfOk, OnOk, OnErr};
 ghost use Rattle.save_disk.specs.declared.calls.Call.{Call};
 ghost use Rattle.save_disk.specs.Trace.{Write, Sync, Said, image_now, said_of};
 ghost use Rattle.save_disk.specs.State.{IsSteady, IsQuiet, Happens, IsRead, GoesOn, WriteFails, Hears, HasCause, then_event};

@@ -1,6 +1,6 @@
 //! What a desk in memory remembers: the image, what happened to it, and its source.
 
-ghost use Rattle.std.specs.Prelude.{◌≡◌, ◌*◌, ◌-◌, ◌+◌, ◌^◌, ◌<◌, ◌≤◌, ◌++◌, [], ◌∷◌, ◌==◌, ◌||◌, min, length, map, take, drop, replicate, vec_len, vec_capacity, IsTrue, IfOk, OnOk};
+ghost use Rattle.std.specs.Prelude.{◌≡◌, ◌*◌, ◌+◌, ◌^◌, ◌<◌, ◌≤◌, ◌++◌, [], ◌∷◌, min, length, map, take, drop, vec_len, vec_capacity, IsTrue, IfOk, OnOk};
 ghost use Rattle.save_disk.specs.Trace.{Write, Sync, Said, with_sector, image_after, said_of, sector_of, image_now};
 ghost use Rattle.save_disk.specs.State.{then_event};
 ghost use Rattle.save_disk.specs.Grains.{is_grain};
