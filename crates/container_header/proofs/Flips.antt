@@ -2,14 +2,13 @@
 use Rattle.std.proofs.Common.{◌≡◌, ℕ, ◌+◌, ◌-◌, ◌<◌, ◌≤◌, List, [], ◌∷◌, ◌++◌, length, get_or, take, drop, set, refl, sym, ap, ◌∙◌, arith, append_assoc, length-append, add-one, lit<, lit≤}
 use Rattle.std.proofs.lemmas.List.{places, take-append-le, take-take, set_split, drop-drop, take_at, drop_at, length-take, length-take-le, length-drop}
 use borrow.Rule.Slice.PartMut.{put_mid}
-use Rattle.save_bytes.specs.Fields.{with_bytes}
+use Rattle.save_bytes.specs.Fields.{number_at, with_bytes}
 use Rattle.container_header.specs.declared.header.Kind.{Kind}
 use Rattle.container_header.specs.declared.header.Kind.TheVariants.{Disa, Diff}
 use Rattle.container_header.specs.declared.header.Header.{Header}
 use Rattle.container_header.specs.Conditions.{kind_named, fields_of}
 use Rattle.container_header.specs.Fields.{bytes_at, byte_at}
 use Rattle.container_header.specs.Raw.{image_of, IsOfRaw, active_place, hash_place, other_table, flipped}
-use Rattle.save_bytes.specs.Fields.{number_at}
 use Rattle.save_bytes.proofs.FieldLemmas.{number_at-same}
 use Rattle.container_header.proofs.HeaderBytes.{byte_at-raw, number_at-raw, bytes_at-raw, disa_from, diff_from}
 use Rattle.container_header.proofs.HeaderRead.{raw_of-image_of}

@@ -29,10 +29,12 @@ pub record IsInside (extent : Extent) (low high : ℕ) : Type 0 where
 abbrev pub IsApart : Extent → Extent → Type 0
 IsApart one other = min (one.at + one.size) (other.at + other.size) ≤ max one.at other.at
 
+-- a descriptor lies in the table, and is no shorter than its first part
 pub record IsDescriptor (descriptor : Extent) (table_size : ℕ) : Type 0 where
   pub shortest : 0x44 ≤ descriptor.size
   pub inside : IsInside descriptor 0 table_size
 
+-- a partition is not empty, and lies in the image behind its first 512 bytes
 pub record IsPartition (partition : Extent) (image_length : ℕ) : Type 0 where
   pub some : 1 ≤ partition.size
   pub inside : IsInside partition 512 image_length
