@@ -9,9 +9,13 @@ use Rattle.container_header.specs.declared.fault.HeaderFault.TheVariants.{NotIma
 use Rattle.container_header.specs.Extents.{lies_inside, overlap, some_overlap}
 use Rattle.container_header.specs.Fields.{bytes_at, word_at, disa_fields, diff_fields}
 
--- the kind that the four bytes at the header's front name: DISA or DIFF
+-- the kind that four bytes name: DISA or DIFF
+abbrev pub kind_named : List ℕ → Option Kind
+kind_named bytes = if bytes_eq bytes (0x44 ∷ 0x49 ∷ 0x53 ∷ 0x41 ∷ []) then Some Disa else if bytes_eq bytes (0x44 ∷ 0x49 ∷ 0x46 ∷ 0x46 ∷ []) then Some Diff else None
+
+-- the kind that the four bytes at the header's front name
 abbrev pub kind_of : List ℕ → Option Kind
-kind_of image = if bytes_eq (bytes_at image 0 4) (0x44 ∷ 0x49 ∷ 0x53 ∷ 0x41 ∷ []) then Some Disa else if bytes_eq (bytes_at image 0 4) (0x44 ∷ 0x49 ∷ 0x46 ∷ 0x46 ∷ []) then Some Diff else None
+kind_of image = kind_named (bytes_at image 0 4)
 
 abbrev pub version_of : Kind → ℕ
 version_of Disa = 0x40000
@@ -37,31 +41,43 @@ is_bad_descriptor header descriptor = not (lies_inside descriptor 0 header.table
 abbrev pub is_bad_partition : Extent → ℕ → Bool
 is_bad_partition partition image_length = (partition.size == 0) || not (lies_inside partition 512 image_length)
 
--- whether each condition of the layout fails, for the header of an image of a length
-abbrev pub layout_faults : Header → ℕ → List Bool
-layout_faults header image_length =
-    -- 1: the image is no longer than 64 MiB
+-- whether each condition of the layout fails, for the header of an image of a length. 1: the image is no longer than
+-- 64 MiB; 2: one or two partitions
+abbrev pub count_faults : Header → ℕ → List Bool
+count_faults header image_length =
     nat_lt max_length image_length
-    -- 2: one or two partitions
     ∷ not (header.parts == 1 || header.parts == 2)
-    -- 3: the active byte names a table
-    ∷ not (header.active == 0 || header.active == 1)
-    -- 4: the size of a table
+    ∷ []
+
+-- 3: the active byte names a table; 4: the size of a table; 5, 6: both tables lie in the image behind its first 512 bytes
+abbrev pub table_faults : Header → ℕ → List Bool
+table_faults header image_length =
+    not (header.active == 0 || header.active == 1)
     ∷ (nat_lt header.table_size 0x44 || nat_lt 65536 header.table_size)
-    -- 5, 6: both tables lie in the image behind its first 512 bytes
     ∷ not (lies_inside (table_at header header.primary) 512 image_length)
     ∷ not (lies_inside (table_at header header.secondary) 512 image_length)
-    -- 7, 8: each descriptor lies in the table, and is no shorter than its first part
-    ∷ is_bad_descriptor header header.desc_a
+    ∷ []
+
+-- 7, 8: each descriptor lies in the table, and is no shorter than its first part; 9: they lie apart
+abbrev pub descriptor_faults : Header → List Bool
+descriptor_faults header =
+    is_bad_descriptor header header.desc_a
     ∷ (header.parts == 2 && is_bad_descriptor header header.desc_b)
-    -- 9: they lie apart
     ∷ (header.parts == 2 && overlap header.desc_a header.desc_b)
-    -- 10, 11: no partition is empty, and each lies in the image behind its first 512 bytes
-    ∷ is_bad_partition header.part_a image_length
+    ∷ []
+
+-- 10, 11: no partition is empty, and each lies in the image behind its first 512 bytes; 12: the tables and the
+-- partitions lie apart
+abbrev pub partition_faults : Header → ℕ → List Bool
+partition_faults header image_length =
+    is_bad_partition header.part_a image_length
     ∷ (header.parts == 2 && is_bad_partition header.part_b image_length)
-    -- 12: the tables and the partitions lie apart
     ∷ some_overlap (regions header)
     ∷ []
+
+-- all twelve, in order
+abbrev pub layout_faults : Header → ℕ → List Bool
+layout_faults header image_length = count_faults header image_length ++ table_faults header image_length ++ descriptor_faults header ++ partition_faults header image_length
 
 -- the number of the first condition that fails, where the first of the list has the number n
 abbrev pub first_failing : ℕ → List Bool → Option ℕ
@@ -73,13 +89,17 @@ abbrev pub checked : Header → Option ℕ → Result Header HeaderFault
 checked header None = Ok header
 checked header (Some condition) = Err (Layout condition)
 
-abbrev pub reading_as : Option Kind → List ℕ → Result Header HeaderFault
-reading_as None image = Err NotImage
-reading_as (Some kind) image = if word_at image 0x04 == version_of kind then checked (fields_of kind image) (first_failing 1 (layout_faults (fields_of kind image) (length image))) else Err Version
+abbrev pub reading_as : Option Kind → List ℕ → ℕ → Result Header HeaderFault
+reading_as None image image_length = Err NotImage
+reading_as (Some kind) image image_length = if word_at image 0x04 == version_of kind then checked (fields_of kind image) (first_failing 1 (layout_faults (fields_of kind image) image_length)) else Err Version
+
+-- the header that these bytes give an image of a length, or the first fault
+unfoldable pub reading_of : List ℕ → ℕ → Result Header HeaderFault
+reading_of image image_length = if nat_lt image_length 512 then Err NotImage else reading_as (kind_of image) image image_length
 
 -- the header of an image, or the first fault
-unfoldable pub reading : List ℕ → Result Header HeaderFault
-reading image = if nat_lt (length image) 512 then Err NotImage else reading_as (kind_of image) image
+abbrev pub reading : List ℕ → Result Header HeaderFault
+reading image = reading_of image (length image)
 
 -- the first 512 bytes of an image, with zeros after its end
 abbrev pub first_bytes : List ℕ → List ℕ

@@ -1,3 +1,5 @@
 pub mod Extents
 pub mod Fields
 pub mod Conditions
+pub mod Sound
+pub mod Raw

@@ -11,8 +11,21 @@ pub enum HeaderFault {
     /// The version is not the kind's.
     #[error("a version that is not known")]
     Version,
-    /// The header's fields do not fit each other or the image: the number, from 1 on, of the first
-    /// condition of the layout that fails.
+    /// The header's fields do not fit each other or the image. The number is that of the first
+    /// condition that fails, from 1 on:
+    ///
+    /// 1. the image has at most 64 MiB;
+    /// 2. there are one or two partitions;
+    /// 3. the active byte is 0 or 1;
+    /// 4. a table has 0x44 to 65,536 bytes;
+    /// 5. the primary table lies in the image, from byte 512 on;
+    /// 6. so does the secondary table;
+    /// 7. descriptor A lies in the table, and has at least 0x44 bytes;
+    /// 8. so does descriptor B, where there are two partitions;
+    /// 9. the two descriptors lie apart;
+    /// 10. partition A is not empty, and lies in the image from byte 512 on;
+    /// 11. so does partition B, where there are two;
+    /// 12. the tables and the partitions lie apart, each from each.
     #[error("condition {condition} of the layout fails")]
     Layout { condition: u8 },
 }

@@ -3,6 +3,13 @@
 
 mod fault;
 mod header;
+pub mod laws;
+mod layout;
+mod reading;
+mod sector;
 
 pub use fault::HeaderFault;
 pub use header::{Extent, Header, Kind};
+
+#[cfg(test)]
+mod tests;

@@ -1,0 +1,28 @@
+-- What a desk over a file shows.
+use Rattle.std.specs.Prelude.{None, IsNone}
+use Rattle.save_disk.specs.declared.file.FileDesk.{FileDesk}
+use Rattle.save_disk.specs.State.{State, IsSound}
+use Rattle.save_disk.specs.Grains.{known_grain}
+
+abbrev pub file_state : FileDesk → State
+file_state desk = record {
+  told = None;
+  size = desk.size;
+  grain = desk.grain;
+  counts = record { disk = desk.disk; source = desk.source; sink = desk.sink };
+}
+
+-- no file is open
+abbrev pub IsClosed : FileDesk → Type 0
+IsClosed desk = IsNone desk.opened
+
+-- the standard streams are not its own
+abbrev pub IsMute : FileDesk → Type 0
+IsMute desk = IsNone desk.streams
+
+pub record StaysClosed (before after : FileDesk) : Type 0 where
+  pub closed : IsClosed before → IsClosed after
+  pub mute : IsMute before → IsMute after
+
+pub is_sound : (desk : FileDesk) → IsSound (file_state desk)
+is_sound desk = record { grain = known_grain desk.grain desk.is_known; size = desk.is_small; told_size = tt; told_grain = tt }

@@ -1,0 +1,11 @@
+pub mod Trace
+pub mod State
+pub mod Stops
+pub mod Grains
+pub mod Calls
+pub mod CallLogs
+pub mod KeptEvents
+pub mod Traces
+pub mod Memory
+pub mod MemDesks
+pub mod FileDesks

@@ -1,0 +1,49 @@
+-- What a stop may leave: each sector by itself is what the last sync kept, or any later write to it.
+use Rattle.std.specs.Prelude.{ℕ, ◌-◌, ◌*◌, ◌<◌, ◌≡◌, ◌⊎◌, Bool, true, false, ◌||◌, if◌then◌else◌, List, [], ◌∷◌, ◌++◌, length, take, Option, Some}
+use Rattle.save_disk.specs.Trace.{Event, Write, Sync, Said, Told, sector_cut, image_after}
+
+abbrev pub is_sync : Event → Bool
+is_sync Sync = true
+is_sync (Write sector bytes) = false
+is_sync (Said bytes) = false
+
+abbrev pub has_sync : List Event → Bool
+has_sync [] = false
+has_sync (event ∷ events) = is_sync event || has_sync events
+
+-- the events up to the last sync, and those behind it
+abbrev pub synced : List Event → List Event
+synced [] = []
+synced (event ∷ events) = if has_sync (event ∷ events) then event ∷ synced events else []
+
+abbrev pub unsynced : List Event → List Event
+unsynced [] = []
+unsynced (event ∷ events) = if has_sync (event ∷ events) then unsynced events else event ∷ events
+
+-- this write to the sector is among the events
+abbrev pub HasWrite : List Event → ℕ → List ℕ → Type 0
+HasWrite [] sector bytes = ⊥
+HasWrite (event ∷ events) sector bytes = (event ≡ Write sector bytes) ⊎ HasWrite events sector bytes
+
+-- a sector's bytes that a stop may leave, cut to the image
+abbrev pub IsVersion : ℕ → List ℕ → List Event → ℕ → List ℕ → Type 0
+IsVersion grain start events sector piece =
+    (piece ≡ sector_cut grain (image_after grain start (synced events)) sector)
+    ⊎ ((bytes : List ℕ) × HasWrite (unsynced events) sector bytes × (piece ≡ take (length start - sector * grain) bytes))
+
+-- each sector of the image is one of its versions
+pub record CrashMayLeave (grain : ℕ) (start : List ℕ) (events : List Event) (image : List ℕ) : Type 0 where
+  pub size : length image ≡ length start
+  pub sectors : (sector : ℕ) → sector * grain < length start → IsVersion grain start events sector (sector_cut grain image sector)
+
+-- no event is a write
+abbrev pub HasNoWrite : List Event → Type 0
+HasNoWrite events = (sector : ℕ) (bytes : List ℕ) → HasWrite events sector bytes → ⊥
+
+-- at each moment of the events: of each of their fronts
+abbrev pub AtEachMoment : (List Event → Type 0) → List Event → Type 0
+AtEachMoment P events = (moment : ℕ) → P (take moment events)
+
+-- since then there were such events, and nothing else
+abbrev pub Since : (List Event → Type 0) → Told → Option Told → Type 0
+Since P before after = (events : List Event) × P events × (after ≡ Some (record before { events = before.events ++ events }))

@@ -1,0 +1,101 @@
+-- How calls of a desk add up.
+use Rattle.std.proofs.Common.{◌≡◌, ℕ, zero, suc, ◌+◌, ◌≤◌, List, [], ◌∷◌, ◌++◌, Option, Some, None, take, drop, refl, sym, ◌∙◌, ap, arith, append_assoc}
+use Rattle.std.specs.Option.{option_map}
+use Rattle.std.proofs.lemmas.List.{append-nil, take-append-drop}
+use Rattle.save_disk.specs.Trace.{Event, Write, Sync, Said, Told, OnlySays, said_of}
+use Rattle.save_disk.specs.State.{State, IsSteady, IsQuiet, Happens, then_event}
+use Rattle.save_disk.specs.Stops.{Since, AtEachMoment}
+use Rattle.save_top.specs.Output.{IsFront, SaysFront, SaysAll, Tells}
+
+-- nothing was written or synced, and with the rest what was said is the text
+pub record SaysBefore (rest text : List ℕ) (events : List Event) : Type 0 where
+  pub only : OnlySays events
+  pub front : said_of events ++ rest ≡ text
+
+pub said_of-push : (events : List Event) (bytes : List ℕ) → said_of (events ++ Said bytes ∷ []) ≡ said_of events ++ bytes
+said_of-push [] bytes = append-nil bytes
+said_of-push (Said first ∷ events) bytes = ap (λ (l : List ℕ). first ++ l) (said_of-push events bytes) ∙ sym (append_assoc first (said_of events) bytes)
+said_of-push (Write sector written ∷ events) bytes = said_of-push events bytes
+said_of-push (Sync ∷ events) bytes = said_of-push events bytes
+
+pub OnlySays-push : (events : List Event) (bytes : List ℕ) → OnlySays events → OnlySays (events ++ Said bytes ∷ [])
+OnlySays-push [] bytes only = tt
+OnlySays-push (Said first ∷ events) bytes only = OnlySays-push events bytes only
+OnlySays-push (Write sector written ∷ events) bytes only = absurd only
+OnlySays-push (Sync ∷ events) bytes only = absurd only
+
+with_events : Told → List Event → Told
+with_events told events = record told { events = events }
+
+pub steady_start : (state : State) → IsSteady state state
+steady_start state = record { size = refl; grain = refl; disk = omega arith; source = omega arith; sink = omega arith }
+
+pub steady_join : (one two three : State) → IsSteady one two → IsSteady two three → IsSteady one three
+steady_join one two three before after = record {
+  size = after.size ∙ before.size;
+  grain = after.grain ∙ before.grain;
+  disk = omega (arith, before.disk, after.disk);
+  source = omega (arith, before.source, after.source);
+  sink = omega (arith, before.sink, after.sink);
+}
+
+module _ (P : List Event → Type 0) where
+  -- before the first call
+  pub tells_start : (state : State) → P [] → Tells P state state
+  tells_start state none = λ told is. ([], none, is ∙ ap (λ (events : List Event). Some (record told { events = events })) (sym (append-nil told.events)))
+
+  -- a call that adds nothing
+  pub tells_quiet : (one two three : State) → Tells P one two → IsQuiet two three → Tells P one three
+  tells_quiet one two three so_far quiet = λ told is. let before = so_far told is in (before.0, before.1, quiet ∙ before.2)
+
+  -- a call that adds an event
+  pub tells_more : (Q : List Event → Type 0) (event : Event) (one two three : State) → Tells P one two → Happens event two three → ((events : List Event) → P events → Q (events ++ event ∷ [])) → Tells Q one three
+  tells_more Q event one two three so_far happens more = λ told is.
+      let before = so_far told is in (
+        before.0 ++ event ∷ [],
+        more before.0 before.1,
+        happens ∙ ap (λ (o : Option Told). option_map (then_event event) o) before.2 ∙ ap (λ (events : List Event). Some (record told { events = events })) (append_assoc told.events before.0 (event ∷ [])),
+      )
+
+  pub tells_weaker : (Q : List Event → Type 0) (one two : State) → Tells P one two → ((events : List Event) → P events → Q events) → Tells Q one two
+  tells_weaker Q one two so_far weaker = λ told is. let before = so_far told is in (before.0, weaker before.0 before.1, before.2)
+
+-- a piece more was said
+pub said_more : (text rest next : List ℕ) (n : ℕ) (events : List Event) → next ≡ drop n rest → SaysBefore rest text events → SaysBefore next text (events ++ Said (take n rest) ∷ [])
+said_more text rest next n events is before = record {
+  only = OnlySays-push events (take n rest) before.only;
+  front = ap (λ (l : List ℕ). said_of (events ++ Said (take n rest) ∷ []) ++ l) is ∙ ap (λ (l : List ℕ). l ++ drop n rest) (said_of-push events (take n rest)) ∙ append_assoc (said_of events) (take n rest) (drop n rest) ∙ ap (λ (l : List ℕ). said_of events ++ l) (take-append-drop n rest) ∙ before.front;
+}
+
+pub said_front : (text rest : List ℕ) (events : List Event) → SaysBefore rest text events → SaysFront text events
+said_front text rest events before = record { only = before.only; front = (rest, before.front) }
+
+pub said_all : (text : List ℕ) (events : List Event) → SaysBefore [] text events → SaysAll text events
+said_all text events before = record { only = before.only; whole = sym (append-nil (said_of events)) ∙ before.front }
+
+only_front : (events : List Event) (moment : ℕ) → OnlySays events → OnlySays (take moment events)
+only_front events zero only = tt
+only_front [] (suc moment) only = tt
+only_front (Said bytes ∷ events) (suc moment) only = only_front events moment only
+only_front (Write sector bytes ∷ events) (suc moment) only = absurd only
+only_front (Sync ∷ events) (suc moment) only = absurd only
+
+said_front_of : (events : List Event) (moment : ℕ) → IsFront (said_of (take moment events)) (said_of events)
+said_front_of events zero = (said_of events, refl)
+said_front_of [] (suc moment) = ([], refl)
+said_front_of (Said bytes ∷ events) (suc moment) =
+    let rest = said_front_of events moment in (rest.0, append_assoc bytes (said_of (take moment events)) rest.0 ∙ ap (λ (l : List ℕ). bytes ++ l) rest.1)
+said_front_of (Write sector bytes ∷ events) (suc moment) = said_front_of events moment
+said_front_of (Sync ∷ events) (suc moment) = said_front_of events moment
+
+-- what was said by an earlier moment is a front too
+pub front_at_each_moment : (text : List ℕ) (events : List Event) → SaysFront text events → AtEachMoment (SaysFront text) events
+front_at_each_moment text events says = λ moment.
+    let earlier = said_front_of events moment in
+    record {
+      only = only_front events moment says.only;
+      front = (
+        earlier.0 ++ says.front.0,
+        sym (append_assoc (said_of (take moment events)) earlier.0 says.front.0) ∙ ap (λ (l : List ℕ). l ++ says.front.0) earlier.1 ∙ says.front.1,
+      );
+    }

@@ -1,0 +1,13 @@
+use Rattle.std.proofs.Common.{length}
+use Rattle.save_disk.specs.State.{IsSteady}
+use Rattle.save_top.specs.Output.{Tells}
+use Rattle.save_top.proofs.Telling.{SaysBefore}
+use Rattle.save_top.proofs.voice.say_all.Given as goal
+
+abbrev pub invariant-loop-rest : goal.invariant-loop-rest
+invariant-loop-rest g l =
+    let state = g.D.Disk.state in
+    Tells (SaysBefore l.rest l.bytes) (state l.initial.desk) (state l.desk) × IsSteady (state l.initial.desk) (state l.desk)
+
+abbrev pub decreases-loop-rest : goal.decreases-loop-rest
+decreases-loop-rest g l = length l.rest
