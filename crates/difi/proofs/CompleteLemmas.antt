@@ -87,7 +87,7 @@ has_bad_external-none difi part_len h =
     external_inside difi.external (external_extent difi) (pairs difi) part_len (λ e. (h e).inside)
     (λ e. list_any-apart (external_extent difi) (pairs difi) ((h e).apart1, ((h e).apart2, ((h e).apart3, tt))))
 
-levels_pass : (difi : Difi) (part_len : ℕ) → HasSoundLevels difi part_len → verdict (level_tests difi part_len) ≡ Ok tt
+pub levels_pass : (difi : Difi) (part_len : ℕ) → HasSoundLevels difi part_len → verdict (level_tests difi part_len) ≡ Ok tt
 unfolding level_tests
 levels_pass difi part_len h =
     passes _ _ _ (has_bad_log-none difi h.block_sizes)

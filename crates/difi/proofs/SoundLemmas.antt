@@ -129,13 +129,13 @@ external_level difi part_len h external =
     record { inside = ends_inside (external_extent difi) part_len parts.0; apart1 = apart.0; apart2 = apart.1.0; apart3 = apart.1.1.0 }
 
 -- what the tests on the levels give
-record HasLevels (difi : Difi) (part_len : ℕ) : Type 0 where
-  block_sizes : HasBlockSizes difi
-  copies : HasCopies difi part_len
-  hash_levels : HasHashLevels difi
-  external_level : difi.external ≡ true → HasExternalLevel difi part_len
+pub record HasLevels (difi : Difi) (part_len : ℕ) : Type 0 where
+  pub block_sizes : HasBlockSizes difi
+  pub copies : HasCopies difi part_len
+  pub hash_levels : HasHashLevels difi
+  pub external_level : difi.external ≡ true → HasExternalLevel difi part_len
 
-on_levels : (difi : Difi) (part_len : ℕ) → verdict (level_tests difi part_len) ≡ Ok tt → HasLevels difi part_len
+pub on_levels : (difi : Difi) (part_len : ℕ) → verdict (level_tests difi part_len) ≡ Ok tt → HasLevels difi part_len
 unfolding level_tests
 on_levels difi part_len h =
     let logs = holds _ _ _ h in

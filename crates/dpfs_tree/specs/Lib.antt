@@ -1,0 +1,4 @@
+pub mod Picks
+pub mod Marks
+pub mod View
+pub mod Held

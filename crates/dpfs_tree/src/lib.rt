@@ -1,0 +1,13 @@
+//! The double-copy tree of a partition: of each level there are two copies, and bits choose which one counts.
+#![tactic(auto)]
+
+mod bits;
+mod places;
+mod state;
+mod view;
+
+pub use state::DpfsState;
+pub use view::DpfsView;
+
+#[cfg(test)]
+mod tests;

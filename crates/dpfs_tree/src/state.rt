@@ -1,0 +1,52 @@
+//! What a double-copy tree keeps between its views.
+
+ghost use Rattle.std.specs.Prelude.{◌≡◌, ℕ, ◌<◌, IfOk};
+ghost use Rattle.difi.specs.Sound.{HasBlockSizes};
+ghost use Rattle.dpfs_tree.specs.Picks.{chosen, view_size};
+ghost use Rattle.dpfs_tree.specs.Marks.{is_marked, place_of, IsFresh};
+
+use difi::Difi;
+use std::alloc::{AllocError, Global};
+
+/// Which copy of level 1 is chosen, and which blocks of level 3 are touched: those are read from the copy that
+/// is not chosen.
+#[derive(Drop)]
+pub struct DpfsState {
+    selector: u8,
+    touched: Vec<bool>,
+}
+
+impl DpfsState {
+    /// The state of a descriptor's tree in which no block is touched.
+    ///
+    /// # Errors
+    ///
+    /// Where memory runs out.
+    pub fn new(alloc: Global, difi: &Difi) -> Result<DpfsState, AllocError>
+        requires { HasBlockSizes difi.now }
+        ensures fresh { IfOk result (IsFresh difi.now) }
+        // The view that it gives has the chosen bytes of level 3, then those of external level four.
+        ensures chosen { IfOk result (λ state. (bytes : ℕ → ℕ) (part_at x : ℕ) → x < view_size difi.now
+            → bytes (place_of bytes part_at difi.now state x) ≡ chosen bytes part_at difi.now difi.now.selector x) }
+    {
+        let blocks = difi.dpfs3.size.div_ceil(1 << difi.dpfs3.log);
+        let touched = vec![in alloc; false; blocks as usize]?;
+        Ok(DpfsState {
+            selector: difi.selector,
+            touched,
+        })
+    }
+
+    /// Whether a block of level 3 is touched; one past the last is not.
+    pub fn touched(&self, block: u64) -> bool
+        ensures { result ≡ is_marked self.now.touched.items block }
+    {
+        self.touched.get(block as usize).copied().unwrap_or(false)
+    }
+
+    pub(crate) fn selector(&self) -> u8
+        ensures { result ≡ self.now.selector }
+    {
+        self.selector
+    }
+}

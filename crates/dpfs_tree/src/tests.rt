@@ -1,0 +1,343 @@
+ghost use Rattle.std.specs.Prelude.{◌≡◌, ◌+◌, ◌<◌, ◌≤◌, length, vec_len, IfOk};
+ghost use Rattle.save_bytes.specs.Memory.{memory_shape};
+ghost use Rattle.difi.specs.Sound.{HasSoundLevels};
+ghost use Rattle.dpfs_tree.specs.Picks.{view_size};
+ghost use Rattle.dpfs_tree.specs.View.{HasPartition};
+
+use super::*;
+use difi::{Difi, Extent2, LevelPlace};
+use save_bytes::MemSpace;
+use std::alloc::{AllocError, Global};
+use std::test::Fail;
+
+/// The partition begins here in each base.
+const PART_AT: u64 = 16;
+
+/// Level 3 has 1,030 blocks, so level 2 has 33 words in two blocks.
+fn internal_tree(selector: u8) -> Difi
+    requires { selector < 2 }
+    ensures sound { HasSoundLevels result 264192 }
+    ensures size { view_size result ≡ 131840 }
+{
+    Difi {
+        place: 0,
+        ivfc_at: 0x44,
+        dpfs_at: 0xBC,
+        master: Extent2 {
+            at: 0x10C,
+            size: 32,
+        },
+        external: false,
+        external_at: 0,
+        selector,
+        ivfc1: LevelPlace {
+            at: 0,
+            size: 32,
+            log: 9,
+        },
+        ivfc2: LevelPlace {
+            at: 512,
+            size: 32,
+            log: 9,
+        },
+        ivfc3: LevelPlace {
+            at: 1024,
+            size: 512,
+            log: 9,
+        },
+        ivfc4: LevelPlace {
+            at: 4096,
+            size: 65536,
+            log: 12,
+        },
+        dpfs1: LevelPlace {
+            at: 0,
+            size: 4,
+            log: 0,
+        },
+        dpfs2: LevelPlace {
+            at: 16,
+            size: 132,
+            log: 7,
+        },
+        dpfs3: LevelPlace {
+            at: 512,
+            size: 131840,
+            log: 7,
+        },
+    }
+}
+
+/// Level 3 has two blocks, the last of them short, and 1,000 bytes of level four lie behind its copies.
+fn external_tree() -> Difi
+    ensures sound { HasSoundLevels result 2024 }
+    ensures size { view_size result ≡ 1200 }
+{
+    Difi {
+        place: 0,
+        ivfc_at: 0x44,
+        dpfs_at: 0xBC,
+        master: Extent2 {
+            at: 0x10C,
+            size: 32,
+        },
+        external: true,
+        external_at: 1024,
+        selector: 0,
+        ivfc1: LevelPlace {
+            at: 0,
+            size: 32,
+            log: 9,
+        },
+        ivfc2: LevelPlace {
+            at: 32,
+            size: 32,
+            log: 9,
+        },
+        ivfc3: LevelPlace {
+            at: 64,
+            size: 32,
+            log: 9,
+        },
+        ivfc4: LevelPlace {
+            at: 0,
+            size: 1000,
+            log: 12,
+        },
+        dpfs1: LevelPlace {
+            at: 0,
+            size: 4,
+            log: 0,
+        },
+        dpfs2: LevelPlace {
+            at: 16,
+            size: 4,
+            log: 7,
+        },
+        dpfs3: LevelPlace {
+            at: 512,
+            size: 200,
+            log: 7,
+        },
+    }
+}
+
+/// The byte of a fresh view, or 0 where it is refused.
+fn byte_at(alloc: Global, bytes: &mut [u8], difi: &Difi, at: u64) -> Result<u8, AllocError>
+    requires partition { HasPartition (memory_shape (length bytes.old) 4096) PART_AT difi.now }
+    requires inside { at < view_size difi.now }
+{
+    let mut state = DpfsState::new(alloc, difi)?;
+    let mut space = MemSpace::new(bytes, 4096);
+    let mut view = DpfsView::new(&mut space, PART_AT, difi, &mut state);
+    let byte = match view.piece(at, 1) {
+        Ok(piece) => piece[0],
+        Err(_) => 0,
+    };
+    Ok(byte)
+}
+
+/// Where the bytes from `at` on lie for a fresh view, or nowhere where it is refused.
+fn run_at(
+    alloc: Global,
+    bytes: &mut [u8],
+    difi: &Difi,
+    at: u64,
+    most: usize,
+) -> Result<(u64, usize), AllocError>
+    requires partition { HasPartition (memory_shape (length bytes.old) 4096) PART_AT difi.now }
+    requires inside { at < view_size difi.now }
+    requires some { 1 ≤ most }
+{
+    let mut state = DpfsState::new(alloc, difi)?;
+    let mut space = MemSpace::new(bytes, 4096);
+    let mut view = DpfsView::new(&mut space, PART_AT, difi, &mut state);
+    let run = match view.locate(at, most) {
+        Ok(run) => run,
+        Err(_) => (0, 0),
+    };
+    Ok(run)
+}
+
+/// Bytes in which each byte of level 3's first copy is 1 and of its second copy 2, and a few others are written.
+fn base_with(alloc: Global, written: &[(usize, u8)]) -> Result<Vec<u8>, AllocError>
+    ensures { IfOk result (λ bytes. vec_len bytes ≡ 264208) }
+{
+    let mut bytes = zeros(alloc, 264_208)?;
+    fill(&mut bytes, 528, 1);
+    fill(&mut bytes, 132_368, 2);
+    write(&mut bytes, written);
+    Ok(bytes)
+}
+
+fn zeros(alloc: Global, len: usize) -> Result<Vec<u8>, AllocError>
+    ensures { IfOk result (λ bytes. vec_len bytes ≡ len) }
+{
+    vec![in alloc; 0; len]
+}
+
+fn fill(bytes: &mut [u8], start: usize, byte: u8)
+    requires { start ≤ length bytes.old }
+{
+    bytes[start..].fill(byte);
+}
+
+fn write(bytes: &mut [u8], written: &[(usize, u8)]) {
+    for (place, byte) in written {
+        if *place < bytes.len() {
+            bytes[*place] = *byte;
+        }
+    }
+}
+
+/// Byte 5 of a block of level 3.
+fn block_byte(
+    alloc: Global,
+    written: &[(usize, u8)],
+    selector: u8,
+    block: u64,
+) -> Result<u8, AllocError>
+    requires selector { selector < 2 }
+    requires block { block < 1030 }
+{
+    let difi = internal_tree(selector);
+    let mut bytes = base_with(alloc, written)?;
+    byte_at(alloc, &mut bytes, &difi, 128 * block + 5)
+}
+
+#[test]
+fn first_word_chooses_blocks_from_the_high_end(rt: HostRuntime) -> Result<(), Fail> {
+    let word = [(32, 0x01), (33, 0x00), (34, 0x00), (35, 0x40)];
+    for block in 0..40u64 {
+        let want = if block == 1 || block == 31 { 2 } else { 1 };
+        assert_eq!(rt; block_byte(rt.alloc(), &word, 0, block)?, want);
+    }
+    Ok(())
+}
+
+#[test]
+fn later_words_choose_later_blocks(rt: HostRuntime) -> Result<(), Fail> {
+    let words = [(39, 0x80), (40, 0x02)];
+    for (block, want) in [
+        (0u64, 1u8),
+        (31, 1),
+        (32, 2),
+        (33, 1),
+        (63, 1),
+        (93, 1),
+        (94, 2),
+        (95, 1),
+        (1029, 1),
+    ] {
+        assert!(rt; block < 1030);
+        assert_eq!(rt; block_byte(rt.alloc(), &words, 0, block)?, want);
+    }
+    Ok(())
+}
+
+#[test]
+fn level_1_chooses_between_copies_that_differ_in_one_bit(rt: HostRuntime) -> Result<(), Fail> {
+    // Byte 75 of level 2, in its first copy and in its second.
+    let first = [(107, 0x55), (239, 0x54)];
+    let second = [(107, 0x55), (239, 0x54), (19, 0x80)];
+    for (block, by_first, by_second) in [
+        (581u64, 2u8, 2u8),
+        (582, 1, 1),
+        (583, 2, 1),
+        (584, 1, 1),
+    ] {
+        assert!(rt; block < 1030);
+        assert_eq!(rt; block_byte(rt.alloc(), &first, 0, block)?, by_first);
+        assert_eq!(rt; block_byte(rt.alloc(), &second, 0, block)?, by_second);
+    }
+    Ok(())
+}
+
+#[test]
+fn both_copies_of_each_level_are_in_use(rt: HostRuntime) -> Result<(), Fail> {
+    // Level 1's copies choose opposite copies of level 2's two blocks, and these choose opposite copies of level 3's.
+    let bits = [
+        (19, 0x80),
+        (23, 0x40),
+        (35, 0x80),
+        (163, 0x80),
+        (167, 0x40),
+        (295, 0x40),
+    ];
+    for (block, by_first, by_second) in [
+        (0u64, 1u8, 2u8),
+        (1, 2, 1),
+        (2, 1, 1),
+        (1024, 2, 1),
+        (1025, 1, 2),
+        (1026, 1, 1),
+    ] {
+        assert!(rt; block < 1030);
+        assert_eq!(rt; block_byte(rt.alloc(), &bits, 0, block)?, by_first);
+        assert_eq!(rt; block_byte(rt.alloc(), &bits, 1, block)?, by_second);
+    }
+    Ok(())
+}
+
+#[test]
+fn external_level_four_follows_level_3(rt: HostRuntime) -> Result<(), Fail> {
+    let difi = external_tree();
+    let mut memory = vec![in rt.alloc(); 0u8; 2040]?;
+    let bytes = &mut memory[..];
+    bytes[528..728].fill(1);
+    bytes[728..928].fill(2);
+    bytes[1040..2040].fill(8);
+    bytes[1040] = 7;
+    bytes[2039] = 9;
+    bytes[35] = 0x40;
+    for (at, want) in [
+        (0u64, 1u8),
+        (127, 1),
+        (128, 2),
+        (199, 2),
+        (200, 7),
+        (201, 8),
+        (1199, 9),
+    ] {
+        assert!(rt; at < 1200);
+        assert_eq!(rt; byte_at(rt.alloc(), bytes, &difi, at)?, want);
+    }
+    Ok(())
+}
+
+#[test]
+fn runs_end_with_their_block(rt: HostRuntime) -> Result<(), Fail> {
+    let difi = external_tree();
+    let mut memory = vec![in rt.alloc(); 0u8; 2040]?;
+    let bytes = &mut memory[..];
+    bytes[35] = 0x40;
+    for (at, most, place, count) in [
+        (0u64, 1000usize, 528u64, 128usize),
+        (100, 10, 628, 10),
+        (100, 1000, 628, 28),
+        (128, 1000, 856, 72),
+        (199, 5, 927, 1),
+        (200, 5, 1040, 5),
+        (200, 5000, 1040, 1000),
+        (1199, 1, 2039, 1),
+    ] {
+        assert!(rt; at < 1200);
+        assert!(rt; 1 <= most);
+        assert_eq!(rt; run_at(rt.alloc(), bytes, &difi, at, most)?, (place, count));
+    }
+    Ok(())
+}
+
+#[test]
+fn no_block_of_a_new_state_is_touched(rt: HostRuntime) -> Result<(), Fail> {
+    let difi = external_tree();
+    let mut state = DpfsState::new(rt.alloc(), &difi)?;
+    for block in [0u64, 1, 2, u64::MAX] {
+        assert!(rt; !state.touched(block));
+    }
+    let mut bytes = [0; 2040];
+    let mut space = MemSpace::new(&mut bytes, 4096);
+    let view = DpfsView::new(&mut space, PART_AT, &difi, &mut state);
+    assert_eq!(rt; view.len(), 1200);
+    Ok(())
+}
