@@ -37,6 +37,22 @@ can_view base part_at difi state =
     && (nat_lt difi.selector 2 && (is_ok (verdict (level_tests difi (base.size - part_at)))
     && ((length state.touched.items == blocks_of difi.dpfs3) && nat_lt state.selector 2)))))))
 
+-- what follows for the place of each level, where the base's size is a number of 64 bits
+pub record HasTree (base : Shape) (part_at : ℕ) (difi : Difi) (selector : ℕ) : Type 0 where
+  pub sound : IsTrue base.sound
+  pub plain : IsTrue base.plain
+  pub small : base.size < 2 ^ 64
+  pub one_of_two : selector < 2
+  pub log2 : IsBetween 7 16 difi.dpfs2.log
+  pub log3 : IsBetween 7 16 difi.dpfs3.log
+  pub level1 : part_at + difi.dpfs1.at + 2 * difi.dpfs1.size ≤ base.size
+  pub level2 : part_at + difi.dpfs2.at + 2 * difi.dpfs2.size ≤ base.size
+  pub level3 : part_at + difi.dpfs3.at + 2 * difi.dpfs3.size ≤ base.size
+  pub bits1 : bitmap_size difi.dpfs2 ≤ difi.dpfs1.size
+  pub bits2 : bitmap_size difi.dpfs3 ≤ difi.dpfs2.size
+  pub external : difi.external ≡ true → part_at + difi.external_at + difi.ivfc4.size ≤ base.size
+  pub view_fits : view_size difi ≤ base.size
+
 -- the bytes of a view are those of its base at their places; it has neither twins nor fixed places
 abbrev pub view_state : State → ℕ → Difi → DpfsState → State
 view_state base part_at difi state = record {
@@ -56,7 +72,7 @@ view_state base part_at difi state = record {
   faults = base.faults;
 }
 
--- a call that reads the base and changes nothing in it; a plain base is never damaged
+-- a call that changes nothing in the base and leaves each spot alone
 pub record Reads {A : Type 0} (states : A → State) (keeps : Spot → A → A → Type 0) (lands : A → ℕ → Spot → Type 0) (old new : A) (refusal : Option Bad) : Type 0 where
   pub stays : Stays (states old) (states new) refusal
   pub unmoved : Unmoved keeps lands (states old) old new refusal
@@ -71,19 +87,3 @@ pub record IsLocated (base : State) (part_at : ℕ) (difi : Difi) (state : DpfsS
   pub in_base : IfOk result (λ run. run.0 + run.1 ≤ base.shape.size)
   pub places : IsTrue base.told → IfOk result (λ run. (k : ℕ) → k < run.1 → place_of (bytes_of base.cells) part_at difi state (at + k) ≡ run.0 + k)
   pub plain : NeverDamaged (result_err result)
-
--- the same facts as plain bounds, in a base whose size is a number of 64 bits
-pub record HasTree (base : Shape) (part_at : ℕ) (difi : Difi) (selector : ℕ) : Type 0 where
-  pub sound : IsTrue base.sound
-  pub plain : IsTrue base.plain
-  pub small : base.size < 2 ^ 64
-  pub one_of_two : selector < 2
-  pub log2 : IsBetween 7 16 difi.dpfs2.log
-  pub log3 : IsBetween 7 16 difi.dpfs3.log
-  pub level1 : part_at + difi.dpfs1.at + 2 * difi.dpfs1.size ≤ base.size
-  pub level2 : part_at + difi.dpfs2.at + 2 * difi.dpfs2.size ≤ base.size
-  pub level3 : part_at + difi.dpfs3.at + 2 * difi.dpfs3.size ≤ base.size
-  pub bits1 : bitmap_size difi.dpfs2 ≤ difi.dpfs1.size
-  pub bits2 : bitmap_size difi.dpfs3 ≤ difi.dpfs2.size
-  pub external : difi.external ≡ true → part_at + difi.external_at + difi.ivfc4.size ≤ base.size
-  pub view_fits : view_size difi ≤ base.size
