@@ -3,7 +3,7 @@ ghost use Rattle.std.proofs.Common.{◌∙◌};
 ghost use Rattle.std.specs.Result.{result_err};
 ghost use Rattle.save_bytes.specs.Cells.{Byte};
 ghost use Rattle.save_bytes.specs.Refusals.{NeverDamaged};
-ghost use Rattle.save_bytes.specs.Answers.{IsReady};
+ghost use Rattle.save_bytes.specs.Answers.{IsReady, IsClearReady};
 ghost use Rattle.save_bytes.specs.State.{IsInside, IsWritable};
 ghost use Rattle.save_bytes.specs.Stays.{Stays};
 ghost use Rattle.save_bytes.specs.Puts.{Puts};
@@ -131,6 +131,29 @@ fn clear_and_read<F: Floor>(space: &mut F, at: u64) -> Result<u8, Bad>
     read_one(space, at)
 }
 
+// Where the block of a place lies, once it is known that it may be cleared.
+fn clearable_block<F: Floor>(space: &mut F, at: u64) -> Result<(u64, u64), Bad>
+    requires { IsInside (F.state space.old).shape at 1 }
+    ensures block { IfOk result (λ block. (block.0 ≡ (F.state space.old).shape.block_start at) × (block.1 ≡ (F.state space.old).shape.block_len at)) }
+    ensures ready { IsClearReady (F.state space.old) at (result_err result) }
+    ensures stays { Stays (F.state space.old) (F.state space.new) (result_err result) }
+    ensures unmoved { Unmoved F.keeps F.lands (F.state space.old) space.old space.new (result_err result) }
+{
+    let block = space.block_of(at);
+    match space.clear_ready(at) {
+        Ok(()) => Ok(block),
+        Err(bad) => Err(bad),
+    }
+}
+
+// How many bytes a space has, asked through its bound.
+fn size_of_space<S: Space>(space: &S) -> u64
+    requires { IsTrue (S.state space.now).shape.sound }
+    ensures { result ≡ (S.state space.now).shape.size }
+{
+    space.len()
+}
+
 // A floor has no twins and no fixed places, so each place of it may be written.
 fn put_on_floor<F: Floor>(space: &mut F, at: u64, bytes: &[u8]) -> Result<(), Bad>
     requires { IsInside (F.state space.old).shape at (length bytes.now) }
@@ -218,8 +241,8 @@ fn the_last_block_is_cut_by_the_end(rt: HostRuntime) -> Result<(), Fail> {
         let mut bytes = [1, 2, 3, 4, 5, 6, 7, 8, 9, 10];
         let mut space = MemSpace::new(&mut bytes, 4);
         assert!(rt; at < 10);
-        assert_eq!(rt; space.block_of(at), block, "at {at}");
-        space.clear_ready(at)?;
+        assert_eq!(rt; size_of_space(&space), 10);
+        assert_eq!(rt; clearable_block(&mut space, at)?, block, "at {at}");
         space.clear(at)?;
         assert_eq!(rt; bytes, want, "at {at}");
     }
