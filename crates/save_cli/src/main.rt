@@ -1,7 +1,9 @@
 //! The program on a file and the standard streams.
 #![tactic(auto)]
 
-ghost use Rattle.std.specs.Prelude.{◌≡◌, ◌≤◌, ◌↔◌, Some, IsSome, IfSome};
+ghost use Rattle.std.specs.Prelude.{◌≡◌, ◌≤◌, ◌↔◌, None, Some, IsSome, IfSome};
+ghost use Rattle.save_disk.specs.FileDesks.{IsClosed};
+ghost use Rattle.save_top.specs.Words.{order_of};
 ghost use Rattle.save_cli.specs.Complaint.{complaint_of};
 
 use save_bytes::Words;
@@ -27,7 +29,9 @@ fn words_of(rt: &HostRuntime) -> Result<Words, AllocError> {
 }
 
 // The desk for these words: words that are no form touch no file.
-fn desk_for<'a>(rt: &'a HostRuntime, words: &Words) -> FileDesk<'a> {
+fn desk_for<'a>(rt: &'a HostRuntime, words: &Words) -> FileDesk<'a>
+    ensures { order_of words.now ≡ None → IsClosed result }
+{
     if Order::read(words).is_none() || words.count() == 0 {
         return FileDesk::none(rt);
     }
