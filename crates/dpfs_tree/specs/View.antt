@@ -1,11 +1,9 @@
 -- What a contract sees of a view through the double-copy tree.
-use Rattle.std.specs.Prelude.{◌≡◌, ℕ, ◌+◌, ◌-◌, ◌*◌, ◌^◌, ◌<◌, ◌≤◌, min, Bool, true, false, ◌&&◌, not, ◌==◌, nat_lt, nat_le, IsTrue, IsFalse, length, Option, Result, IfOk, is_ok}
+use Rattle.std.specs.Prelude.{◌≡◌, ℕ, ◌+◌, ◌-◌, ◌*◌, ◌^◌, ◌<◌, ◌≤◌, min, Bool, true, false, ◌&&◌, not, ◌==◌, nat_lt, nat_le, IsTrue, IsFalse, length, Result, IfOk, is_ok}
 use Rattle.std.specs.Result.{result_err}
 use Rattle.save_bytes.specs.declared.space.Bad.{Bad}
 use Rattle.save_bytes.specs.State.{State, Shape}
 use Rattle.save_bytes.specs.Refusals.{NeverDamaged}
-use Rattle.save_bytes.specs.Stays.{Stays}
-use Rattle.save_bytes.specs.Spots.{Spot, Unmoved}
 use Rattle.difi.specs.declared.descriptor.Difi.{Difi}
 use Rattle.difi.specs.Places.{blocks_of, bitmap_size}
 use Rattle.difi.specs.Conditions.{level_tests, verdict}
@@ -71,11 +69,6 @@ view_state base part_at difi state = record {
   is_fixed = λ x. false;
   faults = base.faults;
 }
-
--- a call that changes nothing in the base and leaves each spot alone
-pub record Reads {A : Type 0} (states : A → State) (keeps : Spot → A → A → Type 0) (lands : A → ℕ → Spot → Type 0) (old new : A) (refusal : Option Bad) : Type 0 where
-  pub stays : Stays (states old) (states new) refusal
-  pub unmoved : Unmoved keeps lands (states old) old new refusal
 
 -- Where the bytes from `at` on lie in the base, and how many lie there in one piece: as many as are asked for, up to the
 -- end of the block or of external level four.

@@ -6,7 +6,8 @@ ghost use Rattle.save_bytes.specs.State.{IsInside};
 ghost use Rattle.save_bytes.specs.Refusals.{NeverDamaged};
 ghost use Rattle.difi.specs.Places.{blocks_of};
 ghost use Rattle.dpfs_tree.specs.Picks.{bytes_of, bit_of, pick1, pick2};
-ghost use Rattle.dpfs_tree.specs.View.{HasTree, Reads};
+ghost use Rattle.save_bytes.specs.Reads.{Reads};
+ghost use Rattle.dpfs_tree.specs.View.{HasTree};
 
 use difi::{Difi, LevelPlace};
 use save_bytes::{Bad, Space, space_u32};

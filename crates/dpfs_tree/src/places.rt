@@ -6,7 +6,8 @@ ghost use Rattle.save_bytes.specs.State.{IsInside};
 ghost use Rattle.save_bytes.specs.Refusals.{NeverDamaged};
 ghost use Rattle.dpfs_tree.specs.Picks.{bytes_of, view_size};
 ghost use Rattle.dpfs_tree.specs.Marks.{is_marked, copy_read, place_of, run_of};
-ghost use Rattle.dpfs_tree.specs.View.{view_state, HasTree, Reads, IsLocated};
+ghost use Rattle.save_bytes.specs.Reads.{Reads};
+ghost use Rattle.dpfs_tree.specs.View.{view_state, HasTree, IsLocated};
 
 use crate::bits::{copy_start, level3_copy};
 use crate::state::DpfsState;

@@ -1,8 +1,8 @@
 -- Laws of the numbers at places of a list of bytes.
-use Rattle.std.proofs.Common.{◌≡◌, ℕ, zero, suc, ◌+◌, ◌*◌, ◌^◌, ◌<◌, ◌≤◌, List, ◌++◌, length, get_or, take, drop, refl, sym, ◌∙◌, ap, subst, arith, append_assoc, add-zero, zero-add, [], ◌-◌, get_or-take, get_or-drop, length-append, length-take-le}
+use Rattle.std.proofs.Common.{◌≡◌, ℕ, zero, suc, ◌+◌, ◌^◌, ◌<◌, ◌≤◌, List, ◌++◌, length, get_or, take, drop, refl, ◌∙◌, ap, arith, append_assoc, add-zero, zero-add, [], ◌-◌, get_or-take, get_or-drop, length-take-le}
 use Rattle.std.proofs.Math.Nat.{add-suc, suc-add}
 use Rattle.std.proofs.lemmas.List.{append-nil, drop-drop, drop_all, length-take, get_or_append_left, get_or-append-add, take_rest}
-use Rattle.byteorder.specs.Endian.{little_from, little_number, little_bytes}
+use Rattle.byteorder.specs.Endian.{little_from, little_bytes}
 use Rattle.byteorder.specs.Numbers.{little_from-lt, little_number-reads_back}
 use borrow.Rule.Slice.PartMut.{put_mid}
 use Rattle.save_bytes.specs.Fields.{number_at, with_bytes}

@@ -4,3 +4,4 @@ pub mod SpaceLemmas
 pub mod CellLemmas
 pub mod PutLemmas
 pub mod ViewLemmas
+pub mod CallLemmas

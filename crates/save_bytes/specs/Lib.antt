@@ -8,5 +8,6 @@ pub mod Answers
 pub mod Stays
 pub mod Puts
 pub mod Spots
+pub mod Reads
 pub mod Memory
 pub mod MemoryLaws

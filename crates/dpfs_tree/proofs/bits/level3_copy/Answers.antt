@@ -4,7 +4,7 @@ use Rattle.difi.specs.Places.{blocks_of}
 use Rattle.dpfs_tree.specs.Picks.{bytes_of}
 use Rattle.dpfs_tree.proofs.PickLemmas.{word_inside}
 use Rattle.dpfs_tree.proofs.BitLemmas.{bit_of-pick2, bit_of-stays, in_copy, word_block_below}
-use Rattle.dpfs_tree.proofs.CallLemmas.{Reads-join}
+use Rattle.save_bytes.proofs.CallLemmas.{Reads-join}
 use Rattle.dpfs_tree.proofs.bits.level3_copy.Goals as goal
 
 pub level2_copy-requires-clause-block : goal.level2_copy-requires-clause-block

@@ -4,7 +4,7 @@ use Rattle.std.specs.Result.{result_err}
 use Rattle.difi.specs.declared.descriptor.Difi.{Difi}
 use Rattle.dpfs_tree.proofs.ViewLemmas.{view_tree}
 use Rattle.dpfs_tree.proofs.PieceLemmas.{run_inside, view_piece}
-use Rattle.dpfs_tree.proofs.CallLemmas.{Reads-join}
+use Rattle.save_bytes.proofs.CallLemmas.{Reads-join}
 use Rattle.dpfs_tree.proofs.SameLemmas.{same_view_stays}
 use Rattle.dpfs_tree.proofs.view.DpfsView.piece.Goals as goal
 

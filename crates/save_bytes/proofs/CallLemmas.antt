@@ -1,10 +1,10 @@
--- One call on a base after another.
+-- One reading call on a space after another.
 use Rattle.std.proofs.Common.{ℕ, Option, None, Result, Ok, Err, IfOk}
 use Rattle.save_bytes.specs.declared.space.Bad.{Bad}
 use Rattle.save_bytes.specs.State.{State}
 use Rattle.save_bytes.specs.Spots.{Spot}
+use Rattle.save_bytes.specs.Reads.{Reads}
 use Rattle.save_bytes.proofs.SpaceLemmas.{Stays-join, Unmoved-join}
-use Rattle.dpfs_tree.specs.View.{Reads}
 
 module _ {A : Type 0} (states : A → State) (keeps : Spot → A → A → Type 0) (lands : A → ℕ → Spot → Type 0) (join : (spot : Spot) (s t u : A) → keeps spot s t → keeps spot t u → keeps spot s u) where
   pub Reads-join : (s t u : A) (refusal : Option Bad) → Reads states keeps lands s t None → Reads states keeps lands t u refusal → Reads states keeps lands s u refusal
