@@ -12,7 +12,7 @@ use Rattle.difi.specs.Sound.{AreApart, HasParts, HasBlockSizes, IsPlaced, HasCop
 use Rattle.difi.proofs.TestLemmas.{AllApart, some_overlap-apart, list_any-apart, not-lies_inside, is_outside-between, eqb-not_empty, ltb-enough_entries, is_bad_part-inside, ltb-one_of_two, not-named, not-numbered}
 use Rattle.difi.proofs.Verdicts.{passes, reading-ok}
 
-has_bad_log-none : (difi : Difi) → HasBlockSizes difi → has_bad_log difi ≡ false
+pub has_bad_log-none : (difi : Difi) → HasBlockSizes difi → has_bad_log difi ≡ false
 unfolding has_bad_log
 has_bad_log-none difi h =
     or_from _ _
@@ -57,18 +57,18 @@ inner_inside true one two three four end a b c d =
 inner_inside false one two three four end a b c d =
     or_from _ _ (not-lies_inside one end a) (or_from _ _ (not-lies_inside two end b) (or_from _ _ (not-lies_inside three end c) (or_from _ _ (not-lies_inside four end (d refl)) refl)))
 
-has_bad_level-none : (difi : Difi) → HasHashLevels difi → has_bad_level difi ≡ false
+pub has_bad_level-none : (difi : Difi) → HasHashLevels difi → has_bad_level difi ≡ false
 unfolding has_bad_level
 has_bad_level-none difi h =
     or_from _ _
     (or_from _ _ (eqb-not_empty _ h.some1) (or_from _ _ (eqb-not_empty _ h.some2) (or_from _ _ (eqb-not_empty _ h.some3) (or_from _ _ (eqb-not_empty _ h.some4) refl))))
     (inner_inside difi.external (extent_of difi.ivfc1) (extent_of difi.ivfc2) (extent_of difi.ivfc3) (extent_of difi.ivfc4) difi.dpfs3.size h.inside1 h.inside2 h.inside3 h.inside4)
 
-has_overlapping_levels-none : (difi : Difi) → HasHashLevels difi → has_overlapping_levels difi ≡ false
+pub has_overlapping_levels-none : (difi : Difi) → HasHashLevels difi → has_overlapping_levels difi ≡ false
 unfolding has_overlapping_levels
 has_overlapping_levels-none difi h = some_overlap-apart (inner_levels difi) (inner_apart difi.external (extent_of difi.ivfc1) (extent_of difi.ivfc2) (extent_of difi.ivfc3) (extent_of difi.ivfc4) h.apart12 h.apart13 h.apart23 h.apart14 h.apart24 h.apart34)
 
-has_too_few_entries-none : (difi : Difi) → HasHashLevels difi → has_too_few_entries difi ≡ false
+pub has_too_few_entries-none : (difi : Difi) → HasHashLevels difi → has_too_few_entries difi ≡ false
 unfolding has_too_few_entries
 has_too_few_entries-none difi h =
     or_from _ _

@@ -12,7 +12,7 @@ use Rattle.difi.specs.Sound.{AreApart, HasParts, HasBlockSizes, IsPlaced, HasCop
 use Rattle.difi.proofs.TestLemmas.{AllApart, all_apart, apart_from, ends_inside, between, not_empty, enough_entries, part_inside, part_size, one_of_two, named, numbered}
 use Rattle.difi.proofs.Verdicts.{holds, all_pass}
 
-block_sizes : (difi : Difi) → has_bad_log difi ≡ false → HasBlockSizes difi
+pub block_sizes : (difi : Difi) → has_bad_log difi ≡ false → HasBlockSizes difi
 unfolding has_bad_log
 block_sizes difi h =
     let sixth = or_parts _ _ h in
@@ -87,7 +87,7 @@ inner_inside false one two three four end h =
     let fourth = or_parts _ _ third.1 in
     record { inside1 = ends_inside one end first.0; inside2 = ends_inside two end second.0; inside3 = ends_inside three end third.0; inside4 = λ e. ends_inside four end fourth.0 }
 
-hash_tree : (difi : Difi) → has_bad_level difi ≡ false → has_overlapping_levels difi ≡ false → has_too_few_entries difi ≡ false → HasHashLevels difi
+pub hash_tree : (difi : Difi) → has_bad_level difi ≡ false → has_overlapping_levels difi ≡ false → has_too_few_entries difi ≡ false → HasHashLevels difi
 unfolding has_bad_level has_overlapping_levels has_too_few_entries
 hash_tree difi in_level3 none_overlap enough =
     let parts = or_parts _ _ in_level3 in

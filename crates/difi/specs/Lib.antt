@@ -2,3 +2,4 @@ pub mod Places
 pub mod Fields
 pub mod Conditions
 pub mod Sound
+pub mod Contents

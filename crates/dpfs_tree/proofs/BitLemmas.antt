@@ -7,7 +7,8 @@ use Rattle.save_bytes.specs.CellNumbers.{bytes_in, number_in}
 use Rattle.difi.specs.declared.descriptor.Difi.{Difi}
 use Rattle.difi.specs.Places.{blocks_of, bitmap_size}
 use Rattle.dpfs_tree.specs.Picks.{bytes_of, word_of, bit_of, pick1, pick2}
-use Rattle.dpfs_tree.proofs.PickLemmas.{bit_of-same, word_in_block, word_inside, block_below}
+use Rattle.difi.proofs.PlaceLemmas.{block_below}
+use Rattle.dpfs_tree.proofs.PickLemmas.{bit_of-same, word_in_block, word_inside}
 
 -- the number in four cells is their word
 pub number_in-word : (cells : ℕ → Cell) (from n : ℕ) → number_in 4 cells (from + 4 * n) ≡ word_of (λ x. bytes_of cells (from + x)) n

@@ -1,13 +1,13 @@
 -- Where chosen bytes lie.
 use Rattle.std.proofs.Common.{◌≡◌, ℕ, ◌+◌, ◌-◌, ◌*◌, ◌/◌, ◌%◌, ◌^◌, ◌<◌, ◌≤◌, min, Bool, true, false, List, replicate, cond, add-zero, ltb, refl, sym, ◌∙◌, ap, arith, ⊎_elim}
 use Rattle.std.specs.Int.{div_ceil}
-use Rattle.std.proofs.lemmas.Nat.{pow_pos, pow-add, div-add-mod', div-mul-add, div_below, mod_below}
-use Rattle.std.proofs.lemmas.Grind.{div_ceil_times}
+use Rattle.std.proofs.lemmas.Nat.{pow_pos, pow-add, div-add-mod', div-mul-add, mod_below}
 use Rattle.std.proofs.lemmas.List.{get_or-replicate, get_or_past, length-replicate}
 use Rattle.std.proofs.lemmas.Bool.{cases_lt, lt-ltb, le-ltb}
 use Rattle.difi.specs.declared.descriptor.Difi.{Difi}
 use Rattle.dpfs_tree.specs.declared.state.DpfsState.{DpfsState}
-use Rattle.dpfs_tree.specs.Picks.{word_of, bit_of, pick2, pick3, external_place, chosen, view_size}
+use Rattle.dpfs_tree.specs.Picks.{word_of, bit_of, pick2, pick3, external_place, chosen}
+use Rattle.difi.specs.Contents.{view_size}
 use Rattle.dpfs_tree.specs.Marks.{is_marked, copy_read, copy_of, place_of, run_of}
 
 cond_out : (f : ℕ → ℕ) (b : Bool) (p q : ℕ) → f (cond b p q) ≡ cond b (f p) (f q)
@@ -59,11 +59,6 @@ word_in_block m i log least h =
 -- the word of a block's bit lies in the bits of all blocks
 pub word_inside : (k blocks : ℕ) → k < blocks → 4 * (k / 32) + 4 ≤ 4 * div_ceil blocks 32
 word_inside k blocks h = omega arith
-
-pub block_below : (x size log : ℕ) → x < size → x / 2 ^ log < div_ceil size (2 ^ log)
-block_below x size log h =
-    let bound = div_ceil_times size (2 ^ log) (pow_pos log) in
-    div_below x (2 ^ log) (div_ceil size (2 ^ log)) (pow_pos log) (omega (arith, bound.0))
 
 -- a run lies in one piece
 pub place_of-run : (bytes : ℕ → ℕ) (part_at : ℕ) (difi : Difi) (state : DpfsState) (at k : ℕ) → k < run_of difi at → place_of bytes part_at difi state (at + k) ≡ place_of bytes part_at difi state at + k

@@ -3,13 +3,14 @@ use Rattle.std.proofs.Common.{◌≡◌, ℕ, ◌+◌, ◌≤◌, min, List, len
 use Rattle.std.specs.Borrow.{Bor}
 use Rattle.save_bytes.specs.declared.space.Bad.{Bad}
 use Rattle.save_bytes.specs.declared.space.Bad.TheVariants.{Disk, Damaged}
-use Rattle.save_bytes.specs.Cells.{AreBytesAt}
+use Rattle.save_bytes.specs.Cells.{Cell, Byte, Blank, Spoilt, IsByte, IsUnspoilt, AreBytesAt}
 use Rattle.save_bytes.specs.State.{State, Shape, IsInside}
-use Rattle.save_bytes.specs.Answers.{IsPiece}
+use Rattle.save_bytes.specs.Answers.{IsPiece, IsReady}
 use Rattle.save_bytes.specs.Stays.{Stays}
 use Rattle.difi.specs.declared.descriptor.Difi.{Difi}
 use Rattle.dpfs_tree.specs.declared.state.DpfsState.{DpfsState}
-use Rattle.dpfs_tree.specs.Picks.{bytes_of, view_size}
+use Rattle.dpfs_tree.specs.Picks.{bytes_of}
+use Rattle.difi.specs.Contents.{view_size}
 use Rattle.dpfs_tree.specs.Marks.{place_of, run_of}
 use Rattle.dpfs_tree.specs.View.{view_state, IsLocated}
 use Rattle.dpfs_tree.proofs.PickLemmas.{run_of-is, place_of-run}
@@ -55,3 +56,16 @@ module _ (base : State) (part_at : ℕ) (difi : Difi) (state : DpfsState) (at : 
     view_piece plain (Err Disk) h = record { some = tt; bounded = tt; inside = tt; bytes = λ told. tt; damaged = λ told. tt; plain = λ plain. tt }
     view_piece plain (Err (Damaged part level block)) h =
         absurd (h.plain (subst (λ (shape : Shape). IsTrue shape.plain) (sym stays.space.shape) plain))
+
+byte_unspoilt : (cell : Cell) → IsByte cell → IsUnspoilt cell
+byte_unspoilt (Byte value) byte = tt
+byte_unspoilt (Blank part level block) byte = absurd byte
+byte_unspoilt (Spoilt part level block) byte = absurd byte
+
+-- where all cells are bytes, none is spoilt
+pub bytes_ready : (s : State) (at n : ℕ) → (IsTrue s.told → (x : ℕ) → IsByte (s.cells x)) → IsReady s at n None
+bytes_ready s at n bytes = record {
+  done = λ told k h. byte_unspoilt (s.cells (at + k)) (bytes told (at + k));
+  damaged = λ told. tt;
+  plain = λ plain. tt;
+}

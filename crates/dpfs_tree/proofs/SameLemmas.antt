@@ -9,10 +9,12 @@ use Rattle.save_bytes.proofs.SpaceLemmas.{UnlessDisk-map}
 use Rattle.difi.specs.declared.descriptor.Difi.{Difi}
 use Rattle.difi.specs.Places.{blocks_of}
 use Rattle.dpfs_tree.specs.declared.state.DpfsState.{DpfsState}
-use Rattle.dpfs_tree.specs.Picks.{bytes_of, bit_of, pick1, pick2, view_size}
+use Rattle.dpfs_tree.specs.Picks.{bytes_of, bit_of, pick1, pick2}
+use Rattle.difi.specs.Contents.{view_size}
 use Rattle.dpfs_tree.specs.Marks.{is_marked, copy_read, copy_of, place_of}
 use Rattle.dpfs_tree.specs.View.{view_state, HasTree}
-use Rattle.dpfs_tree.proofs.PickLemmas.{bit_of-same, word_inside, block_below, behind_level3}
+use Rattle.difi.proofs.PlaceLemmas.{block_below}
+use Rattle.dpfs_tree.proofs.PickLemmas.{bit_of-same, word_inside, behind_level3}
 use Rattle.dpfs_tree.proofs.BitLemmas.{in_copy}
 
 bit_of-lt : (bytes : ℕ → ℕ) (k : ℕ) → bit_of bytes k < 2

@@ -2,3 +2,4 @@ pub mod Picks
 pub mod Marks
 pub mod View
 pub mod Held
+pub mod ViewLaws

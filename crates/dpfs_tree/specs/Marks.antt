@@ -3,7 +3,8 @@ use Rattle.std.specs.Prelude.{◌≡◌, ℕ, ◌-◌, ◌/◌, ◌%◌, ◌^◌
 use Rattle.difi.specs.declared.descriptor.Difi.{Difi}
 use Rattle.difi.specs.Places.{blocks_of}
 use Rattle.dpfs_tree.specs.declared.state.DpfsState.{DpfsState}
-use Rattle.dpfs_tree.specs.Picks.{bit_of, copy_place, pick2, external_place, view_size}
+use Rattle.dpfs_tree.specs.Picks.{bit_of, copy_place, pick2, external_place}
+use Rattle.difi.specs.Contents.{view_size}
 
 -- a block past the last mark is not marked
 abbrev pub is_marked : List Bool → ℕ → Bool

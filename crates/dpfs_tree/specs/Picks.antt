@@ -43,7 +43,3 @@ external_place part_at difi x = part_at + difi.external_at + (x - difi.dpfs3.siz
 unfoldable pub chosen : (ℕ → ℕ) → ℕ → Difi → ℕ → ℕ → ℕ
 chosen bytes part_at difi selector x =
     if nat_lt x difi.dpfs3.size then pick3 bytes part_at difi selector x else bytes (external_place part_at difi x)
-
--- how many bytes a view has
-abbrev pub view_size : Difi → ℕ
-view_size difi = difi.dpfs3.size + (if difi.external then difi.ivfc4.size else 0)

@@ -9,7 +9,8 @@ use Rattle.difi.specs.Places.{blocks_of, bitmap_size}
 use Rattle.difi.specs.Conditions.{level_tests, verdict}
 use Rattle.difi.specs.Sound.{IsBetween, HasSoundLevels}
 use Rattle.dpfs_tree.specs.declared.state.DpfsState.{DpfsState}
-use Rattle.dpfs_tree.specs.Picks.{bytes_of, view_size}
+use Rattle.dpfs_tree.specs.Picks.{bytes_of}
+use Rattle.difi.specs.Contents.{view_size}
 use Rattle.dpfs_tree.specs.Marks.{place_of, run_of, IsMadeFor}
 
 -- a partition lies in a base, behind its first place for writing, and the levels are sound for its length
@@ -51,14 +52,15 @@ pub record HasTree (base : Shape) (part_at : ℕ) (difi : Difi) (selector : ℕ)
   pub external : difi.external ≡ true → part_at + difi.external_at + difi.ivfc4.size ≤ base.size
   pub view_fits : view_size difi ≤ base.size
 
--- the bytes of a view are those of its base at their places; it has neither twins nor fixed places
+-- The bytes of a view are those of its base at their places. It has neither twins nor fixed places, and no place that may
+-- be written yet.
 abbrev pub view_state : State → ℕ → Difi → DpfsState → State
 view_state base part_at difi state = record {
   shape = record {
     size = view_size difi;
     sound = can_view base.shape part_at difi state;
     plain = base.shape.plain;
-    first = 0;
+    first = view_size difi;
     doubled = false;
     block_start = λ x. x;
     block_len = λ x. 1;

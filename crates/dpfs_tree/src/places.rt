@@ -4,7 +4,8 @@ ghost use Rattle.std.specs.Prelude.{◌≡◌, ℕ, ◌+◌, ◌-◌, ◌*◌, �
 ghost use Rattle.std.specs.Result.{result_err};
 ghost use Rattle.save_bytes.specs.State.{IsInside};
 ghost use Rattle.save_bytes.specs.Refusals.{NeverDamaged};
-ghost use Rattle.dpfs_tree.specs.Picks.{bytes_of, view_size};
+ghost use Rattle.dpfs_tree.specs.Picks.{bytes_of};
+ghost use Rattle.difi.specs.Contents.{view_size};
 ghost use Rattle.dpfs_tree.specs.Marks.{is_marked, copy_read, place_of, run_of};
 ghost use Rattle.save_bytes.specs.Reads.{Reads};
 ghost use Rattle.dpfs_tree.specs.View.{view_state, HasTree, IsLocated};

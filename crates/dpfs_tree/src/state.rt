@@ -2,7 +2,8 @@
 
 ghost use Rattle.std.specs.Prelude.{◌≡◌, ℕ, ◌<◌, IfOk};
 ghost use Rattle.difi.specs.Sound.{HasBlockSizes};
-ghost use Rattle.dpfs_tree.specs.Picks.{chosen, view_size};
+ghost use Rattle.dpfs_tree.specs.Picks.{chosen};
+ghost use Rattle.difi.specs.Contents.{view_size};
 ghost use Rattle.dpfs_tree.specs.Marks.{is_marked, place_of, IsFresh};
 
 use difi::Difi;

@@ -1,12 +1,12 @@
 ghost use Rattle.std.specs.Prelude.{◌≡◌, ◌+◌, ◌<◌, ◌≤◌, length, vec_len, IfOk};
 ghost use Rattle.save_bytes.specs.Memory.{memory_shape};
 ghost use Rattle.difi.specs.Sound.{HasSoundLevels};
-ghost use Rattle.dpfs_tree.specs.Picks.{view_size};
+ghost use Rattle.difi.specs.Contents.{view_size};
 ghost use Rattle.dpfs_tree.specs.View.{HasPartition};
 
 use super::*;
 use difi::{Difi, Extent2, LevelPlace};
-use save_bytes::MemSpace;
+use save_bytes::{MemSpace, Space};
 use std::alloc::{AllocError, Global};
 use std::test::Fail;
 

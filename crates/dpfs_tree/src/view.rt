@@ -1,17 +1,15 @@
 //! A view through the double-copy tree.
 
-ghost use Rattle.std.specs.Prelude.{◌≡◌, ℕ, ◌≤◌, IsTrue, []};
-ghost use Rattle.std.specs.Borrow.{sem};
-ghost use Rattle.std.specs.Io.BufRead.{Rests};
+ghost use Rattle.std.specs.Prelude.{refl, ◌≤◌, IsTrue};
 ghost use Rattle.std.specs.Result.{result_err};
 ghost use Rattle.save_bytes.specs.State.{IsInside};
-ghost use Rattle.save_bytes.specs.Answers.{IsPiece};
 ghost use Rattle.save_bytes.specs.Stays.{Stays};
 ghost use Rattle.save_bytes.specs.Reads.{Reads};
 ghost use Rattle.dpfs_tree.specs.View.{CanView, IsLocated};
+ghost use Rattle.dpfs_tree.specs.Picks.{bytes_of};
+ghost use Rattle.dpfs_tree.specs.Marks.{place_of};
 ghost use Rattle.dpfs_tree.specs.Held.{shown, IsViewOf, SameView};
-ghost use Rattle.dpfs_tree.specs.contracts.view.DpfsView.{the_row};
-ghost use mir.Syntax.{named};
+ghost use Rattle.dpfs_tree.specs.ViewLaws.{view_size_fits, SameView-same, SameView-join, shown_shape};
 
 use crate::places::{locate, view_len};
 use crate::state::DpfsState;
@@ -48,13 +46,6 @@ impl<'a, S: Space> DpfsView<'a, S> {
         }
     }
 
-    /// How many bytes there are. It never changes.
-    pub fn len(&self) -> u64
-        ensures { IsTrue (shown S.state self.now).shape.sound → result ≡ (shown S.state self.now).shape.size }
-    {
-        view_len(self.difi)
-    }
-
     /// Where the bytes from `at` on lie in the base, and how many lie there in one piece: at least 1 and at most
     /// `most`. It is refused only where the disk below failed.
     pub fn locate(&mut self, at: u64, most: usize) -> Result<(u64, usize), Bad>
@@ -68,22 +59,46 @@ impl<'a, S: Space> DpfsView<'a, S> {
         let base = &mut *self.base;
         locate(base, self.part_at, self.difi, &*self.state, at, most)
     }
+}
 
-    /// Lends 1 to `most` bytes from `at` on, as they lie in the base. It is refused only where the disk below failed.
-    pub fn piece(&mut self, at: u64, most: usize) -> Result<&[u8], Bad>
-        requires inside { IsInside (shown S.state self.old).shape at 1 }
-        requires some { 1 ≤ most }
-        ensures piece { IsPiece (shown S.state self.old) at most result }
-        ensures* after { sem 𝓛 (Rests (the_row (record { mir = named 0; lft = [] }) S.row) self.entry (λ new.
-            Stays (shown S.state self.old) (shown S.state new) (result_err result)
-            × Reads S.state S.keeps S.lands self.old.base.now new.base.now (result_err result)
-            × SameView self.old new)) }
-    {
+// A view lends from its base and is not written to yet: its first place for writing is its end.
+impl<S: Space> Space for DpfsView<'_, S> {
+    ghost state = { shown S.state };
+
+    ghost keeps = { λ spot s t. SameView s t × S.keeps spot s.base.now t.base.now };
+
+    ghost lands = { λ s x spot. ⊥ };
+
+    ghost size_fits = { λ s. view_size_fits (S.state s.base.now) s.part_at s.difi.now s.state.now (S.size_fits s.base.now) };
+
+    ghost plain_bytes = { λ s plain told x. S.plain_bytes s.base.now plain told (place_of (bytes_of (S.state s.base.now).cells) s.part_at s.difi.now s.state.now x) };
+
+    ghost no_twins = { λ s single. record { apart = λ x y same. same; free = λ x. refl } };
+
+    ghost keeps_same = { λ spot s. (SameView-same s, S.keeps_same spot s.base.now) };
+
+    ghost keeps_join = { λ spot s t u h k. (SameView-join s t u h.0 k.0, S.keeps_join spot s.base.now t.base.now u.base.now h.1 k.1) };
+
+    ghost keeps_shape = { λ s t h. shown_shape S.state s t h.0 (S.keeps_shape s.base.now t.base.now h.1) };
+
+    fn len(&self) -> u64 {
+        view_len(self.difi)
+    }
+
+    fn piece(&mut self, at: u64, most: usize) -> Result<&[u8], Bad> {
         let (place, most) = match self.locate(at, most) {
             Ok(run) => run,
             Err(bad) => return Err(bad),
         };
         let base = &mut *self.base;
         base.piece(place, most)
+    }
+
+    fn ready(&mut self, _at: u64, _n: u64) -> Result<(), Bad> {
+        Ok(())
+    }
+
+    fn put(&mut self, _at: u64, _bytes: &[u8]) -> Result<(), Bad> {
+        Ok(())
     }
 }

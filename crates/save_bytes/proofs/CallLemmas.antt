@@ -1,8 +1,8 @@
 -- One reading call on a space after another.
-use Rattle.std.proofs.Common.{ℕ, Option, None, Result, Ok, Err, IfOk}
+use Rattle.std.proofs.Common.{ℕ, Option, None, Result, Ok, Err, IfOk, refl, arith}
 use Rattle.save_bytes.specs.declared.space.Bad.{Bad}
 use Rattle.save_bytes.specs.State.{State}
-use Rattle.save_bytes.specs.Spots.{Spot}
+use Rattle.save_bytes.specs.Spots.{Spot, Frame}
 use Rattle.save_bytes.specs.Reads.{Reads}
 use Rattle.save_bytes.proofs.SpaceLemmas.{Stays-join, Unmoved-join}
 
@@ -12,6 +12,16 @@ module _ {A : Type 0} (states : A → State) (keeps : Spot → A → A → Type 
     stays = Stays-join (states s) (states t) (states u) refusal h.stays k.stays;
     unmoved = Unmoved-join states keeps lands join s t u refusal h.stays h.unmoved k.unmoved;
   }
+
+-- before the first call
+pub Reads-same : {A : Type 0} (states : A → State) (keeps : Spot → A → A → Type 0) (lands : A → ℕ → Spot → Type 0) → ((spot : Spot) (s : A) → keeps spot s s) → (s : A) → Reads states keeps lands s s None
+Reads-same states keeps lands same s = record {
+  stays = record {
+    space = record { shape = refl; faults = omega arith; cause = tt; told = refl; twins = λ told. record { bottom = λ x below. refl; is_fixed = λ x below. refl } };
+    cells = λ told x below. refl;
+  };
+  unmoved = record { frame = same Frame s; spots = λ told spot. same spot s; reach = λ told x below spot lands. lands };
+}
 
 -- facts of a result
 pub IfOk-map : {A E : Type 0} {P Q : A → Type 0} (r : Result A E) → ((value : A) → P value → Q value) → IfOk r P → IfOk r Q

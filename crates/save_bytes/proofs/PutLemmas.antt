@@ -1,5 +1,5 @@
 -- What a put leaves, and one put behind another.
-use Rattle.std.proofs.Common.{◌≡◌, ◌≢◌, ◌⊎◌, ℕ, zero, suc, ◌+◌, ◌-◌, ◌<◌, ◌≤◌, List, ◌++◌, length, get_or, replicate, IsTrue, Option, Some, None, refl, sym, ◌∙◌, ap, arith, inl, inr, ⊎_elim, length-append}
+use Rattle.std.proofs.Common.{◌≡◌, ◌≢◌, ◌⊎◌, ℕ, zero, suc, ◌+◌, ◌-◌, ◌<◌, ◌≤◌, List, [], ◌++◌, length, get_or, replicate, IsTrue, Option, Some, None, refl, sym, ◌∙◌, ap, arith, inl, inr, ⊎_elim, length-append}
 use Rattle.std.proofs.lemmas.List.{get_or_append_left, get_or-append_right, get_or-replicate, length-replicate}
 use Rattle.std.proofs.lemmas.Bool.{cases_lt, cases_eq}
 use Rattle.save_bytes.specs.declared.space.Bad.{Bad}
@@ -252,3 +252,16 @@ module _ (was mid : State) (at : ℕ) (xs ys : List ℕ) (new : ℕ → Cell) (s
         (let mid_blank = HasPut-blank mid (at + length xs) ys new second x (omega (arith, same_size)) blank in
         first.joined x y h i mid_blank (second.joined x y (omega (arith, same_size)) (omega (arith, same_size)) blank same));
   }
+
+-- a put of nothing changes nothing
+softens_none : (s : State) (at x : ℕ) (cell : Cell) → SoftensFrom s at 0 x cell cell
+softens_none s at x (Byte value) = refl
+softens_none s at x (Blank part level block) = record { met = λ (k, within, same). absurd (omega (arith, within)); unmet = λ _. inl refl }
+softens_none s at x (Spoilt part level block) = refl
+
+pub HasPut-none : (s : State) (at : ℕ) → HasPut s at [] s.cells
+HasPut-none s at = record {
+  written = λ x k below within same. absurd (omega (arith, within));
+  others = λ x below apart. softens_none s at x (s.cells x);
+  joined = λ x y in_x in_y blank same. same;
+}

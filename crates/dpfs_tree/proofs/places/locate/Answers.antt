@@ -1,4 +1,4 @@
-use Rattle.dpfs_tree.proofs.ViewLemmas.{view_tree}
+use Rattle.dpfs_tree.specs.ViewLaws.{view_tree}
 use Rattle.std.proofs.Common.{arith}
 use Rattle.dpfs_tree.proofs.PieceLemmas.{located}
 use Rattle.dpfs_tree.proofs.places.locate.Goals as goal

@@ -1,5 +1,5 @@
 use Rattle.std.specs.Result.{result_err}
-use Rattle.dpfs_tree.proofs.ViewLemmas.{view_tree}
+use Rattle.dpfs_tree.specs.ViewLaws.{view_tree}
 use Rattle.dpfs_tree.proofs.SameLemmas.{view_stays}
 use Rattle.dpfs_tree.proofs.view.DpfsView.locate.Goals as goal
 

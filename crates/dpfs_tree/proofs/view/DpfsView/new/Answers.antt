@@ -1,4 +1,4 @@
-use Rattle.dpfs_tree.proofs.ViewLemmas.{can_view-true}
+use Rattle.dpfs_tree.specs.ViewLaws.{can_view-true}
 use Rattle.dpfs_tree.proofs.view.DpfsView.new.Goals as goal
 
 pub returns-clause-sound : goal.returns-clause-sound

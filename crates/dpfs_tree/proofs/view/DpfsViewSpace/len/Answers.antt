@@ -1,6 +1,6 @@
 use Rattle.std.proofs.Common.{arith}
-use Rattle.dpfs_tree.proofs.ViewLemmas.{view_tree}
-use Rattle.dpfs_tree.proofs.view.DpfsView.len.Goals as goal
+use Rattle.dpfs_tree.specs.ViewLaws.{view_tree}
+use Rattle.dpfs_tree.proofs.view.DpfsViewSpace.len.Goals as goal
 
 pub returns : goal.returns
 returns g c = λ sound.

@@ -1,7 +1,7 @@
--- The tests on a view, as facts.
-use Rattle.std.proofs.Common.{◌≡◌, ℕ, ◌+◌, ◌-◌, ◌^◌, ◌<◌, ◌≤◌, Bool, true, false, not, IsTrue, Result, Ok, Err, is_ok, refl, ap, arith, ⊎_elim}
+-- The tests on a view as facts, and the laws of a space, of a view.
+use Rattle.std.proofs.Common.{◌≡◌, ℕ, ◌+◌, ◌-◌, ◌^◌, ◌<◌, ◌≤◌, Bool, true, false, not, IsTrue, Result, Ok, Err, is_ok, refl, ◌∙◌, ap, arith, ⊎_elim}
 use Rattle.std.proofs.lemmas.Bool.{and_parts, and_from, cases_lt, lt-ltb, le-leb, eq-eqb, ltb-true, leb-true, eqb-true}
-use Rattle.save_bytes.specs.State.{Shape}
+use Rattle.save_bytes.specs.State.{Shape, State}
 use Rattle.difi.specs.declared.places.Extent2.{Extent2}
 use Rattle.difi.specs.declared.descriptor.Difi.{Difi}
 use Rattle.difi.specs.declared.fault.DifiFault.{DifiFault}
@@ -11,8 +11,10 @@ use Rattle.difi.specs.Sound.{AreApart, HasCopies, HasExternalLevel, HasSoundLeve
 use Rattle.difi.proofs.SoundLemmas.{on_levels}
 use Rattle.difi.proofs.CompleteLemmas.{levels_pass}
 use Rattle.dpfs_tree.specs.declared.state.DpfsState.{DpfsState}
-use Rattle.dpfs_tree.specs.Picks.{view_size}
-use Rattle.dpfs_tree.specs.View.{CanView, can_view, HasTree}
+use Rattle.difi.specs.Contents.{view_size}
+use Rattle.dpfs_tree.specs.declared.view.DpfsView.{DpfsView}
+use Rattle.dpfs_tree.specs.View.{CanView, can_view, HasTree, view_state}
+use Rattle.dpfs_tree.specs.Held.{shown, SameView}
 
 -- levels that are sound in a partition are so in a longer one
 module _ (difi : Difi) (n m : ℕ) (le : n ≤ m) (h : HasSoundLevels difi n) where
@@ -145,3 +147,22 @@ tree_of base part_at difi state small h =
 
 pub view_tree : (base : Shape) (part_at : ℕ) (difi : Difi) (state : DpfsState) → (IsTrue base.sound → base.size < 2 ^ 64) → can_view base part_at difi state ≡ true → HasTree base part_at difi state.selector
 view_tree base part_at difi state fits sound = let view = true-can_view base part_at difi state sound in tree_of base part_at difi state (fits view.sound) view
+
+-- the laws of a space
+pub view_size_fits : (base : State) (part_at : ℕ) (difi : Difi) (state : DpfsState) → (IsTrue base.shape.sound → base.shape.size < 2 ^ 64) → IsTrue (view_state base part_at difi state).shape.sound → view_size difi < 2 ^ 64
+view_size_fits base part_at difi state fits sound = let tree = view_tree base.shape part_at difi state fits sound in omega (arith, tree.view_fits, tree.small)
+
+pub SameView-same : {S : Type 0} (s : DpfsView S) → SameView s s
+SameView-same s = record { same_base = refl; same_place = refl; same_difi = refl; same_state = refl; state_now = refl }
+
+pub SameView-join : {S : Type 0} (s t u : DpfsView S) → SameView s t → SameView t u → SameView s u
+SameView-join s t u h k = record {
+  same_base = k.same_base ∙ h.same_base;
+  same_place = k.same_place ∙ h.same_place;
+  same_difi = k.same_difi ∙ h.same_difi;
+  same_state = k.same_state ∙ h.same_state;
+  state_now = k.state_now ∙ h.state_now;
+}
+
+pub shown_shape : {S : Type 0} (states : S → State) (s t : DpfsView S) → SameView s t → (states t.base.now).shape ≡ (states s.base.now).shape → (shown states t).shape ≡ (shown states s).shape
+shown_shape states s t same shape = rw (same.same_place, same.same_difi, same.state_now, shape) refl

@@ -1,0 +1,7 @@
+pub mod LevelLemmas
+pub mod HashLemmas
+pub mod PathLemmas
+pub mod StateLemmas
+pub mod SameLemmas
+pub mod StepLemmas
+pub mod ViewLemmas

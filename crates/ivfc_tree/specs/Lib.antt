@@ -1,0 +1,5 @@
+pub mod Levels
+pub mod Marks
+pub mod Paths
+pub mod View
+pub mod Held

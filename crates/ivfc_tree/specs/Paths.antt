@@ -1,0 +1,66 @@
+-- Hash paths: a block is good where it, and each block above it up to the master hash, has the digest that its entry says.
+use Rattle.std.specs.Prelude.{◌≡◌, ◌≢◌, ℕ, zero, suc, ◌<◌, ◌≤◌, ◌==◌, bytes_eq, List, if◌then◌else◌}
+use Rattle.sha2.specs.Sha256.{sha256}
+use Rattle.save_bytes.specs.Cells.{Cell, Byte, Blank, Spoilt}
+use Rattle.difi.specs.declared.descriptor.Difi.{Difi}
+use Rattle.ivfc_tree.specs.declared.path.BlockState.{BlockState}
+use Rattle.ivfc_tree.specs.declared.path.BlockState.TheVariants.{Holds, NeverWritten, Fails}
+use Rattle.ivfc_tree.specs.declared.state.IvfcState.{IvfcState}
+use Rattle.ivfc_tree.specs.Levels.{padded_block, hash_entry, zero_entry, parent_of}
+use Rattle.ivfc_tree.specs.Marks.{is_marked}
+
+-- which block of a level lies above a block of another level, or is that block
+unfoldable pub block_above : Difi → ℕ → ℕ → ℕ → ℕ
+block_above difi zero block upper = block
+block_above difi (suc level) block upper = if upper == suc level then block else block_above difi level (parent_of difi level block) upper
+
+-- a block's entry is that of a written block, and is the block's digest
+pub record IsHashed (cells : ℕ → Cell) (master : List ℕ) (difi : Difi) (level block : ℕ) : Type 0 where
+  pub written : hash_entry cells master difi level block ≢ zero_entry
+  pub digest : hash_entry cells master difi level block ≡ sha256 (padded_block cells difi level block)
+
+-- from level 1 down to the block's own, each block on the way is hashed
+abbrev pub HasHashPath : (ℕ → Cell) → List ℕ → Difi → ℕ → ℕ → Type 0
+HasHashPath cells master difi level block =
+    (upper : ℕ) → 1 ≤ upper → upper ≤ level → IsHashed cells master difi upper (block_above difi level block upper)
+
+-- the first level from the top at which the way to a block fails, and the block there
+pub record FailsFirst (cells : ℕ → Cell) (master : List ℕ) (difi : Difi) (level block upper at : ℕ) : Type 0 where
+  pub some : 1 ≤ upper
+  pub above : upper ≤ level
+  pub there : at ≡ block_above difi level block upper
+  pub fails : ¬ IsHashed cells master difi upper at
+  pub before : (higher : ℕ) → 1 ≤ higher → higher < upper → IsHashed cells master difi higher (block_above difi level block higher)
+
+-- what a block's path comes to: it holds, or fails first at a block that was never written, or at another
+abbrev pub IsStateOf : (ℕ → Cell) → List ℕ → Difi → ℕ → ℕ → BlockState → Type 0
+IsStateOf cells master difi level block Holds = HasHashPath cells master difi level block
+IsStateOf cells master difi level block (NeverWritten upper at) =
+    FailsFirst cells master difi level block upper at × (hash_entry cells master difi upper at ≡ zero_entry)
+IsStateOf cells master difi level block (Fails upper at) =
+    FailsFirst cells master difi level block upper at × (hash_entry cells master difi upper at ≢ zero_entry)
+
+-- a block by its entry and digest alone
+abbrev pub judged : ℕ → ℕ → List ℕ → List ℕ → BlockState
+judged level block entry digest =
+    if bytes_eq entry zero_entry then NeverWritten level block else (if bytes_eq entry digest then Holds else Fails level block)
+
+-- what is said of the block above decides, unless that holds
+abbrev pub after : BlockState → BlockState → BlockState
+after Holds own = own
+after (NeverWritten level block) own = NeverWritten level block
+after (Fails level block) own = Fails level block
+
+-- the same as a value, where blocks that were put or cleared count as good
+unfoldable pub block_state : (ℕ → Cell) → List ℕ → Difi → IvfcState → ℕ → ℕ → BlockState
+block_state cells master difi state zero block = Holds
+block_state cells master difi state (suc level) block =
+    if is_marked state (suc level) block then Holds
+    else after (block_state cells master difi state level (parent_of difi level block))
+    (judged (suc level) block (hash_entry cells master difi (suc level) block) (sha256 (padded_block cells difi (suc level) block)))
+
+-- the cell of a byte of a part, by the state of its block
+abbrev pub cell_in : BlockState → ℕ → ℕ → Cell
+cell_in Holds part value = Byte value
+cell_in (NeverWritten level block) part value = Blank part level block
+cell_in (Fails level block) part value = Spoilt part level block

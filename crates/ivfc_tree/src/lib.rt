@@ -1,0 +1,14 @@
+//! The hash tree of a partition: a byte of its contents is lent only where each hash over it holds.
+#![tactic(auto)]
+
+mod hashing;
+mod levels;
+mod path;
+mod state;
+mod view;
+
+pub use state::IvfcState;
+pub use view::{IvfcView, Status};
+
+#[cfg(test)]
+mod tests;

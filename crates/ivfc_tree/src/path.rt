@@ -1,0 +1,93 @@
+//! The path from the master hash down to a block.
+
+ghost use Rattle.std.specs.Prelude.{◌≡◌, ℕ, ◌≤◌, ◌<◌, length, IsTrue, IfOk};
+ghost use Rattle.std.specs.Result.{result_err};
+ghost use Rattle.sha2.specs.Sha256.{sha256};
+ghost use Rattle.save_bytes.specs.Refusals.{NeverDamaged};
+ghost use Rattle.save_bytes.specs.Reads.{Reads};
+ghost use Rattle.ivfc_tree.specs.Levels.{HasBlock, padded_block, hash_entry};
+ghost use Rattle.ivfc_tree.specs.Paths.{judged, block_state};
+ghost use Rattle.ivfc_tree.specs.View.{HasTree};
+
+use crate::hashing::{block_digest, entry_of};
+use crate::levels::parent_of;
+use crate::state::IvfcState;
+use difi::Difi;
+use save_bytes::{Bad, Space};
+
+/// What the path of a block comes to.
+#[derive(Clone, Copy, Debug, PartialEq, Eq)]
+pub enum BlockState {
+    /// Each hash holds.
+    Holds,
+    /// The topmost block at which it fails, whose entry is 32 zero bytes.
+    NeverWritten { level: u8, block: u64 },
+    /// The topmost block at which it fails, whose entry is another digest than its own.
+    Fails { level: u8, block: u64 },
+}
+
+// A block by its entry and its digest alone.
+fn judge<S: Space>(
+    base: &mut S,
+    difi: &Difi,
+    master: &[u8],
+    level: u8,
+    block: u64,
+) -> Result<BlockState, Bad>
+    requires tree { HasTree (S.state base.old).shape difi.now (length master.now) }
+    requires there { HasBlock difi.now level block }
+    ensures state { IsTrue (S.state base.old).told → IfOk result (λ state. state
+        ≡ judged level block (hash_entry (S.state base.old).cells master.now difi.now level block) (sha256 (padded_block (S.state base.old).cells difi.now level block))) }
+    ensures plain { NeverDamaged (result_err result) }
+    ensures reads { Reads S.state S.keeps S.lands base.old base.new (result_err result) }
+{
+    let entry = match entry_of(base, difi, master, level, block) {
+        Ok(entry) => entry,
+        Err(bad) => return Err(bad),
+    };
+    if entry == [0; 32] {
+        return Ok(BlockState::NeverWritten { level, block });
+    }
+    let digest = match block_digest(base, difi, level, block) {
+        Ok(digest) => digest,
+        Err(bad) => return Err(bad),
+    };
+    if entry == digest {
+        Ok(BlockState::Holds)
+    } else {
+        Ok(BlockState::Fails { level, block })
+    }
+}
+
+/// What the path of a block comes to, from the master hash down. A block that was put or cleared counts as good.
+pub(crate) fn block_state<S: Space>(
+    base: &mut S,
+    difi: &Difi,
+    master: &[u8],
+    state: &IvfcState,
+    level: u8,
+    block: u64,
+) -> Result<BlockState, Bad>
+    requires tree { HasTree (S.state base.old).shape difi.now (length master.now) }
+    requires there { HasBlock difi.now level block }
+    ensures state { IsTrue (S.state base.old).told
+        → IfOk result (λ found. found ≡ block_state (S.state base.old).cells master.now difi.now state.now level block) }
+    ensures plain { NeverDamaged (result_err result) }
+    ensures reads { Reads S.state S.keeps S.lands base.old base.new (result_err result) }
+{
+    if state.is_marked(level, block) {
+        return Ok(BlockState::Holds);
+    }
+    if level == 1 {
+        return judge(base, difi, master, level, block);
+    }
+    let above = parent_of(difi, level - 1, block);
+    let found = match block_state(base, difi, master, state, level - 1, above) {
+        Ok(found) => found,
+        Err(bad) => return Err(bad),
+    };
+    match found {
+        BlockState::Holds => judge(base, difi, master, level, block),
+        fault => Ok(fault),
+    }
+}

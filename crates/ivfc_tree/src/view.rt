@@ -1,0 +1,159 @@
+//! A view through the hash tree.
+
+ghost use Rattle.std.specs.Prelude.{◌≡◌, ℕ, ◌<◌, ◌≤◌, length, IsTrue, IfOk, []};
+ghost use Rattle.std.specs.Borrow.{sem};
+ghost use Rattle.std.specs.Io.BufRead.{Rests};
+ghost use Rattle.std.specs.Result.{result_err};
+ghost use Rattle.save_bytes.specs.State.{IsInside};
+ghost use Rattle.save_bytes.specs.Refusals.{NeverDamaged};
+ghost use Rattle.save_bytes.specs.Answers.{IsPiece};
+ghost use Rattle.save_bytes.specs.Stays.{Stays};
+ghost use Rattle.save_bytes.specs.Reads.{Reads};
+ghost use Rattle.ivfc_tree.specs.Levels.{HasBlock};
+ghost use Rattle.ivfc_tree.specs.Paths.{block_state};
+ghost use Rattle.ivfc_tree.specs.View.{CanView, IsVerified, status_of, rest_of};
+ghost use Rattle.ivfc_tree.specs.Held.{shown, IsViewOf, SameView};
+ghost use Rattle.ivfc_tree.specs.contracts.view.IvfcView.{the_row};
+ghost use mir.Syntax.{named};
+
+use crate::levels::{block_size, level_of};
+use crate::path::{BlockState, block_state};
+use crate::state::IvfcState;
+use difi::Difi;
+use save_bytes::{Bad, Space};
+
+/// Whether a block's path holds.
+#[derive(Clone, Copy, Debug, PartialEq, Eq)]
+pub enum Status {
+    /// Each hash from the block up to the master hash holds.
+    Good,
+    /// The topmost hash that fails is one of a block that was never written.
+    Blank,
+    /// The topmost hash that fails is another.
+    Bad,
+}
+
+/// The bytes of level four, each lent only where its block has a hash path up to the master hash, or was put or
+/// cleared in the present transaction.
+#[derive(Drop)]
+pub struct IvfcView<'a, S: Space> {
+    base: &'a mut S,
+    part: u8,
+    difi: &'a Difi,
+    master: &'a mut [u8],
+    state: &'a mut IvfcState,
+}
+
+impl<'a, S: Space> IvfcView<'a, S> {
+    /// The view of a part over the contents of its double-copy tree.
+    pub fn new(
+        base: &'a mut S,
+        part: u8,
+        difi: &'a Difi,
+        master: &'a mut [u8],
+        state: &'a mut IvfcState,
+    ) -> IvfcView<'a, S>
+        requires { CanView (S.state base.old).shape difi.now (length master.old) state.old }
+        ensures holds { IsViewOf result base.entry part difi.now master.entry state.entry }
+        ensures sound { IsTrue (shown S.state result).shape.sound }
+    {
+        IvfcView {
+            base,
+            part,
+            difi,
+            master,
+            state,
+        }
+    }
+
+    /// How many bytes there are. It never changes.
+    pub fn len(&self) -> u64
+        ensures { result ≡ (shown S.state self.now).shape.size }
+    {
+        self.difi.ivfc4.size
+    }
+
+    /// Tries the hash path of the byte at `at`, and answers how many bytes from there on are good by it: at least 1
+    /// and at most `most`. `Damaged` comes exactly where the byte has no hash path, and names the topmost block that
+    /// fails.
+    pub fn verify(&mut self, at: u64, most: usize) -> Result<usize, Bad>
+        requires inside { IsInside (shown S.state self.old).shape at 1 }
+        requires some { 1 ≤ most }
+        ensures verified { IsVerified (shown S.state self.old) at most result }
+        ensures stays { Stays (shown S.state self.old) (shown S.state self.new) (result_err result) }
+        ensures reads { Reads S.state S.keeps S.lands self.old.base.now self.new.base.now (result_err result) }
+        ensures same { SameView self.old self.new }
+    {
+        let block = at / block_size(&self.difi.ivfc4);
+        let base = &mut *self.base;
+        let master = &mut *self.master;
+        let found = match block_state(base, self.difi, master, &*self.state, 4, block) {
+            Ok(found) => found,
+            Err(bad) => return Err(bad),
+        };
+        match found {
+            BlockState::Holds => Ok(rest_of_block(self.difi, at).min(most as u64) as usize),
+            BlockState::NeverWritten { level, block } | BlockState::Fails { level, block } => {
+                Err(Bad::Damaged {
+                    part: self.part,
+                    level,
+                    block,
+                })
+            }
+        }
+    }
+
+    /// Lends 1 to `most` bytes from `at` on, as they lie in the base, where they have a hash path. `Damaged` comes
+    /// exactly where the byte at `at` has none, and names the topmost block that fails.
+    pub fn piece(&mut self, at: u64, most: usize) -> Result<&[u8], Bad>
+        requires inside { IsInside (shown S.state self.old).shape at 1 }
+        requires some { 1 ≤ most }
+        ensures piece { IsPiece (shown S.state self.old) at most result }
+        ensures* after { sem 𝓛 (Rests (the_row (record { mir = named 0; lft = [] }) S.row) self.entry (λ new.
+            Stays (shown S.state self.old) (shown S.state new) (result_err result)
+            × Reads S.state S.keeps S.lands self.old.base.now new.base.now (result_err result)
+            × SameView self.old new)) }
+    {
+        let most = match self.verify(at, most) {
+            Ok(most) => most,
+            Err(bad) => return Err(bad),
+        };
+        let place = level_of(self.difi, 4).at + at;
+        let base = &mut *self.base;
+        base.piece(place, most)
+    }
+
+    /// Whether the path of a block of one of the four levels holds. It is refused only where the disk below failed.
+    pub fn status(&mut self, level: u8, block: u64) -> Result<Status, Bad>
+        requires sound { IsTrue (shown S.state self.old).shape.sound }
+        requires there { HasBlock self.old.difi.now level block }
+        ensures status { IsTrue (shown S.state self.old).told → IfOk result (λ status. status
+            ≡ status_of (block_state (S.state self.old.base.now).cells self.old.master.now self.old.difi.now self.old.state.now level block)) }
+        ensures plain { NeverDamaged (result_err result) }
+        ensures stays { Stays (shown S.state self.old) (shown S.state self.new) (result_err result) }
+        ensures reads { Reads S.state S.keeps S.lands self.old.base.now self.new.base.now (result_err result) }
+        ensures same { SameView self.old self.new }
+    {
+        let base = &mut *self.base;
+        let master = &mut *self.master;
+        let found = match block_state(base, self.difi, master, &*self.state, level, block) {
+            Ok(found) => found,
+            Err(bad) => return Err(bad),
+        };
+        Ok(match found {
+            BlockState::Holds => Status::Good,
+            BlockState::NeverWritten { .. } => Status::Blank,
+            BlockState::Fails { .. } => Status::Bad,
+        })
+    }
+}
+
+// How many bytes from a place of level four on lie in its block.
+fn rest_of_block(difi: &Difi, at: u64) -> u64
+    requires log { difi.now.ivfc4.log ≤ 16 }
+    requires inside { at < difi.now.ivfc4.size }
+    ensures { result ≡ rest_of difi.now at }
+{
+    let size = block_size(&difi.ivfc4);
+    (size - at % size).min(difi.ivfc4.size - at)
+}
