@@ -1,0 +1,18 @@
+//! New images, for tests alone: 64 free data blocks, and room for 8 directories and 8 files.
+//!
+//! They are written place by place from the format, apart from whatever makes images for use, so that tests can
+//! compare the two.
+#![tactic(auto)]
+
+mod fields;
+mod filesystem;
+mod headers;
+mod images;
+mod partition;
+mod which;
+
+pub use images::sample;
+pub use which::Sample;
+
+#[cfg(test)]
+mod tests;

@@ -1,0 +1,12 @@
+//! Which images there are.
+
+/// A new image. Each has 110,592 bytes, its primary table is active, and its authentication field is zero bytes.
+#[derive(Clone, Copy, Debug, PartialEq, Eq)]
+pub enum Sample {
+    /// A DISA with one partition: the tables of its SAVE are chains in the data region.
+    Single,
+    /// A DISA with two partitions: the tables of its SAVE lie in part 0, and the data region is part 1.
+    Dual,
+    /// A DIFF: the tables of its VSXE are chains in the data region.
+    Vsxe,
+}
