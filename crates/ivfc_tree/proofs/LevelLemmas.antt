@@ -153,3 +153,7 @@ entry_there base difi master_len level block tree below there = (entry_by base d
 
 pub parent_of_there : (base : Shape) (difi : Difi) (master_len level block : ℕ) → HasTree base difi master_len → 1 < level → HasBlock difi level block → HasBlock difi (level - 1) (parent_of difi (level - 1) block)
 parent_of_there base difi master_len level block tree below there = (entry_by base difi master_len level block tree below there).parent
+
+pub level4_is : (difi : Difi) → level_of difi 4 ≡ level4_of difi
+unfolding level_of
+level4_is difi = refl

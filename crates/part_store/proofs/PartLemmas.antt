@@ -1,0 +1,202 @@
+-- A partition's cells through both of its trees.
+use Rattle.std.proofs.Common.{◌≡◌, ℕ, ◌+◌, ◌^◌, ◌<◌, Bool, true, false, not, IsTrue, IsFalse, List, length, drop, Option, Some, None, Result, Ok, Err, refl, sym, ◌∙◌, ap, subst, arith}
+use Rattle.std.proofs.lemmas.Bool.{and_parts, and_from, le-leb, leb-true, eq-eqb, eqb-true}
+use Rattle.save_bytes.specs.declared.space.Bad.{Bad}
+use Rattle.save_bytes.specs.Cells.{Cell, Byte, Blank, Spoilt, IsByte}
+use Rattle.save_bytes.specs.CellNumbers.{value_of}
+use Rattle.save_bytes.specs.State.{Shape, State, IsInside}
+use Rattle.difi.specs.declared.places.LevelPlace.{LevelPlace}
+use Rattle.difi.specs.Sound.{difi_part}
+use Rattle.std.specs.Borrow.{Bor}
+use Rattle.std.specs.Result.{result_err}
+use Rattle.std.proofs.lemmas.List.{length-take-le, length-drop}
+use Rattle.save_bytes.specs.declared.space.Bad.TheVariants.{Disk, Damaged}
+use Rattle.save_bytes.specs.Refusals.{NeverDamaged}
+use Rattle.save_bytes.specs.Answers.{IsPiece}
+use Rattle.save_bytes.specs.Stays.{Stays}
+use Rattle.save_bytes.proofs.SpaceLemmas.{UnlessDisk-map, Stays-join}
+use Rattle.difi.proofs.TestLemmas.{apart, overlap-apart}
+use Rattle.difi.specs.Contents.{view_size}
+use Rattle.dpfs_tree.specs.View.{HasTree as HasContents, IsLocated}
+use Rattle.dpfs_tree.specs.ViewLaws.{can_view-true as contents_pass, true-can_view as contents_hold, tree_of as contents_of_base}
+use Rattle.dpfs_tree.proofs.SameLemmas.{view_stays as contents_stay}
+use Rattle.ivfc_tree.specs.declared.path.BlockState.{BlockState}
+use Rattle.ivfc_tree.specs.declared.path.BlockState.TheVariants.{Holds, NeverWritten, Fails}
+use Rattle.ivfc_tree.specs.Paths.{cell_in}
+use Rattle.ivfc_tree.specs.Levels.{level_of, level4_of}
+use Rattle.ivfc_tree.specs.View.{CanView as CanHash, HasTree as HasHashes, IsVerified}
+use Rattle.ivfc_tree.proofs.LevelLemmas.{level4_is, tree_of as hashes_of}
+use Rattle.ivfc_tree.proofs.ViewLemmas.{place_inside, view_stays as hashed_stay}
+use Rattle.part_store.specs.declared.part.Part.{Part}
+use Rattle.part_store.specs.Parts.{master_of, contents_of, hashed_of, part_state, CanView, can_view, IsFound}
+
+-- what is verified under the master hash in the table is so in the partition
+pub verified_part : (base : State) (part : Part) (table : List ℕ) (at most : ℕ) (result : Result ℕ Bad) → IsVerified (hashed_of base part table) at most result → IsVerified (part_state base part table) at most result
+verified_part base part table at most result h = record { some = h.some; bounded = h.bounded; inside = h.inside; bytes = h.bytes; damaged = h.damaged }
+
+-- a part that can be viewed has its contents in the base
+pub contents_there : (base : State) (part : Part) (n : ℕ) → base.shape.size < 2 ^ 64 → CanView base.shape part n → HasContents base.shape part.at part.difi part.dpfs.selector
+contents_there base part n small view = contents_of_base base.shape part.at part.difi part.dpfs small view.contents
+
+-- and its hash tree in the contents
+pub hash_view : (base : State) (part : Part) (table : List ℕ) → CanView base.shape part (length table) → CanHash (contents_of base part).shape part.difi (length (master_of table part.difi)) part.ivfc
+hash_view base part table view =
+    let difi = part.difi in
+    let from = difi.place + difi.master.at in
+    let levels = view.contents.partition.levels in
+    record {
+      sound = contents_pass base.shape part.at difi part.dpfs view.contents;
+      plain = view.contents.plain;
+      single = refl;
+      base_len = refl;
+      whole_master = length-take-le difi.master.size (drop from table) (omega (arith, length-drop from table, view.master));
+      block_sizes = levels.block_sizes;
+      hash_levels = levels.hash_levels;
+      made = view.made;
+    }
+
+pub hashes_there : (base : State) (part : Part) (table : List ℕ) → base.shape.size < 2 ^ 64 → CanView base.shape part (length table) → HasHashes (contents_of base part).shape part.difi (length (master_of table part.difi))
+hashes_there base part table small view =
+    let contents = contents_there base part (length table) small view in
+    hashes_of (contents_of base part).shape part.difi (length (master_of table part.difi)) part.ivfc (omega (arith, contents.view_fits, contents.small)) (hash_view base part table view)
+
+-- the place of a byte of level four in the contents
+pub place_there : (base : State) (part : Part) (table : List ℕ) (at : ℕ) → base.shape.size < 2 ^ 64 → CanView base.shape part (length table) → at < part.difi.ivfc4.size → (level4_of part.difi).at + at < view_size part.difi
+place_there base part table at small view inside =
+    let there = place_inside (contents_of base part).shape part.difi (length (master_of table part.difi)) at (hashes_there base part table small view) inside in
+    subst (λ (level : LevelPlace). level.at + at < view_size part.difi) (level4_is part.difi) there
+
+pub place_small : (base : State) (part : Part) (table : List ℕ) (at : ℕ) → base.shape.size < 2 ^ 64 → CanView base.shape part (length table) → at < part.difi.ivfc4.size → (level4_of part.difi).at + at < 2 ^ 64
+place_small base part table at small view inside =
+    let contents = contents_there base part (length table) small view in
+    omega (arith, place_there base part table at small view inside, contents.view_fits, small)
+
+byte_value : (cell : Cell) → IsByte cell → Byte (value_of cell) ≡ cell
+byte_value (Byte value) byte = refl
+byte_value (Blank part level block) byte = absurd byte
+byte_value (Spoilt part level block) byte = absurd byte
+
+byte_in : (found : BlockState) (part value : ℕ) → IsByte (cell_in found part value) → cell_in found part value ≡ Byte value
+byte_in Holds part value byte = refl
+byte_in (NeverWritten level block) part value byte = absurd byte
+byte_in (Fails level block) part value byte = absurd byte
+
+-- where verified bytes lie
+pub found : (first mid last : State) (part : Part) (table : List ℕ) (at most n place m : ℕ) → first.shape.size < 2 ^ 64 → CanView first.shape part (length table) → mid.shape ≡ first.shape → IsVerified (part_state first part table) at most (Ok n) → Stays (contents_of first part) (contents_of mid part) None → IsLocated mid part.at part.difi part.dpfs ((level4_of part.difi).at + at) n (Ok (place, m)) → Stays mid last None → (IsTrue mid.told → (x : ℕ) → IsByte (mid.cells x)) → IsFound (part_state first part table) last at most (Ok (place, m))
+found first mid last part table at most n place m small view shape verified stays located later bytes =
+    let there = (level4_of part.difi).at + at in
+    let size : last.shape.size ≡ mid.shape.size = ap (λ (shape : Shape). shape.size) later.space.shape in
+    record {
+      some = located.some;
+      bounded = omega (arith, located.bounded, verified.bounded);
+      inside = omega (arith, located.bounded, verified.inside);
+      in_base = omega (arith, located.in_base, size);
+      cells = λ told k h. (
+          let told_mid : IsTrue mid.told = subst IsTrue (sym stays.space.told) told in
+          let within : at + k < part.difi.ivfc4.size = omega (arith, h, located.bounded, verified.inside) in
+          let inner : (level4_of part.difi).at + (at + k) ≡ there + k = omega arith in
+          let place_of_level4 : (level_of part.difi 4).at ≡ (level4_of part.difi).at = ap (λ (level : LevelPlace). level.at) (level4_is part.difi) in
+          let same : (contents_of first part).cells (there + k) ≡ last.cells (place + k) =
+          sym (stays.cells told (there + k) (omega (arith, place_there first part table (at + k) small view within)))
+          ∙ ap mid.cells (located.places told_mid k h)
+          ∙ sym (later.cells told_mid (place + k) (omega (arith, h, located.in_base))) in
+          let byte : IsByte (last.cells (place + k)) = subst IsByte (sym (later.cells told_mid (place + k) (omega (arith, h, located.in_base)))) (bytes told_mid (place + k)) in
+          byte_in _ part.number _ (verified.bytes told k (omega (arith, h, located.bounded)))
+          ∙ ap (λ (x : ℕ). Byte (value_of ((contents_of first part).cells (x + (at + k))))) place_of_level4
+          ∙ ap (λ (x : ℕ). Byte (value_of ((contents_of first part).cells x))) inner
+          ∙ ap (λ (cell : Cell). Byte (value_of cell)) same
+          ∙ byte_value (last.cells (place + k)) byte);
+      damaged = λ told. tt;
+    }
+
+-- bytes that could not be verified, or not be located
+pub unverified : (s base : State) (at most : ℕ) (bad : Bad) → IsVerified s at most (Err bad) → IsFound s base at most (Err bad)
+unverified s base at most bad verified = record { some = tt; bounded = tt; inside = tt; in_base = tt; cells = λ told. tt; damaged = verified.damaged }
+
+pub unlocated : (s base : State) (at most : ℕ) (bad : Bad) → NeverDamaged (Some bad) → IsFound s base at most (Err bad)
+unlocated s base at most Disk never = record { some = tt; bounded = tt; inside = tt; in_base = tt; cells = λ told. tt; damaged = λ told. tt }
+unlocated s base at most (Damaged part level block) never = absurd never
+
+pub found_run : (first mid last : State) (part : Part) (table : List ℕ) (at most n : ℕ) → first.shape.size < 2 ^ 64 → CanView first.shape part (length table) → mid.shape ≡ first.shape → IsVerified (part_state first part table) at most (Ok n) → Stays (contents_of first part) (contents_of mid part) None → (IsTrue mid.told → (x : ℕ) → IsByte (mid.cells x)) → (result : Result (ℕ × ℕ) Bad) → IsLocated mid part.at part.difi part.dpfs ((level4_of part.difi).at + at) n result → Stays mid last (result_err result) → IsFound (part_state first part table) last at most result
+found_run first mid last part table at most n small view shape verified stays bytes (Ok (place, m)) located later = found first mid last part table at most n place m small view shape verified stays located later bytes
+found_run first mid last part table at most n small view shape verified stays bytes (Err bad) located later = unlocated (part_state first part table) last at most bad located.plain
+
+-- a piece of the base where bytes were found is one of the space
+pub found_piece : (s base : State) (at most place m : ℕ) → IsTrue base.shape.plain → base.told ≡ s.told → IsFound s base at most (Ok (place, m)) → (result : Result (Bor (List ℕ)) Bad) → IsPiece base place m result → IsPiece s at most result
+found_piece s base at most place m plain same_told found (Ok piece) h = record {
+  some = h.some;
+  bounded = omega (arith, h.bounded, found.bounded);
+  inside = omega (arith, h.bounded, found.inside);
+  bytes = λ told k below. found.cells told k (omega (arith, below, h.bounded)) ∙ h.bytes (subst IsTrue (sym same_told) told) k below;
+  damaged = λ told. tt;
+  plain = λ plain. tt;
+}
+found_piece s base at most place m plain same_told found (Err Disk) h = record { some = tt; bounded = tt; inside = tt; bytes = λ told. tt; damaged = λ told. tt; plain = λ plain. tt }
+found_piece s base at most place m plain same_told found (Err (Damaged part level block)) h = absurd (h.plain plain)
+
+-- a space that was refused bytes lends none
+pub refused_piece : (s base : State) (at most : ℕ) (bad : Bad) → IsFalse s.shape.plain → IsFound s base at most (Err bad) → IsPiece s at most (Err bad)
+refused_piece s base at most bad worn found = record { some = tt; bounded = tt; inside = tt; bytes = λ told. tt; damaged = found.damaged; plain = λ plain. absurd (let no = worn in cc) }
+
+-- what stays in the base stays in the contents
+pub contents_later : (first mid last : State) (part : Part) (n : ℕ) (refusal : Option Bad) → first.shape.size < 2 ^ 64 → CanView first.shape part n → mid.shape ≡ first.shape → Stays (contents_of first part) (contents_of mid part) None → Stays mid last refusal → Stays (contents_of first part) (contents_of last part) refusal
+contents_later first mid last part n refusal small view shape before stays =
+    let tree : HasContents mid.shape part.at part.difi part.dpfs.selector = rw shape (contents_there first part n small view) in
+    Stays-join (contents_of first part) (contents_of mid part) (contents_of last part) refusal before (contents_stay mid last part.at part.difi part.dpfs refusal tree stays)
+
+-- what stays in the contents stays in the partition
+pub part_stays : (first last : State) (part : Part) (table : List ℕ) (refusal : Option Bad) → first.shape.size < 2 ^ 64 → CanView first.shape part (length table) → last.shape ≡ first.shape → Stays (contents_of first part) (contents_of last part) refusal → Stays (part_state first part table) (part_state last part table) refusal
+part_stays first last part table refusal small view shape stays =
+    let hashed = hashed_stay (contents_of first part) (contents_of last part) part.number (master_of table part.difi) part.difi part.ivfc refusal (hashes_there first part table small view) stays in
+    record {
+      space = record { shape = rw shape refl; faults = hashed.space.faults; cause = hashed.space.cause; told = hashed.space.told; twins = λ told. UnlessDisk-map refusal (λ _. record { bottom = λ x h. refl; is_fixed = λ x h. refl }) (hashed.space.twins told) };
+      cells = hashed.cells;
+    }
+
+-- what stays in the base after a call on the partition stays in it
+pub part_later : (first mid last : State) (part : Part) (table : List ℕ) (refusal : Option Bad) → first.shape.size < 2 ^ 64 → CanView first.shape part (length table) → mid.shape ≡ first.shape → Stays (part_state first part table) (part_state mid part table) None → Stays mid last refusal → Stays (part_state first part table) (part_state last part table) refusal
+part_later first mid last part table refusal small view shape before stays =
+    let tree : HasContents mid.shape part.at part.difi part.dpfs.selector = rw shape (contents_there first part (length table) small view) in
+    let contents = contents_stay mid last part.at part.difi part.dpfs refusal tree stays in
+    let there : CanView mid.shape part (length table) = rw shape view in
+    let after = part_stays mid last part table refusal (rw shape small) there stays.space.shape contents in
+    Stays-join (part_state first part table) (part_state mid part table) (part_state last part table) refusal before after
+
+-- where bytes were found there is one
+pub found_inside : (s base : State) (at most place m : ℕ) → IsTrue base.shape.sound → IsFound s base at most (Ok (place, m)) → IsInside base.shape place 1
+found_inside s base at most place m sound found = record { sound = sound; inside = omega (arith, found.some, found.in_base) }
+
+-- the test passes where a view can be made
+pub can_view-true : (base : Shape) (part : Part) (n : ℕ) → CanView base part n → can_view base part n ≡ true
+unfolding can_view
+can_view-true base part n view =
+    and_from _ _ (contents_pass base part.at part.difi part.dpfs view.contents)
+    (and_from _ _ (le-leb _ _ view.difi)
+    (and_from _ _ (le-leb _ _ view.master)
+    (and_from _ _ (ap not (overlap-apart difi_part part.difi.master view.apart))
+    (and_from _ _ (eq-eqb _ _ view.made.marks1)
+    (and_from _ _ (eq-eqb _ _ view.made.marks2)
+    (and_from _ _ (eq-eqb _ _ view.made.marks3) (eq-eqb _ _ view.made.marks4)))))))
+
+not-true : (b : Bool) → not b ≡ true → b ≡ false
+not-true true h = cc
+not-true false h = refl
+
+-- and only there
+pub true-can_view : (base : Shape) (part : Part) (n : ℕ) → can_view base part n ≡ true → CanView base part n
+unfolding can_view
+true-can_view base part n test =
+    let contents = and_parts _ _ test in
+    let difi = and_parts _ _ contents.1 in
+    let master = and_parts _ _ difi.1 in
+    let apart_from_it = and_parts _ _ master.1 in
+    let marks1 = and_parts _ _ apart_from_it.1 in
+    let marks2 = and_parts _ _ marks1.1 in
+    let marks3 = and_parts _ _ marks2.1 in
+    record {
+      contents = contents_hold base part.at part.difi part.dpfs contents.0;
+      difi = leb-true _ _ difi.0;
+      master = leb-true _ _ master.0;
+      apart = apart difi_part part.difi.master (not-true _ apart_from_it.0);
+      made = record { marks1 = eqb-true _ _ marks1.0; marks2 = eqb-true _ _ marks2.0; marks3 = eqb-true _ _ marks3.0; marks4 = eqb-true _ _ marks3.1 };
+    }

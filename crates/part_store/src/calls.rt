@@ -1,0 +1,186 @@
+//! Calls through both trees of a partition.
+
+ghost use Rattle.std.specs.Prelude.{◌≡◌, ℕ, ◌+◌, ◌^◌, ◌<◌, ◌≤◌, IsTrue, IfOk, length};
+ghost use Rattle.std.specs.Result.{result_err};
+ghost use Rattle.save_bytes.specs.State.{IsInside};
+ghost use Rattle.save_bytes.specs.Refusals.{NeverDamaged};
+ghost use Rattle.save_bytes.specs.Reads.{Reads};
+ghost use Rattle.ivfc_tree.specs.Levels.{HasBlock, level4_of};
+ghost use Rattle.ivfc_tree.specs.Paths.{block_state};
+ghost use Rattle.ivfc_tree.specs.View.{CanView as CanHash, view_state, IsVerified, status_of};
+ghost use Rattle.difi.specs.Contents.{view_size};
+ghost use Rattle.dpfs_tree.specs.View.{CanView as CanViewContents, IsLocated};
+ghost use Rattle.save_bytes.specs.Stays.{Stays};
+ghost use Rattle.save_bytes.specs.Spots.{Spot, Frame};
+ghost use Rattle.part_store.specs.Parts.{CanView, contents_of, master_of, part_state, IsFound};
+
+use crate::part::Part;
+use difi::Difi;
+use dpfs_tree::DpfsView;
+use ivfc_tree::{IvfcState, IvfcView, Status};
+use save_bytes::{Bad, Space};
+
+// Tries the hash path of a byte over the contents of the double-copy tree.
+fn verify_in<S: Space>(
+    contents: &mut S,
+    number: u8,
+    difi: &Difi,
+    master: &mut [u8],
+    state: &mut IvfcState,
+    at: u64,
+    most: usize,
+) -> Result<usize, Bad>
+    requires view { CanHash (S.state contents.old).shape difi.now (length master.old) state.old }
+    requires inside { at + 1 ≤ difi.now.ivfc4.size }
+    requires some { 1 ≤ most }
+    ensures verified { IsVerified (view_state (S.state contents.old) number master.old difi.now state.old) at most result }
+    ensures reads { Reads S.state S.keeps S.lands contents.old contents.new (result_err result) }
+    ensures master { master.new ≡ master.old }
+    ensures state { state.new ≡ state.old }
+{
+    let mut view = IvfcView::new(contents, number, difi, master, state);
+    view.verify(at, most)
+}
+
+// Tells the state of a block over the contents of the double-copy tree.
+fn status_in<S: Space>(
+    contents: &mut S,
+    number: u8,
+    difi: &Difi,
+    master: &mut [u8],
+    state: &mut IvfcState,
+    level: u8,
+    block: u64,
+) -> Result<Status, Bad>
+    requires view { CanHash (S.state contents.old).shape difi.now (length master.old) state.old }
+    requires there { HasBlock difi.now level block }
+    ensures status { IsTrue (S.state contents.old).told → IfOk result (λ status. status
+        ≡ status_of (block_state (S.state contents.old).cells master.old difi.now state.old level block)) }
+    ensures plain { NeverDamaged (result_err result) }
+    ensures reads { Reads S.state S.keeps S.lands contents.old contents.new (result_err result) }
+    ensures master { master.new ≡ master.old }
+    ensures state { state.new ≡ state.old }
+{
+    let mut view = IvfcView::new(contents, number, difi, master, state);
+    view.status(level, block)
+}
+
+/// Tries the hash path of the byte at `at`, and answers how many bytes from there on are good by it.
+pub(crate) fn verify<S: Space>(
+    base: &mut S,
+    part: &mut Part,
+    table: &mut [u8],
+    at: u64,
+    most: usize,
+) -> Result<usize, Bad>
+    requires view { CanView (S.state base.old).shape part.old (length table.old) }
+    requires inside { at + 1 ≤ part.old.difi.ivfc4.size }
+    requires some { 1 ≤ most }
+    ensures verified { IsVerified (part_state (S.state base.old) part.old table.old) at most result }
+    ensures stays { Stays (contents_of (S.state base.old) part.old) (contents_of (S.state base.new) part.old) (result_err result) }
+    ensures frame { S.keeps Frame base.old base.new }
+    ensures spots { IsTrue (S.state base.old).told → (spot : Spot) → S.keeps spot base.old base.new }
+    ensures part { part.new ≡ part.old }
+    ensures table { table.new ≡ table.old }
+{
+    let start = (part.difi.place + part.difi.master.at) as usize;
+    let end = start + part.difi.master.size as usize;
+    let difi = part.difi;
+    let number = part.number;
+    let place = part.at;
+    let dpfs = &mut part.dpfs;
+    let ivfc = &mut part.ivfc;
+    let master = &mut table[start..end];
+    let mut contents = DpfsView::new(base, place, &difi, dpfs);
+    verify_in(&mut contents, number, &difi, master, ivfc, at, most)
+}
+
+/// Tells the state of a block of one of the four hash levels.
+pub(crate) fn status<S: Space>(
+    base: &mut S,
+    part: &mut Part,
+    table: &mut [u8],
+    level: u8,
+    block: u64,
+) -> Result<Status, Bad>
+    requires view { CanView (S.state base.old).shape part.old (length table.old) }
+    requires there { HasBlock part.old.difi level block }
+    ensures status { IsTrue (S.state base.old).told → IfOk result (λ status. status
+        ≡ status_of (block_state (contents_of (S.state base.old) part.old).cells (master_of table.old part.old.difi) part.old.difi part.old.ivfc level block)) }
+    ensures plain { NeverDamaged (result_err result) }
+    ensures stays { Stays (contents_of (S.state base.old) part.old) (contents_of (S.state base.new) part.old) (result_err result) }
+    ensures frame { S.keeps Frame base.old base.new }
+    ensures spots { IsTrue (S.state base.old).told → (spot : Spot) → S.keeps spot base.old base.new }
+    ensures part { part.new ≡ part.old }
+    ensures table { table.new ≡ table.old }
+{
+    let start = (part.difi.place + part.difi.master.at) as usize;
+    let end = start + part.difi.master.size as usize;
+    let difi = part.difi;
+    let number = part.number;
+    let place = part.at;
+    let dpfs = &mut part.dpfs;
+    let ivfc = &mut part.ivfc;
+    let master = &mut table[start..end];
+    let mut contents = DpfsView::new(base, place, &difi, dpfs);
+    status_in(&mut contents, number, &difi, master, ivfc, level, block)
+}
+
+// Where bytes of the contents lie in the base, and how many lie there in one piece, up to `most`.
+fn locate<S: Space>(
+    base: &mut S,
+    part: &mut Part,
+    at: u64,
+    most: usize,
+) -> Result<(u64, usize), Bad>
+    requires view { CanViewContents (S.state base.old).shape part.old.at part.old.difi part.old.dpfs }
+    requires inside { at + 1 ≤ view_size part.old.difi }
+    requires some { 1 ≤ most }
+    ensures located { IsLocated (S.state base.old) part.old.at part.old.difi part.old.dpfs at most result }
+    ensures reads { Reads S.state S.keeps S.lands base.old base.new (result_err result) }
+    ensures part { part.new ≡ part.old }
+{
+    let difi = part.difi;
+    let mut contents = DpfsView::new(base, part.at, &difi, &mut part.dpfs);
+    contents.locate(at, most)
+}
+
+// Where a byte of level four lies in the contents.
+fn place_in_contents(difi: &Difi, at: u64) -> u64
+    requires { (level4_of difi.now).at + at < 2 ^ 64 }
+    ensures { result ≡ (level4_of difi.now).at + at }
+{
+    let from = if difi.external {
+        difi.dpfs3.size
+    } else {
+        difi.ivfc4.at
+    };
+    from + at
+}
+
+/// Where the bytes of level four from `at` on lie in the base, and how many lie there in one piece, up to `most`,
+/// where they have a hash path.
+pub(crate) fn find<S: Space>(
+    base: &mut S,
+    part: &mut Part,
+    table: &mut [u8],
+    at: u64,
+    most: usize,
+) -> Result<(u64, usize), Bad>
+    requires view { CanView (S.state base.old).shape part.old (length table.old) }
+    requires inside { at + 1 ≤ part.old.difi.ivfc4.size }
+    requires some { 1 ≤ most }
+    ensures found { IsFound (part_state (S.state base.old) part.old table.old) (S.state base.new) at most result }
+    ensures stays { Stays (contents_of (S.state base.old) part.old) (contents_of (S.state base.new) part.old) (result_err result) }
+    ensures frame { S.keeps Frame base.old base.new }
+    ensures spots { IsTrue (S.state base.old).told → (spot : Spot) → S.keeps spot base.old base.new }
+    ensures part { part.new ≡ part.old }
+    ensures table { table.new ≡ table.old }
+{
+    let most = match verify(base, part, table, at, most) {
+        Ok(most) => most,
+        Err(bad) => return Err(bad),
+    };
+    let place = place_in_contents(&part.difi, at);
+    locate(base, part, place, most)
+}

@@ -1,0 +1,12 @@
+//! A partition of an image: its hash tree over its double-copy tree.
+#![tactic(auto)]
+
+mod calls;
+mod part;
+mod view;
+
+pub use part::Part;
+pub use view::PartView;
+
+#[cfg(test)]
+mod tests;

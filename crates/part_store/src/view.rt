@@ -1,0 +1,119 @@
+//! A partition's level four as a space.
+
+ghost use Rattle.std.specs.Prelude.{◌≡◌, ℕ, ◌≤◌, length, IsTrue, IfOk, []};
+ghost use Rattle.std.specs.Borrow.{sem};
+ghost use Rattle.std.specs.Io.BufRead.{Rests};
+ghost use Rattle.std.specs.Result.{result_err};
+ghost use Rattle.save_bytes.specs.State.{IsInside};
+ghost use Rattle.save_bytes.specs.Refusals.{NeverDamaged};
+ghost use Rattle.save_bytes.specs.Answers.{IsPiece};
+ghost use Rattle.save_bytes.specs.Stays.{Stays};
+ghost use Rattle.save_bytes.specs.Spots.{Spot, Frame};
+ghost use Rattle.ivfc_tree.specs.Levels.{HasBlock};
+ghost use Rattle.ivfc_tree.specs.Paths.{block_state};
+ghost use Rattle.ivfc_tree.specs.View.{status_of};
+ghost use Rattle.part_store.specs.Parts.{CanView, contents_of, master_of, IsFound};
+ghost use Rattle.part_store.specs.Held.{shown, IsViewOf, SameView};
+ghost use Rattle.part_store.specs.contracts.view.PartView.{the_row};
+ghost use mir.Syntax.{named};
+
+use crate::calls::{find, status};
+use crate::part::Part;
+use ivfc_tree::Status;
+use save_bytes::{Bad, Space};
+
+/// The bytes of a partition's level four, each lent only where it has a hash path up to the master hash in the table.
+#[derive(Drop)]
+pub struct PartView<'a, S: Space> {
+    base: &'a mut S,
+    part: &'a mut Part,
+    table: &'a mut [u8],
+}
+
+impl<'a, S: Space> PartView<'a, S> {
+    /// The view of a part over the image, with the table that has its descriptor.
+    pub fn new(base: &'a mut S, part: &'a mut Part, table: &'a mut [u8]) -> PartView<'a, S>
+        requires { CanView (S.state base.old).shape part.old (length table.old) }
+        ensures holds { IsViewOf result base.entry part.entry table.entry }
+        ensures sound { IsTrue (shown S.state result).shape.sound }
+    {
+        PartView { base, part, table }
+    }
+
+    /// How many bytes there are. It never changes.
+    pub fn len(&self) -> u64
+        ensures { result ≡ (shown S.state self.now).shape.size }
+    {
+        self.part.difi.ivfc4.size
+    }
+
+    /// Where the bytes from `at` on lie in the base, and how many lie there in one piece, up to `most`, where they
+    /// have a hash path. `Damaged` comes exactly where the byte at `at` has none, and names the topmost block that fails.
+    pub fn locate(&mut self, at: u64, most: usize) -> Result<(u64, usize), Bad>
+        requires inside { IsInside (shown S.state self.old).shape at 1 }
+        requires some { 1 ≤ most }
+        ensures found { IsFound (shown S.state self.old) (S.state self.new.base.now) at most result }
+        ensures stays { Stays (shown S.state self.old) (shown S.state self.new) (result_err result) }
+        ensures frame { S.keeps Frame self.old.base.now self.new.base.now }
+        ensures spots { IsTrue (S.state self.old.base.now).told → (spot : Spot) → S.keeps spot self.old.base.now self.new.base.now }
+        ensures same { SameView self.old self.new }
+    {
+        let base = &mut *self.base;
+        let part = &mut *self.part;
+        let table = &mut *self.table;
+        find(base, part, table, at, most)
+    }
+
+    /// Lends 1 to `most` bytes from `at` on, as they lie in the base, where they have a hash path. `Damaged` comes
+    /// exactly where the byte at `at` has none, and names the topmost block that fails.
+    pub fn piece(&mut self, at: u64, most: usize) -> Result<&[u8], Bad>
+        requires inside { IsInside (shown S.state self.old).shape at 1 }
+        requires some { 1 ≤ most }
+        ensures piece { IsPiece (shown S.state self.old) at most result }
+        ensures* after { sem 𝓛 (Rests (the_row (record { mir = named 0; lft = [] }) S.row) self.entry (λ new.
+            Stays (shown S.state self.old) (shown S.state new) (result_err result)
+            × S.keeps Frame self.old.base.now new.base.now
+            × (IsTrue (S.state self.old.base.now).told → (spot : Spot) → S.keeps spot self.old.base.now new.base.now)
+            × SameView self.old new)) }
+    {
+        let (place, most) = match self.locate(at, most) {
+            Ok(run) => run,
+            Err(bad) => return Err(bad),
+        };
+        let base = &mut *self.base;
+        base.piece(place, most)
+    }
+
+    /// Lends as `piece` does, for as long as the base was lent.
+    pub fn lend(self, at: u64, most: usize) -> Result<&'a [u8], Bad>
+        requires inside { IsInside (shown S.state self).shape at 1 }
+        requires some { 1 ≤ most }
+        ensures piece { IsPiece (shown S.state self.entry) at most result }
+    {
+        let PartView { base, part, table } = self;
+        let (place, most) = match find(base, part, table, at, most) {
+            Ok(run) => run,
+            Err(bad) => return Err(bad),
+        };
+        base.piece(place, most)
+    }
+
+    /// Whether the path of a block of one of the four hash levels holds. It is refused only where the disk below
+    /// failed.
+    pub fn status(&mut self, level: u8, block: u64) -> Result<Status, Bad>
+        requires sound { IsTrue (shown S.state self.old).shape.sound }
+        requires there { HasBlock self.old.part.now.difi level block }
+        ensures status { IsTrue (shown S.state self.old).told → IfOk result (λ status. status
+            ≡ status_of (block_state (contents_of (S.state self.old.base.now) self.old.part.now).cells (master_of self.old.table.now self.old.part.now.difi) self.old.part.now.difi self.old.part.now.ivfc level block)) }
+        ensures plain { NeverDamaged (result_err result) }
+        ensures stays { Stays (shown S.state self.old) (shown S.state self.new) (result_err result) }
+        ensures frame { S.keeps Frame self.old.base.now self.new.base.now }
+        ensures spots { IsTrue (S.state self.old.base.now).told → (spot : Spot) → S.keeps spot self.old.base.now self.new.base.now }
+        ensures same { SameView self.old self.new }
+    {
+        let base = &mut *self.base;
+        let part = &mut *self.part;
+        let table = &mut *self.table;
+        status(base, part, table, level, block)
+    }
+}
