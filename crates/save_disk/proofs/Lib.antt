@@ -1,2 +1,4 @@
 pub mod Sectors
 pub mod Events
+pub mod Pieces
+pub mod Telling

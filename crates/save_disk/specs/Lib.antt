@@ -1,6 +1,7 @@
 pub mod Trace
 pub mod State
 pub mod Stops
+pub mod Tells
 pub mod Grains
 pub mod Calls
 pub mod CallLogs

@@ -24,6 +24,7 @@ pub record IsSound (state : State) : Type 0 where
   pub size : state.size < 2 ^ 64
   pub told_size : IfSome state.told (λ told. length told.start ≡ state.size)
   pub told_grain : IfSome state.told (λ told. told.grain ≡ state.grain)
+  pub told_now : IfSome state.told (λ told. length (image_now told) ≡ state.size)
 
 -- the count is greater than before, or stands at its last value
 abbrev pub Rose : ℕ → ℕ → Type 0

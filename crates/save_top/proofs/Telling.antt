@@ -1,11 +1,9 @@
--- How calls of a desk add up.
-use Rattle.std.proofs.Common.{◌≡◌, ℕ, zero, suc, ◌+◌, ◌≤◌, List, [], ◌∷◌, ◌++◌, Option, Some, None, take, drop, refl, sym, ◌∙◌, ap, arith, append_assoc}
-use Rattle.std.specs.Option.{option_map}
+-- What was said, call by call.
+use Rattle.std.proofs.Common.{◌≡◌, ℕ, zero, suc, List, [], ◌∷◌, ◌++◌, take, drop, refl, sym, ◌∙◌, ap, append_assoc}
 use Rattle.std.proofs.lemmas.List.{append-nil, take-append-drop}
-use Rattle.save_disk.specs.Trace.{Event, Write, Sync, Said, Told, OnlySays, said_of}
-use Rattle.save_disk.specs.State.{State, IsSteady, IsQuiet, Happens, then_event}
-use Rattle.save_disk.specs.Stops.{Since, AtEachMoment}
-use Rattle.save_top.specs.Output.{IsFront, SaysFront, SaysAll, Tells}
+use Rattle.save_disk.specs.Trace.{Event, Write, Sync, Said, OnlySays, said_of}
+use Rattle.save_disk.specs.Stops.{AtEachMoment}
+use Rattle.save_top.specs.Output.{IsFront, SaysFront, SaysAll}
 
 -- nothing was written or synced, and with the rest what was said is the text
 pub record SaysBefore (rest text : List ℕ) (events : List Event) : Type 0 where
@@ -23,42 +21,6 @@ OnlySays-push [] bytes only = tt
 OnlySays-push (Said first ∷ events) bytes only = OnlySays-push events bytes only
 OnlySays-push (Write sector written ∷ events) bytes only = absurd only
 OnlySays-push (Sync ∷ events) bytes only = absurd only
-
-with_events : Told → List Event → Told
-with_events told events = record told { events = events }
-
-pub steady_start : (state : State) → IsSteady state state
-steady_start state = record { size = refl; grain = refl; disk = omega arith; source = omega arith; sink = omega arith }
-
-pub steady_join : (one two three : State) → IsSteady one two → IsSteady two three → IsSteady one three
-steady_join one two three before after = record {
-  size = after.size ∙ before.size;
-  grain = after.grain ∙ before.grain;
-  disk = omega (arith, before.disk, after.disk);
-  source = omega (arith, before.source, after.source);
-  sink = omega (arith, before.sink, after.sink);
-}
-
-module _ (P : List Event → Type 0) where
-  -- before the first call
-  pub tells_start : (state : State) → P [] → Tells P state state
-  tells_start state none = λ told is. ([], none, is ∙ ap (λ (events : List Event). Some (record told { events = events })) (sym (append-nil told.events)))
-
-  -- a call that adds nothing
-  pub tells_quiet : (one two three : State) → Tells P one two → IsQuiet two three → Tells P one three
-  tells_quiet one two three so_far quiet = λ told is. let before = so_far told is in (before.0, before.1, quiet ∙ before.2)
-
-  -- a call that adds an event
-  pub tells_more : (Q : List Event → Type 0) (event : Event) (one two three : State) → Tells P one two → Happens event two three → ((events : List Event) → P events → Q (events ++ event ∷ [])) → Tells Q one three
-  tells_more Q event one two three so_far happens more = λ told is.
-      let before = so_far told is in (
-        before.0 ++ event ∷ [],
-        more before.0 before.1,
-        happens ∙ ap (λ (o : Option Told). option_map (then_event event) o) before.2 ∙ ap (λ (events : List Event). Some (record told { events = events })) (append_assoc told.events before.0 (event ∷ [])),
-      )
-
-  pub tells_weaker : (Q : List Event → Type 0) (one two : State) → Tells P one two → ((events : List Event) → P events → Q events) → Tells Q one two
-  tells_weaker Q one two so_far weaker = λ told is. let before = so_far told is in (before.0, weaker before.0 before.1, before.2)
 
 -- a piece more was said
 pub said_more : (text rest next : List ℕ) (n : ℕ) (events : List Event) → next ≡ drop n rest → SaysBefore rest text events → SaysBefore next text (events ++ Said (take n rest) ∷ [])

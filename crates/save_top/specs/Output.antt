@@ -1,8 +1,6 @@
 -- What was said at a moment, beside what is to be said in all.
-use Rattle.std.specs.Prelude.{ℕ, ◌≡◌, List, ◌++◌, Option, Some}
-use Rattle.save_disk.specs.Trace.{Event, Told, OnlySays, IsFresh, said_of}
-use Rattle.save_disk.specs.State.{State, Rose}
-use Rattle.save_disk.specs.Stops.{Since}
+use Rattle.std.specs.Prelude.{ℕ, ◌≡◌, List, ◌++◌}
+use Rattle.save_disk.specs.Trace.{Event, OnlySays, said_of}
 
 -- the first list is a front of the second
 abbrev pub IsFront : List ℕ → List ℕ → Type 0
@@ -17,17 +15,3 @@ pub record SaysFront (text : List ℕ) (events : List Event) : Type 0 where
 pub record SaysAll (text : List ℕ) (events : List Event) : Type 0 where
   pub only : OnlySays events
   pub whole : said_of events ≡ text
-
--- where the disk tells its trace, such events came, and nothing else happened
-abbrev pub Tells : (List Event → Type 0) → State → State → Type 0
-Tells P before after = (told : Told) → before.told ≡ Some told → Since P told after.told
-
--- where the desk tells a trace that has no event yet and every read, by the image of its start
-abbrev pub WhenFresh : (Told → Type 0) → State → Type 0
-WhenFresh P before = (told : Told) → before.told ≡ Some told → IsFresh told → P told
-
--- no count of faults rose
-pub record NoneRose (before after : State) : Type 0 where
-  pub disk : Rose before.counts.disk after.counts.disk → ⊥
-  pub source : Rose before.counts.source after.counts.source → ⊥
-  pub sink : Rose before.counts.sink after.counts.sink → ⊥

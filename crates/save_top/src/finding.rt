@@ -4,7 +4,7 @@ ghost use Rattle.std.specs.Prelude.{◌≡◌, ◌≤◌, length, take, IfOk};
 ghost use Rattle.container_header.specs.Conditions.{reading};
 ghost use Rattle.container_header.specs.Sound.{IsSound};
 ghost use Rattle.save_disk.specs.State.{IsQuiet, IsSteady, HasCause};
-ghost use Rattle.save_top.specs.Output.{WhenFresh};
+ghost use Rattle.save_disk.specs.Tells.{WhenFresh};
 ghost use Rattle.save_top.specs.Finding.{finding_of, of_table};
 
 use crate::table::{MAX_GRAIN, digest_of};

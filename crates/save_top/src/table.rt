@@ -4,7 +4,7 @@ ghost use Rattle.std.specs.Prelude.{◌≡◌, ◌+◌, ◌≤◌, ℕ, List, �
 ghost use Rattle.sha2.specs.Sha256.{sha256};
 ghost use Rattle.sha2.specs.Hashers.{Holds256};
 ghost use Rattle.save_disk.specs.State.{IsQuiet, IsSteady, HasCause};
-ghost use Rattle.save_top.specs.Output.{WhenFresh};
+ghost use Rattle.save_disk.specs.Tells.{WhenFresh};
 
 use save_disk::{Disk, Failed};
 use sha2::{Digest, Sha256};

@@ -4,9 +4,10 @@ ghost use Rattle.std.specs.Prelude.{◌≡◌, ◌⊎◌, ◌≤◌, ◌↔◌, 
 ghost use Rattle.arrayvec.specs.ArrayVec.{array_vec_len};
 ghost use Rattle.save_disk.specs.State.{IsSteady, Rose};
 ghost use Rattle.save_disk.specs.Stops.{Since, AtEachMoment};
+ghost use Rattle.save_disk.specs.Tells.{WhenFresh, NoneRose};
 ghost use Rattle.save_top.specs.declared.order.Order.{Order};
 ghost use Rattle.save_top.specs.Words.{order_of};
-ghost use Rattle.save_top.specs.Output.{WhenFresh, NoneRose, SaysFront, SaysAll};
+ghost use Rattle.save_top.specs.Output.{SaysFront, SaysAll};
 ghost use Rattle.save_top.specs.Finding.{finding_of, reply_on, reply_to};
 
 use crate::finding::{Finding, find};

@@ -2,7 +2,8 @@
 
 ghost use Rattle.std.specs.Prelude.{◌≡◌, OnOk, OnErr};
 ghost use Rattle.save_disk.specs.State.{IsSteady, HasCause};
-ghost use Rattle.save_top.specs.Output.{Tells, SaysAll, SaysFront};
+ghost use Rattle.save_disk.specs.Tells.{Tells};
+ghost use Rattle.save_top.specs.Output.{SaysAll, SaysFront};
 
 use save_disk::{Desk, Failed};
 

@@ -1,6 +1,6 @@
 use Rattle.std.proofs.Common.{◌≡◌, ◌∙◌, sym, Ok, Err}
 use Rattle.std.proofs.lemmas.Result.{IfOk-weaker}
-use Rattle.save_top.specs.Output.{WhenFresh}
+use Rattle.save_disk.specs.Tells.{WhenFresh}
 use Rattle.save_top.specs.Finding.{finding_of, of_table}
 use Rattle.save_top.proofs.Findings.{finding_is}
 use Rattle.save_top.proofs.finding.find.Goals as goal

@@ -2,7 +2,7 @@ use Rattle.std.proofs.Common.{◌≡◌, ◌+◌, ◌++◌, List, ℕ, take, dro
 use Rattle.std.proofs.Math.Seq.{take-add}
 use Rattle.std.proofs.lemmas.List.{drop-drop}
 use Rattle.sha2.specs.Hashers.{Holds256}
-use Rattle.save_top.proofs.Telling.{steady_join}
+use Rattle.save_disk.proofs.Telling.{steady_join}
 use Rattle.save_top.proofs.table.digest_of.Goals as goal
 
 pub loop-done-preserved : goal.loop-done-preserved

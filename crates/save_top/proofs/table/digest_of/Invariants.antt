@@ -1,7 +1,7 @@
 use Rattle.std.proofs.Common.{◌≡◌, ◌≤◌, ◌-◌, take, drop}
 use Rattle.sha2.specs.Hashers.{Holds256}
 use Rattle.save_disk.specs.State.{IsQuiet, IsSteady}
-use Rattle.save_top.specs.Output.{WhenFresh}
+use Rattle.save_disk.specs.Tells.{WhenFresh}
 use Rattle.save_top.proofs.table.digest_of.Given as goal
 
 abbrev pub invariant-loop-done : goal.invariant-loop-done

@@ -2,7 +2,7 @@ use Rattle.std.proofs.Common.{◌≡◌, ◌*◌, ◌+◌, ◌-◌, ◌/◌, ◌
 use Rattle.std.proofs.lemmas.Nat.{div-add-mod'}
 use Rattle.sha2.specs.Hashers.{Holds256}
 use Rattle.save_disk.specs.Trace.{sector_of}
-use Rattle.save_top.proofs.Pieces.{piece_of_sector, read_fresh, start_size}
+use Rattle.save_disk.proofs.Pieces.{piece_of_sector, read_fresh, start_size}
 use Rattle.save_top.proofs.table.hash_piece.Goals as goal
 
 pub returns-clause-hashed : goal.returns-clause-hashed

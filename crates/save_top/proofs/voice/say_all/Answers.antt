@@ -1,7 +1,8 @@
 use Rattle.std.proofs.Common.{take, drop, length, ◌-◌}
 use Rattle.std.proofs.lemmas.List.{take_rest}
 use Rattle.save_disk.specs.Trace.{Said}
-use Rattle.save_top.proofs.Telling.{SaysBefore, tells_more, said_more, steady_join}
+use Rattle.save_disk.proofs.Telling.{tells_more, steady_join}
+use Rattle.save_top.proofs.Telling.{SaysBefore, said_more}
 use Rattle.save_top.proofs.voice.say_all.Goals as goal
 
 pub loop-rest-preserved : goal.loop-rest-preserved

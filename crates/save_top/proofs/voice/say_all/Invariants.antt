@@ -1,6 +1,6 @@
 use Rattle.std.proofs.Common.{length}
 use Rattle.save_disk.specs.State.{IsSteady}
-use Rattle.save_top.specs.Output.{Tells}
+use Rattle.save_disk.specs.Tells.{Tells}
 use Rattle.save_top.proofs.Telling.{SaysBefore}
 use Rattle.save_top.proofs.voice.say_all.Given as goal
 
