@@ -6,7 +6,7 @@ use Rattle.save_disk.specs.Trace.{Event, Write, Sync, Said, with_sector, image_a
 use Rattle.save_disk.specs.KeptEvents.{event_of}
 
 -- the last event changes the image that the others left
-image_after-push : (grain : ℕ) (events : List Event) (event : Event) (image : List ℕ) → image_after grain image (events ++ event ∷ []) ≡ image_after grain (image_after grain image events) (event ∷ [])
+pub image_after-push : (grain : ℕ) (events : List Event) (event : Event) (image : List ℕ) → image_after grain image (events ++ event ∷ []) ≡ image_after grain (image_after grain image events) (event ∷ [])
 image_after-push grain [] event image = refl
 image_after-push grain (Write sector bytes ∷ events) event image = image_after-push grain events event (with_sector grain image sector bytes)
 image_after-push grain (Sync ∷ events) event image = image_after-push grain events event image
