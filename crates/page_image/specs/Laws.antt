@@ -1,0 +1,74 @@
+-- The laws of a space, of an image.
+use Rattle.std.specs.Prelude.{◌≡◌, ◌≢◌, ℕ, ◌+◌, ◌*◌, ◌^◌, ◌<◌, ◌≤◌, false, List, IsTrue, refl, ⊤}
+use Rattle.std.proofs.Common.{◌∙◌, ap, sym, subst, arith, rules, tests}
+use Rattle.save_bytes.specs.Spots.{Spot, Place, Sector, Frame}
+use Rattle.save_disk.specs.State as disks
+use Rattle.save_disk.specs.Writes.{WritesOnly}
+use Rattle.save_disk.specs.WriteLaws.{WritesOnly-quiet, WritesOnly-join}
+use Rattle.page_image.specs.declared.state.ImageState.{ImageState}
+use Rattle.page_image.specs.declared.image.Image.{Image}
+use Rattle.page_image.specs.Images.{byte_of, is_changed, image_state, Mirrors}
+use Rattle.page_image.specs.Spots.{SameImage, HoldsAt, SameSpot, Leaves}
+use Rattle.page_image.specs.Held.{shown, ImageKeeps}
+
+pub image_size_fits : (d : disks.State) (image : ImageState) → (image_state d image).shape.size < 2 ^ 64
+image_size_fits d image = omega (arith, image.layout.most)
+
+steady_same : (d : disks.State) → disks.IsSteady d d
+steady_same d = record { size = refl; grain = refl; disk = omega arith; source = omega arith; sink = omega arith }
+
+SameImage-same : (d : disks.State) (image : ImageState) → SameImage d image d image
+SameImage-same d image = record { len = refl; grain = refl; steady = steady_same d; writes = WritesOnly-quiet (λ sector bytes. ⊤) d d refl; mirrors = λ h. h }
+
+SameSpot-same : (spot : Spot) (d : disks.State) (image : ImageState) → SameSpot spot d image d image
+SameSpot-same (Place x) d image = (refl, WritesOnly-quiet (HoldsAt image.grain x (byte_of image x)) d d refl)
+SameSpot-same (Sector number) d image = λ clean. (clean, WritesOnly-quiet (λ sector bytes. sector ≢ number) d d refl)
+SameSpot-same Frame d image = tt
+
+pub Leaves-same : (spot : Spot) (d : disks.State) (image : ImageState) → Leaves spot d image d image
+Leaves-same spot d image = (SameImage-same d image, SameSpot-same spot d image)
+
+pub ImageKeeps-same : {D : Type 0} (states : D → disks.State) (spot : Spot) (s : Image D) → ImageKeeps states spot s s
+ImageKeeps-same states spot s = (record { same_image = refl; same_disk = refl }, Leaves-same spot (states s.disk.now) s.image.now)
+
+steady_join : (one two three : disks.State) → disks.IsSteady one two → disks.IsSteady two three → disks.IsSteady one three
+steady_join one two three h k = record {
+  size = k.size ∙ h.size;
+  grain = k.grain ∙ h.grain;
+  disk = omega (arith, h.disk, k.disk);
+  source = omega (arith, h.source, k.source);
+  sink = omega (arith, h.sink, k.sink);
+}
+
+module _ (d e f : disks.State) (i j k : ImageState) where
+  SameImage-join : SameImage d i e j → SameImage e j f k → SameImage d i f k
+  SameImage-join h g = record {
+    len = g.len ∙ h.len;
+    grain = g.grain ∙ h.grain;
+    steady = steady_join d e f h.steady g.steady;
+    writes = WritesOnly-join (λ sector bytes. ⊤) d e f h.writes g.writes;
+    mirrors = λ mirrors. g.mirrors (h.mirrors mirrors);
+  }
+
+  SameSpot-join : (spot : Spot) → j.grain ≡ i.grain → SameSpot spot d i e j → SameSpot spot e j f k → SameSpot spot d i f k
+  SameSpot-join (Place x) grain h g =
+      let later : WritesOnly (HoldsAt i.grain x (byte_of i x)) e f = rw (← grain, ← h.0) g.1 in
+      (g.0 ∙ h.0, WritesOnly-join (HoldsAt i.grain x (byte_of i x)) d e f h.1 later)
+  SameSpot-join (Sector number) grain h g = λ clean.
+      let first = h clean in
+      let second = g first.0 in
+      (second.0, WritesOnly-join (λ sector bytes. sector ≢ number) d e f first.1 second.1)
+  SameSpot-join Frame grain h g = tt
+
+  pub Leaves-join : (spot : Spot) → Leaves spot d i e j → Leaves spot e j f k → Leaves spot d i f k
+  Leaves-join spot h g = (SameImage-join h.0 g.0, SameSpot-join spot h.0.grain h.1 g.1)
+
+pub ImageKeeps-join : {D : Type 0} (states : D → disks.State) (spot : Spot) (s t u : Image D) → ImageKeeps states spot s t → ImageKeeps states spot t u → ImageKeeps states spot s u
+ImageKeeps-join states spot s t u h g = (
+  record { same_image = g.0.same_image ∙ h.0.same_image; same_disk = g.0.same_disk ∙ h.0.same_disk },
+  Leaves-join (states s.disk.now) (states t.disk.now) (states u.disk.now) s.image.now t.image.now u.image.now spot h.1 g.1,
+)
+
+-- a disk of the same length and grain is as much the disk of an image
+pub SameImage-shape : (d e : disks.State) (i j : ImageState) → SameImage d i e j → (image_state e j).shape ≡ (image_state d i).shape
+SameImage-shape d e i j same = rw (same.len, same.grain, same.steady.size, same.steady.grain) refl

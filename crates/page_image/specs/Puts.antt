@@ -1,0 +1,17 @@
+-- What a put leaves of what is held.
+use Rattle.std.specs.Prelude.{◌≡◌, ◌≢◌, ℕ, ◌+◌, ◌/◌, ◌<◌, true, List, length}
+use Rattle.save_bytes.specs.Fields.{with_bytes}
+use Rattle.page_image.specs.declared.state.ImageState.{ImageState}
+use Rattle.page_image.specs.Images.{is_changed}
+
+-- the sectors that have one of the n places from a place on are changed, and the others are as before
+pub record Marks (at n : ℕ) (old new : ImageState) : Type 0 where
+  pub met : (k : ℕ) → k < n → is_changed new ((at + k) / old.grain) ≡ true
+  pub others : (sector : ℕ) → ((k : ℕ) → k < n → (at + k) / old.grain ≢ sector) → is_changed new sector ≡ is_changed old sector
+
+-- a piece was put at a place
+pub record IsPut (at : ℕ) (piece : List ℕ) (old new : ImageState) : Type 0 where
+  pub len : new.len ≡ old.len
+  pub grain : new.grain ≡ old.grain
+  pub bytes : new.bytes.items ≡ with_bytes old.bytes.items at piece
+  pub marks : Marks at (length piece) old new

@@ -1,0 +1,38 @@
+-- Which bytes and sectors of the disk a call on an image leaves alone.
+use Rattle.std.specs.Prelude.{◌≡◌, ◌≢◌, ℕ, ◌-◌, ◌+◌, ◌*◌, ◌/◌, ◌<◌, ◌≤◌, false, List, slice_index, ⊤}
+use Rattle.save_bytes.specs.Spots.{Spot, Place, Sector, Frame}
+use Rattle.save_disk.specs.State as disks
+use Rattle.save_disk.specs.Writes.{WritesOnly}
+use Rattle.page_image.specs.declared.state.ImageState.{ImageState}
+use Rattle.page_image.specs.Images.{byte_of, is_changed, Mirrors}
+
+-- What no call changes: the length and the grain. The disk's trace grows by writes alone, and what is not changed
+-- stays on the disk.
+pub record SameImage (disk : disks.State) (image : ImageState) (disk_new : disks.State) (image_new : ImageState) : Type 0 where
+  pub len : image_new.len ≡ image.len
+  pub grain : image_new.grain ≡ image.grain
+  pub steady : disks.IsSteady disk disk_new
+  pub writes : WritesOnly (λ sector bytes. ⊤) disk disk_new
+  pub mirrors : Mirrors disk image → Mirrors disk_new image_new
+
+-- where the write covers the place, it holds this byte there
+abbrev pub HoldsAt : ℕ → ℕ → ℕ → ℕ → List ℕ → Type 0
+HoldsAt grain x byte sector bytes = sector * grain ≤ x → x < sector * grain + grain → slice_index bytes (x - sector * grain) ≡ byte
+
+-- A place is left alone where its byte is as before and each write holds it, a sector where it is not changed and was
+-- not written if it was not changed before.
+abbrev pub SameSpot : Spot → disks.State → ImageState → disks.State → ImageState → Type 0
+SameSpot (Place x) disk image disk_new image_new =
+    (byte_of image_new x ≡ byte_of image x) × WritesOnly (HoldsAt image.grain x (byte_of image x)) disk disk_new
+SameSpot (Sector number) disk image disk_new image_new =
+    is_changed image number ≡ false → (is_changed image_new number ≡ false) × WritesOnly (λ sector bytes. sector ≢ number) disk disk_new
+SameSpot Frame disk image disk_new image_new = ⊤
+
+abbrev pub Leaves : Spot → disks.State → ImageState → disks.State → ImageState → Type 0
+Leaves spot disk image disk_new image_new = SameImage disk image disk_new image_new × SameSpot spot disk image disk_new image_new
+
+-- a put touches its own places, and the sectors that have them
+abbrev pub ImageLands : ℕ → ℕ → Spot → Type 0
+ImageLands grain x (Place at) = x ≡ at
+ImageLands grain x (Sector number) = x / grain ≡ number
+ImageLands grain x Frame = ⊥

@@ -1,0 +1,9 @@
+//! The image of a disk as a space of bytes.
+#![tactic(auto)]
+
+mod image;
+mod opening;
+mod state;
+
+pub use image::Image;
+pub use state::{ImageFault, ImageState};
