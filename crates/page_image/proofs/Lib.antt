@@ -1,3 +1,5 @@
 pub mod ReadLemmas
 pub mod SectorLemmas
 pub mod PutLemmas
+pub mod WriteLemmas
+pub mod CountLemmas

@@ -4,11 +4,17 @@ use Rattle.std.proofs.Math.Nat.{mul-le-mul_left, div-mul-le_self}
 use Rattle.std.proofs.lemmas.Nat.{div-add-mod', div-mul-add, mod_below, le-div}
 use Rattle.std.proofs.lemmas.Bool.{cases_lt}
 use Rattle.save_disk.specs.Grains.{is_grain, known_grain}
-use Rattle.page_image.specs.Layout.{IsEndOf}
+use Rattle.page_image.specs.Layout.{IsLaidOut, IsEndOf}
 
 -- a sector has bytes
 pub some_grain : (grain : ℕ) → IsTrue (is_grain grain) → 1 ≤ grain
 some_grain grain known = ⊎_elim (λ (is : grain ≡ 512). omega arith) (λ (is : grain ≡ 4096). omega arith) (known_grain grain known)
+
+-- each sector begins inside
+pub begins_inside : (len grain size sectors sector : ℕ) → IsLaidOut len grain size sectors → sector < sectors → sector * grain < len
+begins_inside len grain size sectors sector layout below =
+    let next : sector + 1 ≤ sectors = omega arith in
+    omega (arith, mul-le-mul_left grain next, layout.whole, layout.begins)
 
 -- a later place lies in no earlier sector
 pub rising : (a b grain : ℕ) → 1 ≤ grain → a ≤ b → a / grain ≤ b / grain

@@ -1,5 +1,5 @@
--- What a put leaves of what is held.
-use Rattle.std.specs.Prelude.{◌≡◌, ◌≢◌, ℕ, ◌+◌, ◌/◌, ◌<◌, true, List, length}
+-- What calls leave of what is held.
+use Rattle.std.specs.Prelude.{◌≡◌, ◌≢◌, ℕ, ◌+◌, ◌/◌, ◌<◌, true, false, List, length}
 use Rattle.save_bytes.specs.Fields.{with_bytes}
 use Rattle.page_image.specs.declared.state.ImageState.{ImageState}
 use Rattle.page_image.specs.Images.{is_changed}
@@ -15,3 +15,12 @@ pub record IsPut (at : ℕ) (piece : List ℕ) (old new : ImageState) : Type 0 w
   pub grain : new.grain ≡ old.grain
   pub bytes : new.bytes.items ≡ with_bytes old.bytes.items at piece
   pub marks : Marks at (length piece) old new
+
+-- the sector is not changed any more
+pub record IsUnmarked (sector : ℕ) (old new : ImageState) : Type 0 where
+  pub len : new.len ≡ old.len
+  pub grain : new.grain ≡ old.grain
+  pub bytes : new.bytes.items ≡ old.bytes.items
+  pub sectors : length new.changed.items ≡ length old.changed.items
+  pub clean : is_changed new sector ≡ false
+  pub others : (other : ℕ) → other ≢ sector → is_changed new other ≡ is_changed old other

@@ -1,14 +1,19 @@
 -- How changed sectors come to the disk.
-use Rattle.std.specs.Prelude.{◌≡◌, ℕ, ◌+◌, ◌*◌, ◌<◌, ◌≤◌, Bool, true, false, ◌==◌, if◌then◌else◌, List, [], ◌∷◌, slice_index}
+use Rattle.std.specs.Prelude.{◌≡◌, ℕ, ◌+◌, ◌*◌, ◌<◌, ◌≤◌, Bool, true, false, ◌==◌, ◌&&◌, if◌then◌else◌, List, [], ◌∷◌, length, slice_index}
 use Rattle.save_disk.specs.Trace.{Event, Write, Sync, Said}
 use Rattle.save_disk.specs.Writes.{OnlyWrites}
 use Rattle.page_image.specs.declared.state.ImageState.{ImageState}
 use Rattle.page_image.specs.Images.{byte_of, is_changed}
 
--- a changed sector is written, and the write holds the image's bytes
+-- these are the bytes of a sector of the image
+pub record IsSectorOf (image : ImageState) (sector : ℕ) (bytes : List ℕ) : Type 0 where
+  pub long : length bytes ≡ image.grain
+  pub each : (k : ℕ) → k < image.grain → slice_index bytes k ≡ byte_of image (sector * image.grain + k)
+
+-- a changed sector of the image is written as it is
 pub record IsOwnWrite (image : ImageState) (sector : ℕ) (written : List ℕ) : Type 0 where
   pub changed : is_changed image sector ≡ true
-  pub bytes : (k : ℕ) → k < image.grain → slice_index written k ≡ byte_of image (sector * image.grain + k)
+  pub bytes : IsSectorOf image sector written
 
 -- 1 for what holds, else 0
 abbrev pub one_if : Bool → ℕ
@@ -21,12 +26,16 @@ writes_to sector (Write number bytes ∷ events) = one_if (number == sector) + w
 writes_to sector (Sync ∷ events) = writes_to sector events
 writes_to sector (Said bytes ∷ events) = writes_to sector events
 
--- changed sectors of the image were written, each at most once
-pub record IsWriteOut (image : ImageState) (events : List Event) : Type 0 where
+-- of the chosen sectors each that is changed was written as it is, once, and no other
+pub record WritesEach (image : ImageState) (is_chosen : ℕ → Bool) (events : List Event) : Type 0 where
   pub own : OnlyWrites (IsOwnWrite image) events
-  pub once : (sector : ℕ) → writes_to sector events ≤ one_if (is_changed image sector)
+  pub count : (sector : ℕ) → writes_to sector events ≡ one_if (is_chosen sector && is_changed image sector)
 
--- each changed sector of the image was written, once, and no other
-pub record IsWholeWriteOut (image : ImageState) (events : List Event) : Type 0 where
+-- of the chosen sectors some that are changed were written as they are, each once, and no other
+pub record WritesSome (image : ImageState) (is_chosen : ℕ → Bool) (events : List Event) : Type 0 where
   pub own : OnlyWrites (IsOwnWrite image) events
-  pub each : (sector : ℕ) → writes_to sector events ≡ one_if (is_changed image sector)
+  pub count : (sector : ℕ) → writes_to sector events ≤ one_if (is_chosen sector && is_changed image sector)
+
+-- no sector is changed
+abbrev pub IsClean : ImageState → Type 0
+IsClean image = (sector : ℕ) → is_changed image sector ≡ false

@@ -1,15 +1,22 @@
 //! A view of an image and its disk.
 
-ghost use Rattle.std.specs.Prelude.{refl, ◌≡◌, ℕ, ◌+◌, ◌≤◌, length, take, IsTrue};
+ghost use Rattle.std.specs.Prelude.{refl, ◌≡◌, ℕ, true, IsTrue, OnOk, OnErr};
 ghost use Rattle.save_bytes.specs.Cells.{AreBytesAt};
+ghost use Rattle.save_bytes.specs.Stays.{SameCells};
+ghost use Rattle.save_bytes.specs.Spots.{Spot};
+ghost use Rattle.save_disk.specs.Trace.{Sync};
+ghost use Rattle.save_disk.specs.State.{GoesOn, Happens, IsQuiet, IsSteady, HasCause};
+ghost use Rattle.save_disk.specs.Writes.{GrewBy};
 ghost use Rattle.page_image.specs.Images.{IsDiskOf};
 ghost use Rattle.page_image.specs.Spots.{ImageLands};
-ghost use Rattle.page_image.specs.Held.{shown, IsViewOf, ImageKeeps};
+ghost use Rattle.page_image.specs.Held.{shown, IsViewOf, SameView, ImageKeeps};
+ghost use Rattle.page_image.specs.WriteOuts.{WritesEach, WritesSome, IsClean};
 ghost use Rattle.page_image.specs.Laws.{image_size_fits, ImageKeeps-same, ImageKeeps-join, SameImage-shape};
 
 use crate::state::ImageState;
+use crate::writing::write_out;
 use save_bytes::{Bad, Space};
-use save_disk::Disk;
+use save_disk::{Disk, Failed};
 
 /// The bytes of an image as a space. Bytes 0 to 511 are kept apart: no put meets them.
 #[derive(Drop)]
@@ -35,6 +42,42 @@ impl<D: Disk> Image<'_, D> {
         ensures { AreBytesAt (shown D.state self.now).cells 0 result.now }
     {
         self.image.header()
+    }
+
+    /// Writes each sector that holds a changed byte, as it is; then no sector does. Bytes 0 to 511 go out as last read
+    /// or written.
+    ///
+    /// # Errors
+    ///
+    /// Where the disk fails. Some of the sectors may then be written.
+    pub fn flush(&mut self) -> Result<(), Failed>
+        requires { IsTrue (shown D.state self.old).shape.sound }
+        ensures keeps { (spot : Spot) → ImageKeeps D.state spot self.old self.new }
+        ensures cells { SameCells (shown D.state self.old) (shown D.state self.new) }
+        ensures clean { OnOk result (IsClean self.new.image.now) }
+        ensures written { OnOk result (GoesOn (GrewBy (WritesEach self.old.image.now (λ sector. true))) (D.state self.old.disk.now) (D.state self.new.disk.now)) }
+        ensures failed { OnErr result (GoesOn (GrewBy (WritesSome self.old.image.now (λ sector. true))) (D.state self.old.disk.now) (D.state self.new.disk.now)) }
+        ensures told { OnOk result ((shown D.state self.new).told ≡ (shown D.state self.old).told) }
+        ensures cause { HasCause (D.state self.old.disk.now).counts.disk (D.state self.new.disk.now).counts.disk result }
+    {
+        let disk = &mut *self.disk;
+        write_out(disk, &mut *self.image)
+    }
+
+    /// Keeps all that was written, whatever stops later.
+    ///
+    /// # Errors
+    ///
+    /// Where the disk fails.
+    pub fn sync(&mut self) -> Result<(), Failed>
+        ensures synced { OnOk result (Happens Sync (D.state self.old.disk.now) (D.state self.new.disk.now)) }
+        ensures failed { OnErr result (IsQuiet (D.state self.old.disk.now) (D.state self.new.disk.now)) }
+        ensures steady { IsSteady (D.state self.old.disk.now) (D.state self.new.disk.now) }
+        ensures cause { HasCause (D.state self.old.disk.now).counts.disk (D.state self.new.disk.now).counts.disk result }
+        ensures same { SameView self.old self.new }
+        ensures image { self.new.image.now ≡ self.old.image.now }
+    {
+        self.disk.sync()
     }
 }
 

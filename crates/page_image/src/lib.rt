@@ -4,6 +4,7 @@
 mod image;
 mod opening;
 mod state;
+mod writing;
 
 pub use image::Image;
 pub use state::{ImageFault, ImageState};

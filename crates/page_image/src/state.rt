@@ -25,7 +25,9 @@ pub struct ImageState {
 }
 
 impl ImageState {
-    ghost use Rattle.page_image.specs.Puts.{IsPut};
+    ghost use Rattle.page_image.specs.Images.{is_changed};
+    ghost use Rattle.page_image.specs.Puts.{IsPut, IsUnmarked};
+    ghost use Rattle.page_image.specs.WriteOuts.{IsSectorOf};
 
     // An image of which nothing is changed.
     pub(crate) fn of_parts(len: u64, grain: u64, bytes: Vec<u8>, changed: Vec<bool>) -> ImageState
@@ -64,6 +66,38 @@ impl ImageState {
         ensures { result.now ≡ slice_range self.now.bytes.items start end }
     {
         &self.bytes[start..end]
+    }
+
+    // How many sectors there are, the short last one among them.
+    pub(crate) fn sectors(&self) -> usize
+        ensures { result ≡ length self.now.changed.items }
+    {
+        self.changed.len()
+    }
+
+    // Whether the sector has a byte that is not on the disk yet.
+    pub(crate) fn is_changed(&self, sector: usize) -> bool
+        requires { sector < length self.now.changed.items }
+        ensures { result ≡ is_changed self.now sector }
+    {
+        self.changed[sector]
+    }
+
+    // The bytes of a sector, with zeros past the image's end.
+    pub(crate) fn sector(&self, sector: usize) -> &[u8]
+        requires { sector < length self.now.changed.items }
+        ensures { IsSectorOf self.now sector result.now }
+    {
+        let start = sector * self.grain as usize;
+        &self.bytes[start..start + self.grain as usize]
+    }
+
+    // A sector that was written is not changed.
+    pub(crate) fn unmark(&mut self, sector: usize)
+        requires { sector < length self.old.changed.items }
+        ensures { IsUnmarked sector self.old self.new }
+    {
+        self.changed[sector] = false;
     }
 
     // Puts a piece at a place. The sectors that it meets are changed.

@@ -1,0 +1,102 @@
+-- The writes of a sector behind those of the sectors before it.
+use Rattle.std.proofs.Common.{◌≡◌, ◌≢◌, ◌⊎◌, ℕ, zero, suc, ◌+◌, ◌*◌, ◌<◌, ◌≤◌, Bool, true, false, ◌&&◌, eqb, ltb, List, [], ◌∷◌, ◌++◌, length, refl, sym, ◌∙◌, ap, arith, inl, inr, ⊎_elim, add_assoc, zero-add}
+use Rattle.std.proofs.lemmas.Bool.{cases_lt, cases_eq, lt-ltb, le-ltb, eq-eqb, eqb-true}
+use Rattle.std.proofs.lemmas.List.{get_or_past}
+use Rattle.save_disk.specs.Trace.{Event, Write, Sync, Said}
+use Rattle.save_disk.specs.Writes.{OnlyWrites}
+use Rattle.save_disk.specs.WriteLaws.{OnlyWrites-append, OnlyWrites-map}
+use Rattle.page_image.specs.declared.state.ImageState.{ImageState}
+use Rattle.page_image.specs.Images.{byte_of, is_changed}
+use Rattle.page_image.specs.WriteOuts.{IsSectorOf, IsOwnWrite, one_if, writes_to, WritesEach, WritesSome}
+
+pub writes_to-append : (sector : ℕ) (xs ys : List Event) → writes_to sector (xs ++ ys) ≡ writes_to sector xs + writes_to sector ys
+writes_to-append sector [] ys = sym (zero-add (writes_to sector ys))
+writes_to-append sector (Write number bytes ∷ xs) ys = ap (λ (n : ℕ). one_if (eqb number sector) + n) (writes_to-append sector xs ys) ∙ sym (add_assoc (one_if (eqb number sector)) (writes_to sector xs) (writes_to sector ys))
+writes_to-append sector (Sync ∷ xs) ys = writes_to-append sector xs ys
+writes_to-append sector (Said bytes ∷ xs) ys = writes_to-append sector xs ys
+
+-- an own write of the same bytes, where the sector is as much changed
+own_same : (i j : ImageState) (sector : ℕ) (written : List ℕ) → j.grain ≡ i.grain → ((x : ℕ) → byte_of j x ≡ byte_of i x) → is_changed j sector ≡ is_changed i sector → IsOwnWrite j sector written → IsOwnWrite i sector written
+own_same i j sector written grain same marks own =
+    let grain_back : i.grain ≡ j.grain = sym grain in
+    record {
+      changed = sym marks ∙ own.changed;
+      bytes = record {
+        long = own.bytes.long ∙ grain;
+        each = λ k below. (let inside : k < j.grain = rw grain below in own.bytes.each k inside ∙ same (sector * j.grain + k) ∙ ap (λ (n : ℕ). byte_of i (sector * n + k)) grain);
+      };
+    }
+
+no_other : (test : Bool) → ((test ≡ true) → ⊥) → test ≡ false
+no_other true isnt = absurd (isnt refl)
+no_other false isnt = refl
+
+apart-eqb : (a b : ℕ) → a ≢ b → eqb a b ≡ false
+apart-eqb a b apart = no_other (eqb a b) (λ is. apart (eqb-true a b is))
+
+-- those below a number and the number itself
+one_more : (s m : ℕ) (c : Bool) → one_if (ltb m s && c) + one_if (eqb s m && c) ≡ one_if (ltb m (s + 1) && c)
+one_more s m c =
+    ⊎_elim
+    (λ (below : m < s). rw (lt-ltb m s below, lt-ltb m (s + 1) (omega arith), apart-eqb s m (omega arith)) (omega arith))
+    (λ (from : s ≤ m).
+    ⊎_elim
+    (λ (same : s ≡ m). rw (le-ltb m s from, lt-ltb m (s + 1) (omega arith), eq-eqb s m same) (omega arith))
+    (λ (apart : s ≢ m). rw (le-ltb m s from, le-ltb m (s + 1) (omega arith), apart-eqb s m apart) (omega arith))
+    (cases_eq s m))
+    (cases_lt m s)
+
+at_most_one : (t c : Bool) → one_if (t && c) ≤ one_if c
+at_most_one true c = omega arith
+at_most_one false c = omega arith
+
+module _ (i j : ImageState) (s : ℕ) (grain : j.grain ≡ i.grain) (same : (x : ℕ) → byte_of j x ≡ byte_of i x) (clean : (m : ℕ) → m < s → is_changed j m ≡ false) (behind : (m : ℕ) → s ≤ m → is_changed j m ≡ is_changed i m) where
+  -- a sector that is changed now was changed at first
+  at_first : (sector : ℕ) → is_changed j sector ≡ true → is_changed j sector ≡ is_changed i sector
+  at_first sector changed =
+      ⊎_elim (λ (below : sector < s). let none = clean sector below in absurd (cc)) (behind sector) (cases_lt sector s)
+
+  -- where the sectors before this one were written, a write of a changed sector is one of those that were to be written
+  own_before : (events : List Event) → OnlyWrites (IsOwnWrite j) events → OnlyWrites (IsOwnWrite i) events
+  own_before events own = OnlyWrites-map (IsOwnWrite j) (IsOwnWrite i) events (λ sector written is. own_same i j sector written grain same (at_first sector is.changed) is) own
+
+  -- the sector itself is as much changed as at first
+  chosen_same : (m : ℕ) → (eqb s m && is_changed j m) ≡ (eqb s m && is_changed i m)
+  chosen_same m =
+      ⊎_elim
+      (λ (here : s ≡ m). ap (λ (b : Bool). eqb s m && b) (behind m (omega arith)))
+      (λ (apart : s ≢ m). rw (apart-eqb s m apart) refl)
+      (cases_eq s m)
+
+  -- each of the sectors up to this one was written
+  pub each_more : (xs ys : List Event) → WritesEach i (λ m. ltb m s) xs → WritesEach j (λ m. eqb s m) ys → WritesEach i (λ m. ltb m (s + 1)) (xs ++ ys)
+  each_more xs ys first step_ = record {
+    own = OnlyWrites-append (IsOwnWrite i) xs ys first.own (own_before ys step_.own);
+    count = λ m.
+        (let step : writes_to m ys ≡ one_if (eqb s m && is_changed i m) = step_.count m ∙ ap one_if (chosen_same m) in
+        writes_to-append m xs ys ∙ rw (first.count m, step) (one_more s m (is_changed i m)));
+  }
+
+  -- this one was written or not
+  pub some_more : (xs ys : List Event) → WritesEach i (λ m. ltb m s) xs → WritesSome j (λ m. eqb s m) ys → WritesSome i (λ m. true) (xs ++ ys)
+  some_more xs ys first step_ = record {
+    own = OnlyWrites-append (IsOwnWrite i) xs ys first.own (own_before ys step_.own);
+    count = λ m.
+        (let marks : one_if (eqb s m && is_changed j m) ≡ one_if (eqb s m && is_changed i m) = ap one_if (chosen_same m) in
+        omega (arith, writes_to-append m xs ys, first.count m, marks, step_.count m, one_more s m (is_changed i m), at_most_one (ltb m (s + 1)) (is_changed i m)));
+  }
+
+-- a place past the last sector is not changed
+pub unchanged_past : (i : ImageState) (m : ℕ) → length i.changed.items ≤ m → is_changed i m ≡ false
+unchanged_past i m past = get_or_past i.changed.items m false past
+
+-- each sector was written where each up to the last one was
+pub all_written : (i : ImageState) (s : ℕ) (events : List Event) → length i.changed.items ≤ s → WritesEach i (λ m. ltb m s) events → WritesEach i (λ m. true) events
+all_written i s events last each = record {
+  own = each.own;
+  count = λ m.
+      ⊎_elim
+      (λ (below : m < s). each.count m ∙ ap (λ (b : Bool). one_if (b && is_changed i m)) (lt-ltb m s below))
+      (λ (past : s ≤ m). let none : is_changed i m ≡ false = unchanged_past i m (omega arith) in each.count m ∙ rw (none, le-ltb m s past) refl)
+      (cases_lt m s);
+}
