@@ -85,18 +85,3 @@ module _ (i j : ImageState) (s : ℕ) (grain : j.grain ≡ i.grain) (same : (x :
         (let marks : one_if (eqb s m && is_changed j m) ≡ one_if (eqb s m && is_changed i m) = ap one_if (chosen_same m) in
         omega (arith, writes_to-append m xs ys, first.count m, marks, step_.count m, one_more s m (is_changed i m), at_most_one (ltb m (s + 1)) (is_changed i m)));
   }
-
--- a place past the last sector is not changed
-pub unchanged_past : (i : ImageState) (m : ℕ) → length i.changed.items ≤ m → is_changed i m ≡ false
-unchanged_past i m past = get_or_past i.changed.items m false past
-
--- each sector was written where each up to the last one was
-pub all_written : (i : ImageState) (s : ℕ) (events : List Event) → length i.changed.items ≤ s → WritesEach i (λ m. ltb m s) events → WritesEach i (λ m. true) events
-all_written i s events last each = record {
-  own = each.own;
-  count = λ m.
-      ⊎_elim
-      (λ (below : m < s). each.count m ∙ ap (λ (b : Bool). one_if (b && is_changed i m)) (lt-ltb m s below))
-      (λ (past : s ≤ m). let none : is_changed i m ≡ false = unchanged_past i m (omega arith) in each.count m ∙ rw (none, le-ltb m s past) refl)
-      (cases_lt m s);
-}

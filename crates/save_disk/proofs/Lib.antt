@@ -4,3 +4,4 @@ pub mod Events
 pub mod Pieces
 pub mod Telling
 pub mod Told
+pub mod Growth

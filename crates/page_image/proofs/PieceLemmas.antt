@@ -1,0 +1,47 @@
+-- What a lent piece shows, and what it leaves.
+use Rattle.std.proofs.Common.{◌≡◌, ℕ, ◌+◌, ◌-◌, ◌<◌, ◌≤◌, min, List, length, get_or, take, drop, slice_range, Result, Ok, None, refl, sym, ◌∙◌, ap, arith}
+use Rattle.std.proofs.lemmas.List.{places}
+use Rattle.std.specs.Borrow.{Bor}
+use Rattle.save_bytes.specs.declared.space.Bad.{Bad}
+use Rattle.save_bytes.specs.Cells.{Byte}
+use Rattle.save_bytes.specs.State.{State}
+use Rattle.save_bytes.specs.Answers.{IsPiece}
+use Rattle.save_bytes.specs.Stays.{Stays}
+use Rattle.save_bytes.specs.Spots.{Frame, Unmoved}
+use Rattle.save_disk.specs.State as disks
+use Rattle.page_image.specs.declared.state.ImageState.{ImageState}
+use Rattle.page_image.specs.declared.image.Image.{Image}
+use Rattle.page_image.specs.Images.{image_state}
+use Rattle.page_image.specs.Spots.{ImageLands}
+use Rattle.page_image.specs.Held.{shown, ImageKeeps}
+use Rattle.page_image.specs.Laws.{ImageKeeps-same}
+
+-- what is as it was
+pub stays_same : (s : State) → Stays s s None
+stays_same s = record {
+  space = record { shape = refl; faults = omega arith; cause = tt; told = refl; twins = λ told. record { bottom = λ x h. refl; is_fixed = λ x h. refl } };
+  cells = λ told x below. refl;
+}
+
+pub image_unmoved : {D : Type 0} (states : D → disks.State) (s : Image D) → Unmoved (ImageKeeps states) (λ view. ImageLands view.image.now.grain) (shown states s) s s None
+image_unmoved states s = record { frame = ImageKeeps-same states Frame s; spots = λ told spot. ImageKeeps-same states spot s; reach = λ told x below spot lands. lands }
+
+range_byte : (xs : List ℕ) (at n k : ℕ) → at + n ≤ length xs → k < n → get_or (slice_range xs at (at + n)) k 0 ≡ get_or xs (at + k) 0
+range_byte xs at n k fits within = grind (arith, places)
+
+length-range : (xs : List ℕ) (at n : ℕ) → at + n ≤ length xs → length (slice_range xs at (at + n)) ≡ n
+length-range xs at n fits = grind (arith, places)
+
+-- the bytes of a range, as many as are asked for and there are
+pub image_piece : (d : disks.State) (i : ImageState) (at most n : ℕ) (piece : Bor (List ℕ)) → at + 1 ≤ i.len → 1 ≤ most → n ≡ min most (i.len - at) → piece.now ≡ slice_range i.bytes.items at (at + n) → IsPiece (image_state d i) at most (Ok piece)
+image_piece d i at most n piece inside some count is =
+    let fits : at + n ≤ length i.bytes.items = omega (arith, i.layout.covers) in
+    let long : length piece.now ≡ n = ap length is ∙ length-range i.bytes.items at n fits in
+    record {
+      some = omega arith;
+      bounded = omega arith;
+      inside = omega arith;
+      bytes = λ told k within. ap Byte (sym (range_byte i.bytes.items at n k fits (omega arith)) ∙ ap (λ (l : List ℕ). get_or l k 0) (sym is));
+      damaged = λ told. tt;
+      plain = λ plain. tt;
+    }

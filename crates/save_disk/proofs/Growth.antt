@@ -1,0 +1,85 @@
+-- How calls that add events add up.
+use Rattle.std.proofs.Common.{◌≡◌, ◌⊎◌, ℕ, Bool, List, [], ◌∷◌, ◌++◌, Option, Some, None, MatchOption, refl, sym, subst, ◌∙◌, ap, append_assoc, ⊎_elim}
+use Rattle.std.specs.Option.{option_map}
+use Rattle.std.proofs.lemmas.List.{append-nil}
+use Rattle.save_disk.specs.Trace.{Event, Write, Told, with_sector, image_after, image_now}
+use Rattle.save_disk.specs.State.{State, IsQuiet, Happens, GoesOn, WriteFails, then_event}
+use Rattle.save_disk.specs.Tells.{is_sure, tells}
+use Rattle.save_disk.specs.Writes.{GrewBy}
+use Rattle.save_disk.proofs.Events.{image_after-push}
+
+module _ (P Q R : List Event → Type 0) (append : (xs ys : List Event) → P xs → Q ys → R (xs ++ ys)) where
+  grew_then : (a b c : Told) → GrewBy P a b → GrewBy Q b c → GrewBy R a c
+  grew_then a b c h k = record {
+    start = k.start ∙ h.start;
+    grain = k.grain ∙ h.grain;
+    left = k.left ∙ h.left;
+    added = h.added ++ k.added;
+    events = k.events ∙ ap (λ (l : List Event). l ++ k.added) h.events ∙ append_assoc a.events h.added k.added;
+    such = append h.added k.added h.such k.such;
+  }
+
+  went_then : (o p q : Option Told) → MatchOption o (p ≡ None) (λ told. (next : Told) × (p ≡ Some next) × GrewBy P told next) → MatchOption p (q ≡ None) (λ told. (next : Told) × (q ≡ Some next) × GrewBy Q told next) → MatchOption o (q ≡ None) (λ told. (next : Told) × (q ≡ Some next) × GrewBy R told next)
+  went_then None p q h k = rw h at k
+  went_then (Some a) p q (b, is, grew) k = let later = rw is at k in (later.0, later.1, grew_then a b later.0 grew later.2)
+
+  -- events behind events
+  pub GoesOn-then : (one two three : State) → GoesOn (GrewBy P) one two → GoesOn (GrewBy Q) two three → GoesOn (GrewBy R) one three
+  GoesOn-then one two three h k = went_then one.told two.told three.told h k
+
+module _ (P : List Event → Type 0) where
+  quiet : (o : Option Told) → P [] → MatchOption o (o ≡ None) (λ told. (next : Told) × (o ≡ Some next) × GrewBy P told next)
+  quiet None none = refl
+  quiet (Some told) none = (told, refl, record { start = refl; grain = refl; left = refl; added = []; events = sym (append-nil told.events); such = none })
+
+  -- no event
+  pub grew_quiet : (one two : State) → IsQuiet one two → P [] → GoesOn (GrewBy P) one two
+  grew_quiet one two same none = rw same (quiet one.told none)
+
+  happened : (event : Event) (o p : Option Told) → p ≡ option_map (then_event event) o → P (event ∷ []) → MatchOption o (p ≡ None) (λ told. (next : Told) × (p ≡ Some next) × GrewBy P told next)
+  happened event None p is such = is
+  happened event (Some told) p is such = (then_event event told, is, record { start = refl; grain = refl; left = refl; added = event ∷ []; events = refl; such = such })
+
+  -- one event
+  pub grew_happens : (event : Event) (one two : State) → Happens event one two → P (event ∷ []) → GoesOn (GrewBy P) one two
+  grew_happens event one two happens such = happened event one.told two.told happens such
+
+  failed : (sector : ℕ) (bytes : List ℕ) (a b : Told) → WriteFails sector bytes a b → P [] → P (Write sector bytes ∷ []) → GrewBy P a b
+  failed sector bytes a b fails none such =
+      ⊎_elim
+      (λ (same : b.events ≡ a.events). let grew : GrewBy P a b = record { start = fails.start; grain = fails.grain; left = fails.left; added = []; events = same ∙ sym (append-nil a.events); such = none } in grew)
+      (λ (more : b.events ≡ a.events ++ Write sector bytes ∷ []). let grew : GrewBy P a b = record { start = fails.start; grain = fails.grain; left = fails.left; added = Write sector bytes ∷ []; events = more; such = such } in grew)
+      fails.events
+
+  went_failed : (sector : ℕ) (bytes : List ℕ) (o p : Option Told) → MatchOption o (p ≡ None) (λ told. (next : Told) × (p ≡ Some next) × WriteFails sector bytes told next) → P [] → P (Write sector bytes ∷ []) → MatchOption o (p ≡ None) (λ told. (next : Told) × (p ≡ Some next) × GrewBy P told next)
+  went_failed sector bytes None p is none such = is
+  went_failed sector bytes (Some told) p (next, is, fails) none such = (next, is, failed sector bytes told next fails none such)
+
+  -- a write that failed is an event or none
+  pub grew_failed : (sector : ℕ) (bytes : List ℕ) (one two : State) → GoesOn (WriteFails sector bytes) one two → P [] → P (Write sector bytes ∷ []) → GoesOn (GrewBy P) one two
+  grew_failed sector bytes one two fails none such = went_failed sector bytes one.told two.told fails none such
+
+sure_then : (event : Event) (size : ℕ) (o p : Option Told) → p ≡ option_map (then_event event) o → is_sure size p ≡ is_sure size o
+sure_then event size None p is = rw is refl
+sure_then event size (Some told) p is = rw is refl
+
+-- an event leaves each read as told as it was
+pub tells_then : (event : Event) (one two : State) → two.size ≡ one.size → Happens event one two → tells two ≡ tells one
+tells_then event one two size happens = rw size (sure_then event one.size one.told two.told happens)
+
+came : (R : Told → Told → Type 0) (o p : Option Told) (now : Told) → MatchOption o (p ≡ None) (λ told. (next : Told) × (p ≡ Some next) × R told next) → p ≡ Some now → (told : Told) × (o ≡ Some told) × R told now
+came R None p now is here = absurd (cc)
+came R (Some told) p now (next, is, r) here = let same : next ≡ now = cc in (told, refl, subst (R told) same r)
+
+-- the trace from which a trace went on
+pub came_from : (R : Told → Told → Type 0) (one two : State) (now : Told) → GoesOn R one two → two.told ≡ Some now → (told : Told) × (one.told ≡ Some told) × R told now
+came_from R one two now goes here = came R one.told two.told now goes here
+
+-- with one write more the image has other bytes in that sector
+pub image_written : (a b : Told) (sector : ℕ) (bytes : List ℕ) → GrewBy (λ events. events ≡ Write sector bytes ∷ []) a b → image_now b ≡ with_sector a.grain (image_now a) sector bytes
+image_written a b sector bytes grew =
+    rw (grew.grain, grew.start, grew.events, grew.such) (image_after-push a.grain a.events (Write sector bytes) a.start)
+
+-- with no event more the image is as it was
+pub image_unchanged : (a b : Told) → GrewBy (λ events. events ≡ []) a b → image_now b ≡ image_now a
+image_unchanged a b grew = rw (grew.grain, grew.start, grew.events, grew.such, append-nil) refl
