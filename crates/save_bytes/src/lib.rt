@@ -3,12 +3,14 @@
 
 mod fields;
 mod memory;
+mod name;
 mod reading;
 mod space;
 mod words;
 
 pub use fields::{set_u32, set_u64, u32_at, u64_at};
 pub use memory::MemSpace;
+pub use name::Name;
 pub use reading::{space_copy, space_u32, space_u64};
 pub use space::{Bad, Floor, Space};
 pub use words::Words;

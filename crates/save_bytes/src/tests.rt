@@ -26,6 +26,13 @@ fn fields_stand_lowest_byte_first(rt: HostRuntime) {
 }
 
 #[test]
+fn a_name_is_empty_where_each_byte_is_zero(rt: HostRuntime) {
+    assert!(rt; Name([0; 16]).is_empty());
+    assert!(rt; !Name(*b"a\0\0\0\0\0\0\0\0\0\0\0\0\0\0\0").is_empty());
+    assert!(rt; !Name([0, 0, 0, 0, 0, 0, 0, 0, 0, 0, 0, 0, 0, 0, 0, 1]).is_empty());
+}
+
+#[test]
 fn words_are_kept_in_order(rt: HostRuntime) -> Result<(), Fail> {
     let mut words = Words::new(rt.alloc());
     assert_eq!(rt; words.count(), 0);
