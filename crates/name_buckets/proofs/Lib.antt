@@ -1,2 +1,6 @@
 pub mod ByteLemmas
+pub mod EntryLemmas
 pub mod LinkLemmas
+pub mod StayLemmas
+pub mod CauseLemmas
+pub mod FindLemmas

@@ -6,3 +6,4 @@ pub mod Used
 pub mod Rules
 pub mod Layout
 pub mod Replies
+pub mod Looks

@@ -1,6 +1,7 @@
 //! Directories as sets of named entries, which are found through buckets of their names.
 #![tactic(auto)]
 
+mod find;
 mod hash;
 mod reads;
 mod table;

@@ -37,13 +37,11 @@ pub(crate) fn read_counts<S: Space>(
     ensures reads { Reads S.state S.keeps S.lands space.old space.new (result_err result) }
 {
     let mut words = [0; 8];
-    match space_copy(space, info.table_at, &mut words) {
-        Ok(()) => Ok(Counts {
-            count: u32_at(&words, 0),
-            most: u32_at(&words, 4),
-        }),
-        Err(bad) => Err(bad),
-    }
+    space_copy(space, info.table_at, &mut words)?;
+    Ok(Counts {
+        count: u32_at(&words, 0),
+        most: u32_at(&words, 4),
+    })
 }
 
 // Where an entry stands in a space of `len` bytes; none where it does not lie in it.
@@ -83,10 +81,10 @@ pub(crate) fn entry_bytes<S: Space>(
 {
     match entry_at(space.len(), kind, info, entry) {
         Some(at) => space_copy(space, at + offset, out),
-        None => match read_counts(space, kind, info) {
-            Ok(_) => Ok(()),
-            Err(bad) => Err(bad),
-        },
+        None => {
+            read_counts(space, kind, info)?;
+            Ok(())
+        }
     }
 }
 
@@ -108,8 +106,6 @@ pub(crate) fn entry_word<S: Space>(
     ensures reads { Reads S.state S.keeps S.lands space.old space.new (result_err result) }
 {
     let mut word = [0; 4];
-    match entry_bytes(space, kind, info, entry, offset, &mut word) {
-        Ok(()) => Ok(u32_at(&word, 0)),
-        Err(bad) => Err(bad),
-    }
+    entry_bytes(space, kind, info, entry, offset, &mut word)?;
+    Ok(u32_at(&word, 0))
 }

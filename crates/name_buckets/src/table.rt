@@ -1,7 +1,7 @@
 //! The two tables of entries, and why a call on them is refused.
 
-ghost use Rattle.std.specs.Prelude.{◌≡◌};
-ghost use Rattle.name_buckets.specs.Kinds.{entry_size, link_offset, child_offset, table_number, bucket_table, least_freed};
+ghost use Rattle.std.specs.Prelude.{◌≡◌, ◌↔◌, IsTrue};
+ghost use Rattle.name_buckets.specs.Kinds.{entry_size, link_offset, child_offset, table_number, bucket_table, least_freed, IsRoot};
 
 use save_bytes::Bad;
 
@@ -63,6 +63,16 @@ impl EntryKind {
         }
     }
 
+    /// Whether an entry is the root, directory 1.
+    pub(crate) fn is_root(self, entry: u32) -> bool
+        ensures { IsTrue result ↔ IsRoot self entry }
+    {
+        match self {
+            EntryKind::Dir => entry == 1,
+            EntryKind::File => false,
+        }
+    }
+
     /// The least number of an entry that can be freed: directory 1 is the root.
     pub(crate) fn least_freed(self) -> u32
         ensures { result ≡ least_freed self }
@@ -98,4 +108,14 @@ pub enum EntryFault {
     Broken { table: u8, entry: u32 },
     /// No entry can be added: there are at most so many, entry 0 included.
     NoEntry { most: u32 },
+}
+
+impl From<Bad> for EntryFault {
+    ghost use Rattle.name_buckets.specs.declared.table.EntryFault.{EntryFault};
+
+    ghost from_gives = { λ bad fault. fault ≡ EntryFault.Bad bad };
+
+    fn from(bad: Bad) -> EntryFault {
+        EntryFault::Bad(bad)
+    }
 }

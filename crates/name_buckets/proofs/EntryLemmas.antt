@@ -1,0 +1,41 @@
+-- The bytes of an entry, as its fields.
+use Rattle.std.proofs.Common.{◌≡◌, ℕ, ◌+◌, ◌<◌, ◌≤◌, List, length, take, drop, refl, sym, ◌∙◌, arith}
+use Rattle.save_bytes.specs.Fields.{number_at}
+use Rattle.save_bytes.specs.Cells.{Cell, AreBytesAt}
+use Rattle.name_buckets.specs.declared.table.EntryKind.{EntryKind}
+use Rattle.name_buckets.specs.declared.table.EntryKind.TheVariants.{Dir, File}
+use Rattle.name_buckets.specs.declared.table.TableInfo.{TableInfo}
+use Rattle.name_buckets.specs.Kinds.{entry_size, link_offset, least_freed, IsRoot}
+use Rattle.name_buckets.specs.Tables.{Table, table_in, entry_place}
+use Rattle.name_buckets.specs.Looks.{HasKey, Matches}
+use Rattle.name_buckets.proofs.ByteLemmas.{field_is, part_is}
+
+-- the last word ends an entry
+pub link_last : (kind : EntryKind) → link_offset kind + 4 ≡ entry_size kind
+link_last Dir = refl
+link_last File = refl
+
+pub least_some : (kind : EntryKind) → 1 ≤ least_freed kind
+least_some Dir = omega arith
+least_some File = omega arith
+
+pub entry_long : (kind : EntryKind) → 40 ≤ entry_size kind
+entry_long Dir = omega arith
+entry_long File = omega arith
+
+module _ (cells : ℕ → Cell) (kind : EntryKind) (info : TableInfo) (e : ℕ) (bytes : List ℕ) (long : length bytes ≡ entry_size kind) (are : AreBytesAt cells (entry_place kind info e + 0) bytes) where
+  parent_read : number_at 4 bytes 0 ≡ (table_in cells kind info).parent e
+  parent_read = field_is 4 cells (entry_place kind info e + 0) 0 (entry_place kind info e) bytes are (omega (arith, long, entry_long kind)) (omega arith)
+
+  name_read : take 16 (drop 4 bytes) ≡ (table_in cells kind info).name e
+  name_read = part_is 16 cells (entry_place kind info e + 0) 4 (entry_place kind info e + 4) bytes are (omega (arith, long, entry_long kind)) (omega arith)
+
+  pub link_read : number_at 4 bytes (link_offset kind) ≡ (table_in cells kind info).link e
+  link_read = field_is 4 cells (entry_place kind info e + 0) (link_offset kind) (entry_place kind info e + link_offset kind) bytes are (omega (arith, long, link_last kind)) (omega arith)
+
+  -- its parent and name are those that its bytes have
+  pub matches_read : (parent : ℕ) (name : List ℕ) → ¬ IsRoot kind e → HasKey bytes parent name → Matches kind (table_in cells kind info) parent name e
+  matches_read parent name other key = record { other = other; parent_is = sym parent_read ∙ key.parent_is; name_is = sym name_read ∙ key.name_is }
+
+  pub key_read : (parent : ℕ) (name : List ℕ) → Matches kind (table_in cells kind info) parent name e → HasKey bytes parent name
+  key_read parent name matches = record { parent_is = parent_read ∙ matches.parent_is; name_is = name_read ∙ matches.name_is }

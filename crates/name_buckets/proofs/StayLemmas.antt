@@ -1,0 +1,121 @@
+-- A table stays where the cells of its space do.
+use Rattle.std.proofs.Common.{◌≡◌, ℕ, zero, suc, ◌+◌, ◌*◌, ◌<◌, ◌≤◌, List, IsTrue, Option, Some, None, refl, sym, ◌∙◌, ap, subst, arith, add-zero}
+use Rattle.std.proofs.Math.Nat.{add-suc, suc-add}
+use Rattle.save_bytes.specs.declared.space.Bad.{Bad}
+use Rattle.save_bytes.specs.declared.space.Bad.TheVariants.{Disk, Damaged}
+use Rattle.save_bytes.specs.Fields.{number_at}
+use Rattle.save_bytes.specs.Cells.{Cell, IsByte, Blames}
+use Rattle.save_bytes.specs.CellNumbers.{value_of, bytes_in, number_in}
+use Rattle.save_bytes.specs.State.{Shape, State}
+use Rattle.save_bytes.specs.Refusals.{IfDamaged}
+use Rattle.save_bytes.specs.Answers.{IsFirstFault}
+use Rattle.save_bytes.specs.Stays.{Stays}
+use Rattle.name_buckets.specs.declared.table.EntryKind.{EntryKind}
+use Rattle.name_buckets.specs.declared.table.TableInfo.{TableInfo}
+use Rattle.name_buckets.specs.Kinds.{entry_size, link_offset, IsRoot}
+use Rattle.name_buckets.specs.Tables.{Table, table_in, entry_place, bucket_place}
+use Rattle.name_buckets.specs.Layout.{IsWithin, HasCounts, HasTable, IsNeeded, OfZero, BlamesNeeded, IsReadAt, AtZero, AtPlace, BlamesRead}
+use Rattle.name_buckets.proofs.EntryLemmas.{link_last, entry_long}
+
+pub bytes_in-same : (n : ℕ) (new old : ℕ → Cell) (at : ℕ) → ((k : ℕ) → k < n → new (at + k) ≡ old (at + k)) → bytes_in new at n ≡ bytes_in old at n
+unfolding bytes_in
+bytes_in-same zero new old at same = refl
+bytes_in-same (suc n) new old at same =
+    let first : new at ≡ old at = simp add-zero at (same 0 (omega arith)) in
+    let rest : bytes_in new (suc at) n ≡ bytes_in old (suc at) n = bytes_in-same n new old (suc at) (λ k h. simp (add-suc, ← suc-add) at (same (suc k) (omega arith))) in
+    rw (first, rest) refl
+
+-- two tables have the same entry
+pub record SameEntry (old new : Table) (e : ℕ) : Type 0 where
+  pub parent : new.parent e ≡ old.parent e
+  pub name : new.name e ≡ old.name e
+  pub link : new.link e ≡ old.link e
+
+module _ (old new : State) (stays : Stays old new None) where
+  pub same_size : new.shape.size ≡ old.shape.size
+  same_size = ap (λ (shape : Shape). shape.size) stays.space.shape
+
+  was_told : IsTrue new.told → IsTrue old.told
+  was_told told = subst IsTrue stays.space.told told
+
+  pub now_told : IsTrue old.told → IsTrue new.told
+  now_told told = subst IsTrue (sym stays.space.told) told
+
+  -- numbers and bytes of the space
+  pub number_stays : (n at : ℕ) → IsTrue old.told → at + n ≤ old.shape.size → number_in n new.cells at ≡ number_in n old.cells at
+  number_stays n at told fits =
+      ap (λ (bytes : List ℕ). number_at n bytes 0) (bytes_in-same n new.cells old.cells at (λ k h. stays.cells told (at + k) (omega (arith, fits, h))))
+
+  bytes_stay : (n at : ℕ) → IsTrue old.told → at + n ≤ old.shape.size → bytes_in new.cells at n ≡ bytes_in old.cells at n
+  bytes_stay n at told fits = bytes_in-same n new.cells old.cells at (λ k h. stays.cells told (at + k) (omega (arith, fits, h)))
+
+  module _ (kind : EntryKind) (info : TableInfo) (table : HasTable old kind info) where
+    had_counts : HasCounts new info → HasCounts old info
+    had_counts known = record {
+      told = was_told known.told;
+      bytes = λ k h. rw (sym (stays.cells (was_told known.told) (info.table_at + k) (omega (arith, h, table.zero, entry_long kind)))) (known.bytes k h);
+    }
+
+    pub count_stays : IsTrue old.told → (table_in new.cells kind info).count ≡ (table_in old.cells kind info).count
+    count_stays told = number_stays 4 info.table_at told (omega (arith, table.zero, entry_long kind))
+
+    most_stays : IsTrue old.told → (table_in new.cells kind info).most ≡ (table_in old.cells kind info).most
+    most_stays told = number_stays 4 (info.table_at + 4) told (omega (arith, table.zero, entry_long kind))
+
+    -- the table still lies in the space
+    pub HasTable-stays : HasTable new kind info
+    HasTable-stays = record {
+      sound = subst (λ (shape : Shape). IsTrue shape.sound) (sym stays.space.shape) table.sound;
+      some = table.some;
+      buckets = omega (arith, same_size, table.buckets);
+      zero = omega (arith, same_size, table.zero);
+      entries = λ known e h. omega (arith, same_size, table.entries (had_counts known) e (omega (arith, h, most_stays (had_counts known).told)));
+      least = λ known. omega (arith, count_stays (had_counts known).told, table.least (had_counts known));
+      most = λ known. omega (arith, count_stays (had_counts known).told, most_stays (had_counts known).told, table.most (had_counts known));
+    }
+
+    module _ (known : HasCounts old info) (e : ℕ) (below : e < (table_in old.cells kind info).count) where
+      -- an entry lies in the space, and is as it was
+      pub entry_fits : entry_place kind info e + entry_size kind ≤ old.shape.size
+      entry_fits = table.entries known e (omega (arith, below, table.most known))
+
+      pub entry_stays : SameEntry (table_in old.cells kind info) (table_in new.cells kind info) e
+      entry_stays = record {
+        parent = number_stays 4 (entry_place kind info e) known.told (omega (arith, entry_fits, entry_long kind));
+        name = bytes_stay 16 (entry_place kind info e + 4) known.told (omega (arith, entry_fits, entry_long kind));
+        link = number_stays 4 (entry_place kind info e + link_offset kind) known.told (omega (arith, entry_fits, link_last kind));
+      }
+
+    -- a bucket's head is as it was
+    pub head_stays : (bucket : ℕ) → IsTrue old.told → bucket < info.buckets → (table_in new.cells kind info).head bucket ≡ (table_in old.cells kind info).head bucket
+    head_stays bucket told below = number_stays 4 (bucket_place info bucket) told (omega (arith, below, table.buckets))
+
+    -- a cell that was read and is no byte is one that is needed
+    pub needed_read : IsTrue old.told → (from n part level block : ℕ) → from + n ≤ old.shape.size → ((x : ℕ) → IsWithin from n x → IsNeeded kind info (table_in old.cells kind info) x) → BlamesRead kind info from n new.cells part level block → BlamesNeeded kind info old.cells part level block
+    needed_read told from n part level block fits needed h = go h.at h.read h.blames
+      where
+        go : (x : ℕ) → IsReadAt kind info from n x → Blames (new.cells x) part level block → BlamesNeeded kind info old.cells part level block
+        go x (AtZero within) blames = record {
+          at = x;
+          needed = OfZero within;
+          blames = subst (λ (cell : Cell). Blames cell part level block) (stays.cells told x (omega (arith, within.before, table.zero))) blames;
+        }
+        go x (AtPlace within) blames = record {
+          at = x;
+          needed = needed x within;
+          blames = subst (λ (cell : Cell). Blames cell part level block) (stays.cells told x (omega (arith, within.before, fits))) blames;
+        }
+
+-- a first fault in n places is one of a cell there
+pub fault_read : (kind : EntryKind) (info : TableInfo) (cells : ℕ → Cell) (from n part level block : ℕ) → IsFirstFault cells from n part level block → BlamesRead kind info from n cells part level block
+fault_read kind info cells from n part level block first = record {
+  at = from + first.k;
+  read = AtPlace (record { from = omega arith; before = omega (arith, first.within) });
+  blames = first.fault;
+}
+
+-- facts of a damaged cell's numbers
+pub IfDamaged-map : (refusal : Option Bad) {P Q : ℕ → ℕ → ℕ → Type 0} → ((part level block : ℕ) → P part level block → Q part level block) → IfDamaged refusal P → IfDamaged refusal Q
+IfDamaged-map None f p = tt
+IfDamaged-map (Some Disk) f p = tt
+IfDamaged-map (Some (Damaged part level block)) f p = f part level block p

@@ -1,0 +1,170 @@
+use Rattle.std.proofs.Common.{◌≡◌, ℕ, ◌+◌, ◌*◌, ◌<◌, ◌≤◌, IsTrue, Some, None, refl, sym, ◌∙◌, ap, subst, arith}
+use Rattle.save_bytes.specs.State.{State}
+use Rattle.save_bytes.proofs.CallLemmas.{Reads-join}
+use Rattle.name_buckets.specs.Hash.{bucket_number}
+use Rattle.name_buckets.specs.Kinds.{bucket_table, entry_size}
+use Rattle.name_buckets.specs.Tables.{table_in, entry_place, bucket_place}
+use Rattle.name_buckets.specs.Rules.{HasBucketLists, IsBrokenBucket}
+use Rattle.name_buckets.specs.Layout.{OfBucket, OfUsed}
+use Rattle.name_buckets.specs.Looks.{Matches}
+use Rattle.name_buckets.proofs.EntryLemmas.{least_some}
+use Rattle.name_buckets.proofs.StayLemmas.{now_told, number_stays, count_stays, head_stays, HasTable-stays, entry_fits, entry_stays, needed_read, fault_read, IfDamaged-map}
+use Rattle.name_buckets.proofs.CauseLemmas.{passed_on, bad_cause, broken_cause, plain_stays}
+use Rattle.name_buckets.proofs.FindLemmas.{HasPassed-none, HasPassed-more, Matches-stays, Matches-was, passed_stands, match_found, none_found, broken_past, broken_long}
+use Rattle.name_buckets.proofs.find.find_in.Goals as goal
+
+pub returns-in_err-entry-clause-reads : goal.returns-in_err-entry-clause-reads
+returns-in_err-entry-clause-reads g c =
+    let space = g.S.Space in
+    let bad = c.in_err-entry.field-0.0 in
+    rw (passed_on _ bad c.from_residual-in_err-entry.ensures.1)
+    (Reads-join space.state space.keeps space.lands g.met.S.Space.keeps_join c.args.space.now c.read_counts.new.space c.space_u32.new.space (Some bad) c.in_ok-count.ensures.reads
+    (record { stays = c.in_err-entry.ensures.stays; unmoved = c.in_err-entry.ensures.unmoved }))
+
+pub returns-in_err-entry-clause-cause : goal.returns-in_err-entry-clause-cause
+returns-in_err-entry-clause-cause g c =
+    let old = g.S.Space.state c.args.space.now in
+    let mid = g.S.Space.state c.read_counts.new.space in
+    let kind = c.args.kind in
+    let info = c.args.info in
+    let number = c.bucket-number.result in
+    let bad = c.in_err-entry.field-0.0 in
+    let stays = c.in_ok-count.ensures.reads.stays in
+    let read = c.in_err-entry.ensures.read in
+    let there : info.buckets_at + 4 * c.from.result ≡ bucket_place info number = rw c.from.ensures refl in
+    rw (passed_on _ bad c.from_residual-in_err-entry.ensures.1)
+    (bad_cause old kind info _ _ bad
+    (λ told rule. IfDamaged-map (Some bad)
+    (λ part level block first. needed_read old mid stays kind info c.requires told (bucket_place info number) 4 part level block (omega (arith, c.bucket-number.ensures.below, c.requires.buckets)) (λ x within. OfBucket number c.bucket-number.ensures.below within) (fault_read kind info mid.cells (bucket_place info number) 4 part level block first))
+    (rw there at read.damaged (now_told old mid stays told)))
+    (λ plain. read.plain (plain_stays old.shape mid.shape stays.space.shape plain)))
+
+pub loop-step-init : goal.loop-step-init
+loop-step-init g c =
+    let space = g.S.Space in
+    let old = space.state c.args.space.now in
+    let mid = space.state c.read_counts.new.space in
+    let stays = c.in_ok-count.ensures.reads.stays in
+    let info = c.args.info in
+    let own = bucket_number c.args.parent c.args.name.now.0 info.buckets in
+    let below : own < info.buckets = rw (sym c.bucket-number.ensures.number) c.bucket-number.ensures.below in
+    let there : info.buckets_at + 4 * c.from.result ≡ bucket_place info own = rw (c.from.ensures, c.bucket-number.ensures.number) refl in
+    record {
+      reads = Reads-join space.state space.keeps space.lands g.met.S.Space.keeps_join c.args.space.now c.read_counts.new.space c.space_u32.new.space None c.in_ok-count.ensures.reads (record { stays = c.in_ok-entry.ensures.stays; unmoved = c.in_ok-entry.ensures.unmoved });
+      passed = λ told. HasPassed-none c.args.kind (table_in old.cells c.args.kind info) c.args.parent c.args.name.now.0 own c.in_ok-entry.entry
+          ((rw there at c.in_ok-entry.ensures.number (now_told old mid stays told)) ∙ head_stays old mid stays c.args.kind info c.requires own told below);
+    }
+
+pub returns-then-entry-eq0-clause-found : goal.returns-then-entry-eq0-clause-found
+returns-then-entry-eq0-clause-found g c = λ told lists.
+    let t = table_in (g.S.Space.state c.args.space.now).cells c.args.kind c.args.info in
+    let own = bucket_number c.args.parent c.args.name.now.0 c.args.info.buckets in
+    let below : own < c.args.info.buckets = rw (sym c.bucket-number.ensures.number) c.bucket-number.ensures.below in
+    none_found c.args.kind t c.args.parent c.args.name.now.0 own c.loop-step._step (rw c.if-entry-eq0.true at c.loop-step.invariant.passed told) refl below lists
+
+pub returns-then-entry-count-clause-cause : goal.returns-then-entry-count-clause-cause
+returns-then-entry-count-clause-cause g c =
+    let old = g.S.Space.state c.args.space.now in
+    let t = table_in old.cells c.args.kind c.args.info in
+    let own = bucket_number c.args.parent c.args.name.now.0 c.args.info.buckets in
+    let below : own < c.args.info.buckets = rw (sym c.bucket-number.ensures.number) c.bucket-number.ensures.below in
+    broken_cause old c.args.kind c.args.info _ _ c.bucket_table.result c.bucket-number.result
+    (λ told. (
+      c.bucket_table.ensures,
+      c.bucket-number.ensures.number,
+      rw c.bucket-number.ensures.number
+      (broken_past c.args.kind t c.args.parent c.args.name.now.0 own c.loop-step._step c.loop-step.entry (c.loop-step.invariant.passed told) c.if-entry-eq0.false below (omega (arith, c.if-entry-count.true, c.in_ok-count.ensures.count told))),
+    ))
+
+pub look_at-requires : goal.look_at-requires
+look_at-requires g c =
+    HasTable-stays (g.S.Space.state c.args.space.now) (g.S.Space.state c.loop-step.space) c.loop-step.invariant.reads.stays c.args.kind c.args.info c.requires
+
+pub returns-in_err-look_at-clause-cause : goal.returns-in_err-look_at-clause-cause
+returns-in_err-look_at-clause-cause g c =
+    let old = g.S.Space.state c.args.space.now in
+    let mid = g.S.Space.state c.loop-step.space in
+    let kind = c.args.kind in
+    let info = c.args.info in
+    let t = table_in old.cells kind info in
+    let own = bucket_number c.args.parent c.args.name.now.0 info.buckets in
+    let below : own < info.buckets = rw (sym c.bucket-number.ensures.number) c.bucket-number.ensures.below in
+    let e = c.loop-step.entry in
+    let bad = c.in_err-look_at.field-0.0 in
+    let stays = c.loop-step.invariant.reads.stays in
+    rw (passed_on _ bad c.from_residual-in_err-look_at.ensures.1)
+    (bad_cause old kind info _ _ bad
+    (λ told rule.
+    let used = (passed_stands kind t c.args.parent c.args.name.now.0 own c.loop-step._step e (rule own below).0 (c.loop-step.invariant.passed told) c.if-entry-eq0.false (rule own below).1).used in
+    let fits = entry_fits old mid stays kind info c.requires (c.in_ok-count.ensures.known told) e used.below in
+    IfDamaged-map (Some bad) (λ part level block. needed_read old mid stays kind info c.requires told (entry_place kind info e) (entry_size kind) part level block fits (λ x within. OfUsed e used within)) (c.in_err-look_at.ensures.damaged (now_told old mid stays told)))
+    (λ plain. c.in_err-look_at.ensures.plain (plain_stays old.shape mid.shape stays.space.shape plain)))
+
+pub returns-in_err-look_at-clause-reads : goal.returns-in_err-look_at-clause-reads
+returns-in_err-look_at-clause-reads g c =
+    let space = g.S.Space in
+    let bad = c.in_err-look_at.field-0.0 in
+    rw (passed_on _ bad c.from_residual-in_err-look_at.ensures.1)
+    (Reads-join space.state space.keeps space.lands g.met.S.Space.keeps_join c.args.space.now c.loop-step.space c.look_at.new.space (Some bad) c.loop-step.invariant.reads c.in_err-look_at.ensures.reads)
+
+pub returns-in-Found-clause-found : goal.returns-in-Found-clause-found
+returns-in-Found-clause-found g c = λ told lists.
+    let old = g.S.Space.state c.args.space.now in
+    let mid = g.S.Space.state c.loop-step.space in
+    let kind = c.args.kind in
+    let info = c.args.info in
+    let t = table_in old.cells kind info in
+    let stays = c.loop-step.invariant.reads.stays in
+    let own = bucket_number c.args.parent c.args.name.now.0 info.buckets in
+    let below : own < info.buckets = rw (sym c.bucket-number.ensures.number) c.bucket-number.ensures.below in
+    let in_table : c.loop-step.entry < t.count = omega (arith, c.if-entry-count.false, c.in_ok-count.ensures.count told) in
+    let in_mid : c.loop-step.entry < (table_in mid.cells kind info).count = omega (arith, in_table, count_stays old mid stays kind info c.requires told) in
+    let matches = rw c.in-Found.is at c.in_ok-look_at.ensures.look (now_told old mid stays told) in_mid in
+    match_found kind t c.args.parent c.args.name.now.0 own c.loop-step._step c.loop-step.entry (c.loop-step.invariant.passed told) c.if-entry-eq0.false below
+    (Matches-stays kind t (table_in mid.cells kind info) c.args.parent c.args.name.now.0 c.loop-step.entry (entry_stays old mid stays kind info c.requires (c.in_ok-count.ensures.known told) c.loop-step.entry in_table) matches)
+    lists
+
+pub returns-in-Found-clause-reads : goal.returns-in-Found-clause-reads
+returns-in-Found-clause-reads g c =
+    let space = g.S.Space in
+    Reads-join space.state space.keeps space.lands g.met.S.Space.keeps_join c.args.space.now c.loop-step.space c.look_at.new.space None c.loop-step.invariant.reads c.in_ok-look_at.ensures.reads
+
+pub loop-step-preserved : goal.loop-step-preserved
+loop-step-preserved g c =
+    let space = g.S.Space in
+    let old = space.state c.args.space.now in
+    let mid = space.state c.loop-step.space in
+    let kind = c.args.kind in
+    let info = c.args.info in
+    let t = table_in old.cells kind info in
+    let stays = c.loop-step.invariant.reads.stays in
+    let own = bucket_number c.args.parent c.args.name.now.0 info.buckets in
+    record {
+      reads = Reads-join space.state space.keeps space.lands g.met.S.Space.keeps_join c.args.space.now c.loop-step.space c.look_at.new.space None c.loop-step.invariant.reads c.in_ok-look_at.ensures.reads;
+      passed = λ told.
+          (let in_table : c.loop-step.entry < t.count = omega (arith, c.if-entry-count.false, c.in_ok-count.ensures.count told) in
+          let in_mid : c.loop-step.entry < (table_in mid.cells kind info).count = omega (arith, in_table, count_stays old mid stays kind info c.requires told) in
+          let look = rw c.in-Other.is at c.in_ok-look_at.ensures.look (now_told old mid stays told) in_mid in
+          let same = entry_stays old mid stays kind info c.requires (c.in_ok-count.ensures.known told) c.loop-step.entry in_table in
+          HasPassed-more kind t c.args.parent c.args.name.now.0 own c.loop-step._step c.loop-step.entry c.in-Other.next (c.loop-step.invariant.passed told) c.if-entry-eq0.false
+          (λ matches. look.0 (Matches-was kind t (table_in mid.cells kind info) c.args.parent c.args.name.now.0 c.loop-step.entry same matches))
+          (look.1 ∙ same.link));
+    }
+
+pub returns-clause-cause : goal.returns-clause-cause
+returns-clause-cause g c =
+    let old = g.S.Space.state c.args.space.now in
+    let kind = c.args.kind in
+    let info = c.args.info in
+    let t = table_in old.cells kind info in
+    let own = bucket_number c.args.parent c.args.name.now.0 info.buckets in
+    let below : own < info.buckets = rw (sym c.bucket-number.ensures.number) c.bucket-number.ensures.below in
+    broken_cause old kind info _ _ c.bucket_table.result c.bucket-number.result
+    (λ told. (
+      c.bucket_table.ensures,
+      c.bucket-number.ensures.number,
+      (let counted = c.in_ok-count.ensures.count told in
+      let some : 1 ≤ t.count = omega (arith, least_some kind, c.requires.least (c.in_ok-count.ensures.known told)) in
+      rw c.bucket-number.ensures.number
+      (broken_long kind t c.args.parent c.args.name.now.0 own c.loop-step._step c.loop-step.entry (c.loop-step.invariant.passed told) below (omega (arith, counted, c.loop-step-test.false)) some)),
+    ))
