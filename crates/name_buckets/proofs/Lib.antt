@@ -4,3 +4,4 @@ pub mod LinkLemmas
 pub mod StayLemmas
 pub mod CauseLemmas
 pub mod FindLemmas
+pub mod FreeLemmas

@@ -86,6 +86,10 @@ module _ (old new : State) (stays : Stays old new None) where
         link = number_stays 4 (entry_place kind info e + link_offset kind) known.told (omega (arith, entry_fits, link_last kind));
       }
 
+      -- a last word that was read is the entry's
+      pub last_word : (word offset : ℕ) → offset ≡ link_offset kind → word ≡ number_in 4 new.cells (entry_place kind info e + offset) → word ≡ (table_in old.cells kind info).link e
+      last_word word offset there is = is ∙ rw there entry_stays.link
+
     -- a bucket's head is as it was
     pub head_stays : (bucket : ℕ) → IsTrue old.told → bucket < info.buckets → (table_in new.cells kind info).head bucket ≡ (table_in old.cells kind info).head bucket
     head_stays bucket told below = number_stays 4 (bucket_place info bucket) told (omega (arith, below, table.buckets))

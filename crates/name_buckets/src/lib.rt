@@ -2,6 +2,7 @@
 #![tactic(auto)]
 
 mod find;
+mod free;
 mod hash;
 mod reads;
 mod table;

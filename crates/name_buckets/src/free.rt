@@ -1,0 +1,51 @@
+//! How many entries can still be added.
+
+ghost use Rattle.std.specs.Prelude.{◌≡◌, IsTrue, IfOk};
+ghost use Rattle.save_bytes.specs.Reads.{Reads};
+ghost use Rattle.name_buckets.specs.Kinds.{table_number};
+ghost use Rattle.name_buckets.specs.Tables.{table_in};
+ghost use Rattle.name_buckets.specs.Rules.{HasFreedList, NamesWrongly};
+ghost use Rattle.name_buckets.specs.Layout.{HasTable};
+ghost use Rattle.name_buckets.specs.Replies.{bad_of, HasCause, IsRoom};
+
+use crate::reads::{entry_word, read_counts};
+use crate::table::{EntryFault, EntryKind, TableInfo};
+use save_bytes::Space;
+
+/// How many entries can be added to a table: those that were never used, and the freed ones, which are counted along
+/// their list.
+pub(crate) fn free_in<S: Space>(
+    space: &mut S,
+    kind: EntryKind,
+    info: TableInfo,
+) -> Result<u32, EntryFault>
+    requires { HasTable (S.state space.old) kind info }
+    ensures free { IsTrue (S.state space.old).told → IfOk result (IsRoom kind (table_in (S.state space.old).cells kind info)) }
+    ensures cause { HasCause (S.state space.old) kind info (HasFreedList kind (table_in (S.state space.old).cells kind info))
+        (λ table entry. (table ≡ table_number kind) × NamesWrongly kind (table_in (S.state space.old).cells kind info) entry) result }
+    ensures reads { Reads S.state S.keeps S.lands space.old space.new (bad_of result) }
+{
+    let counts = read_counts(space, kind, info)?;
+    let mut from = 0;
+    for freed in 0..counts.count {
+        let next = entry_word(space, kind, info, from, kind.link_offset())?;
+        if next == 0 {
+            return Ok(counts.most.saturating_sub(counts.count) + freed);
+        }
+        if next < kind.least_freed() || next >= counts.count {
+            return Err(names_wrongly(kind, from));
+        }
+        from = next;
+    }
+    Err(names_wrongly(kind, from))
+}
+
+// The refusal for an entry, 0 included, that names a wrong one as the next freed.
+fn names_wrongly(kind: EntryKind, entry: u32) -> EntryFault
+    ensures { result ≡ EntryFault.Broken (table_number kind) entry }
+{
+    EntryFault::Broken {
+        table: kind.table_number(),
+        entry,
+    }
+}
