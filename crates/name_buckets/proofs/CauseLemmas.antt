@@ -1,5 +1,5 @@
 -- Why calls on entries are refused.
-use Rattle.std.proofs.Common.{◌≡◌, ℕ, IsTrue, Result, Ok, Err, Some, refl, ap, subst, sym}
+use Rattle.std.proofs.Common.{◌≡◌, ℕ, ◌+◌, ◌≤◌, IsTrue, Result, Ok, Err, Some, refl, ap, subst, sym, arith}
 use Rattle.std.specs.Result.{IsErrAnd}
 use Rattle.save_bytes.specs.declared.space.Bad.{Bad}
 use Rattle.save_bytes.specs.State.{Shape, State}
@@ -8,8 +8,12 @@ use Rattle.name_buckets.specs.declared.table.EntryKind.{EntryKind}
 use Rattle.name_buckets.specs.declared.table.TableInfo.{TableInfo}
 use Rattle.name_buckets.specs.declared.table.EntryFault.{EntryFault}
 use Rattle.name_buckets.specs.declared.table.EntryFault.TheVariants as fault
-use Rattle.name_buckets.specs.Layout.{BlamesNeeded}
+use Rattle.name_buckets.specs.Kinds.{entry_size}
+use Rattle.name_buckets.specs.Tables.{table_in, entry_place}
+use Rattle.name_buckets.specs.Used.{used_entries}
+use Rattle.name_buckets.specs.Layout.{IsWithin, IsNeeded, OfZero, OfUsed, BlamesNeeded, IsReadAt, AtZero, AtPlace, BlamesRead}
 use Rattle.name_buckets.specs.Replies.{HasCause}
+use Rattle.name_buckets.proofs.StayLemmas.{IfDamaged-map}
 
 -- a refusal of the space is passed on
 pub passed_on : {A : Type 0} (result : Result A EntryFault) (bad : Bad) → IsErrAnd result (λ found. found ≡ fault.Bad bad) → result ≡ Err (fault.Bad bad)
@@ -26,3 +30,19 @@ module _ {A : Type 0} (s : State) (kind : EntryKind) (info : TableInfo) (Rule : 
 -- what is plain stays plain
 pub plain_stays : (old new : Shape) → new ≡ old → IsTrue old.plain → IsTrue new.plain
 plain_stays old new same plain = subst (λ (shape : Shape). IsTrue shape.plain) (sym same) plain
+
+-- the bytes of a used entry are needed
+module _ (s : State) (kind : EntryKind) (info : TableInfo) (entry offset n : ℕ) (fits : offset + n ≤ entry_size kind) (used : used_entries (table_in s.cells kind info) entry) where
+  needed_place : (x : ℕ) → IsReadAt kind info (entry_place kind info entry + offset) n x → IsNeeded kind info (table_in s.cells kind info) x
+  needed_place x (AtZero within) = OfZero within
+  needed_place x (AtPlace within) = OfUsed entry used (record { from = omega (arith, within.from); before = omega (arith, within.before, fits) })
+
+  needed_entry : (part level block : ℕ) → BlamesRead kind info (entry_place kind info entry + offset) n s.cells part level block → BlamesNeeded kind info s.cells part level block
+  needed_entry part level block h = record { at = h.at; needed = needed_place h.at h.read; blames = h.blames }
+
+pub entry_cause : {A : Type 0} (s : State) (kind : EntryKind) (info : TableInfo) (entry offset n : ℕ) (result : Result A EntryFault) (bad : Bad) → offset + n ≤ entry_size kind → IsErrAnd result (λ found. found ≡ fault.Bad bad) → (IsTrue s.told → IfDamaged (Some bad) (BlamesRead kind info (entry_place kind info entry + offset) n s.cells)) → (IsTrue s.shape.plain → NeverDamaged (Some bad)) → HasCause s kind info (used_entries (table_in s.cells kind info) entry) (λ table place. ⊥) result
+entry_cause s kind info entry offset n result bad fits is damaged plain =
+    rw (passed_on result bad is)
+    (bad_cause s kind info (used_entries (table_in s.cells kind info) entry) (λ table place. ⊥) bad
+    (λ told used. IfDamaged-map (Some bad) (needed_entry s kind info entry offset n fits used) (damaged told))
+    plain)

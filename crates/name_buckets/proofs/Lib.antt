@@ -5,3 +5,5 @@ pub mod StayLemmas
 pub mod CauseLemmas
 pub mod FindLemmas
 pub mod FreeLemmas
+pub mod HeldLemmas
+pub mod ChildLemmas

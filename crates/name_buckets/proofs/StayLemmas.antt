@@ -35,7 +35,7 @@ module _ (old new : State) (stays : Stays old new None) where
   pub same_size : new.shape.size ≡ old.shape.size
   same_size = ap (λ (shape : Shape). shape.size) stays.space.shape
 
-  was_told : IsTrue new.told → IsTrue old.told
+  pub was_told : IsTrue new.told → IsTrue old.told
   was_told told = subst IsTrue stays.space.told told
 
   pub now_told : IsTrue old.told → IsTrue new.told
@@ -50,7 +50,7 @@ module _ (old new : State) (stays : Stays old new None) where
   bytes_stay n at told fits = bytes_in-same n new.cells old.cells at (λ k h. stays.cells told (at + k) (omega (arith, fits, h)))
 
   module _ (kind : EntryKind) (info : TableInfo) (table : HasTable old kind info) where
-    had_counts : HasCounts new info → HasCounts old info
+    pub had_counts : HasCounts new info → HasCounts old info
     had_counts known = record {
       told = was_told known.told;
       bytes = λ k h. rw (sym (stays.cells (was_told known.told) (info.table_at + k) (omega (arith, h, table.zero, entry_long kind)))) (known.bytes k h);
@@ -59,7 +59,7 @@ module _ (old new : State) (stays : Stays old new None) where
     pub count_stays : IsTrue old.told → (table_in new.cells kind info).count ≡ (table_in old.cells kind info).count
     count_stays told = number_stays 4 info.table_at told (omega (arith, table.zero, entry_long kind))
 
-    most_stays : IsTrue old.told → (table_in new.cells kind info).most ≡ (table_in old.cells kind info).most
+    pub most_stays : IsTrue old.told → (table_in new.cells kind info).most ≡ (table_in old.cells kind info).most
     most_stays told = number_stays 4 (info.table_at + 4) told (omega (arith, table.zero, entry_long kind))
 
     -- the table still lies in the space

@@ -7,3 +7,4 @@ pub mod Rules
 pub mod Layout
 pub mod Replies
 pub mod Looks
+pub mod Held

@@ -1,0 +1,46 @@
+-- What the entries of a space hold, and what their calls leave.
+use Rattle.std.specs.Prelude.{◌≡◌, ℕ, Option}
+use Rattle.std.specs.Borrow.{MutBor}
+use Rattle.save_bytes.specs.declared.space.Bad.{Bad}
+use Rattle.save_bytes.specs.State.{State}
+use Rattle.save_bytes.specs.Refusals.{UnlessDisk}
+use Rattle.save_bytes.specs.Spots.{Spot}
+use Rattle.save_bytes.specs.Reads.{Reads}
+use Rattle.name_buckets.specs.declared.table.EntryKind.{EntryKind}
+use Rattle.name_buckets.specs.declared.table.TableInfo.{TableInfo}
+use Rattle.name_buckets.specs.declared.view.Entries.{Entries}
+use Rattle.name_buckets.specs.Tables.{Tables, tables_in, info_of}
+use Rattle.name_buckets.specs.Layout.{HasTables}
+
+-- what a contract sees of the space, its tables, and where one stands
+abbrev pub space_of : {S : Type 0} → (S → State) → Entries S → State
+space_of states entries = states entries.space.now
+
+abbrev pub tables_of : {S : Type 0} → (S → State) → Entries S → Tables
+tables_of states entries = tables_in (states entries.space.now).cells entries.dirs entries.files
+
+abbrev pub place_of : {S : Type 0} → Entries S → EntryKind → TableInfo
+place_of entries kind = info_of entries.dirs entries.files kind
+
+-- the tables lie in the space as they should
+abbrev pub IsLaidOut : {S : Type 0} → (S → State) → Entries S → Type 0
+IsLaidOut states entries = HasTables (states entries.space.now) entries.dirs entries.files
+
+-- the entries hold this space and these places
+pub record IsEntriesIn {S : Type 0} (entries : Entries S) (space : MutBor S) (dirs files : TableInfo) : Type 0 where
+  pub same_space : entries.space.ghost_name ≡ space.ghost_name
+  pub space_now : entries.space.now ≡ space.now
+  pub same_dirs : entries.dirs ≡ dirs
+  pub same_files : entries.files ≡ files
+
+-- the same reference and places; the space may have changed
+pub record SameEntries {S : Type 0} (old new : Entries S) : Type 0 where
+  pub same_space : new.space.ghost_name ≡ old.space.ghost_name
+  pub same_dirs : new.dirs ≡ old.dirs
+  pub same_files : new.files ≡ old.files
+
+-- a call that only reads: no cell changes, each spot of the bottom is left alone, and the tables lie as they should
+pub record ReadsEntries {S : Type 0} (states : S → State) (keeps : Spot → S → S → Type 0) (lands : S → ℕ → Spot → Type 0) (old new : Entries S) (refusal : Option Bad) : Type 0 where
+  pub reads : Reads states keeps lands old.space.now new.space.now refusal
+  pub same : SameEntries old new
+  pub laid_out : UnlessDisk refusal (IsLaidOut states new)

@@ -1,0 +1,150 @@
+//! The entries of the tables in a space.
+
+ghost use Rattle.std.specs.Prelude.{◌≡◌, ◌<◌, IsTrue, IfOk};
+ghost use Rattle.name_buckets.specs.declared.table.EntryKind.TheVariants.{Dir, File};
+ghost use Rattle.name_buckets.specs.Kinds.{table_number, bucket_table};
+ghost use Rattle.name_buckets.specs.Hash.{bucket_number};
+ghost use Rattle.name_buckets.specs.Tables.{info_of};
+ghost use Rattle.name_buckets.specs.Used.{used_entries};
+ghost use Rattle.name_buckets.specs.Rules.{HasFreedList, HasBucketLists, NamesWrongly, IsBrokenBucket};
+ghost use Rattle.name_buckets.specs.Layout.{HasTables};
+ghost use Rattle.name_buckets.specs.Replies.{bad_of, HasCause, IsFound, IsRoom, IsFirstChild, IsNextChild};
+ghost use Rattle.name_buckets.specs.Held.{space_of, tables_of, place_of, IsLaidOut, IsEntriesIn, ReadsEntries};
+
+use crate::fields::{fields_in, name_in, word_in};
+use crate::find::find_in;
+use crate::free::free_in;
+use crate::table::{EntryFault, EntryKind, FileFields, TableInfo};
+use save_bytes::{Name, Space};
+
+/// The entries of the two tables in a space, with their buckets.
+///
+/// A call is refused with `Bad` as the space refuses it: for a damaged cell only where that cell is needed, which are
+/// entry 0 of a table, its buckets, its used entries and the last words of the freed ones. It is refused with `Broken`
+/// only where a rule fails at the entry, or the bucket, that it names. Over a space that tells nothing each call is
+/// safe, and returns.
+#[derive(Drop)]
+pub struct Entries<'a, S: Space> {
+    space: &'a mut S,
+    dirs: TableInfo,
+    files: TableInfo,
+}
+
+impl<'a, S: Space> Entries<'a, S> {
+    /// The entries of the tables that stand at these places.
+    pub fn new(space: &'a mut S, dirs: TableInfo, files: TableInfo) -> Entries<'a, S>
+        requires { HasTables (S.state space.old) dirs files }
+        ensures holds { IsEntriesIn result space.entry dirs files }
+        ensures laid_out { IsLaidOut S.state result }
+    {
+        Entries { space, dirs, files }
+    }
+
+    /// The used entry of this kind, parent and name, the root left out. It is found through its bucket alone, and is
+    /// exact where the buckets of this kind have the lists that they should.
+    pub fn find(
+        &mut self,
+        kind: EntryKind,
+        parent: u32,
+        name: &Name,
+    ) -> Result<Option<u32>, EntryFault>
+        requires { IsLaidOut S.state self.old }
+        ensures found { IsTrue (space_of S.state self.old).told → HasBucketLists kind ((tables_of S.state self.old).table kind)
+            → IfOk result (IsFound kind ((tables_of S.state self.old).table kind) parent name.now.0) }
+        ensures cause { let t = (tables_of S.state self.old).table kind in
+            HasCause (space_of S.state self.old) kind (place_of self.old kind) (HasBucketLists kind t)
+            (λ table entry. (table ≡ bucket_table kind) × (entry ≡ bucket_number parent name.now.0 t.buckets)
+                × IsBrokenBucket kind t entry) result }
+        ensures reads { ReadsEntries S.state S.keeps S.lands self.old self.new (bad_of result) }
+    {
+        let info = self.info(kind);
+        let space = &mut *self.space;
+        find_in(space, kind, info, parent, name)
+    }
+
+    /// A directory's first entry of a kind, and 0 where it has none. The list of its entries begins there.
+    pub fn first(&mut self, kind: EntryKind, dir: u32) -> Result<u32, EntryFault>
+        requires { IsLaidOut S.state self.old }
+        ensures word { IsTrue (space_of S.state self.old).told → dir < ((tables_of S.state self.old).table Dir).count
+            → IfOk result (λ first. first ≡ (tables_of S.state self.old).first kind dir) }
+        ensures child { IsTrue (space_of S.state self.old).told → dir < ((tables_of S.state self.old).table Dir).count
+            → IfOk result (IsFirstChild (tables_of S.state self.old) kind dir) }
+        ensures cause { HasCause (space_of S.state self.old) Dir self.old.dirs
+            (used_entries ((tables_of S.state self.old).table Dir) dir) (λ _ _. ⊥) result }
+        ensures reads { ReadsEntries S.state S.keeps S.lands self.old self.new (bad_of result) }
+    {
+        let dirs = self.dirs;
+        let space = &mut *self.space;
+        word_in(space, EntryKind::Dir, dirs, dir, kind.child_offset())
+    }
+
+    /// The entry behind this one in the list of its directory, and 0 behind the last.
+    pub fn next(&mut self, kind: EntryKind, entry: u32) -> Result<u32, EntryFault>
+        requires { IsLaidOut S.state self.old }
+        ensures word { IsTrue (space_of S.state self.old).told → entry < ((tables_of S.state self.old).table kind).count
+            → IfOk result (λ next. next ≡ ((tables_of S.state self.old).table kind).sibling entry) }
+        ensures child { IsTrue (space_of S.state self.old).told → entry < ((tables_of S.state self.old).table kind).count
+            → IfOk result (IsNextChild (tables_of S.state self.old) kind entry) }
+        ensures cause { HasCause (space_of S.state self.old) kind (place_of self.old kind)
+            (used_entries ((tables_of S.state self.old).table kind) entry) (λ _ _. ⊥) result }
+        ensures reads { ReadsEntries S.state S.keeps S.lands self.old self.new (bad_of result) }
+    {
+        let info = self.info(kind);
+        let space = &mut *self.space;
+        word_in(space, kind, info, entry, 0x14)
+    }
+
+    /// The name of an entry.
+    pub fn name(&mut self, kind: EntryKind, entry: u32) -> Result<Name, EntryFault>
+        requires { IsLaidOut S.state self.old }
+        ensures name { IsTrue (space_of S.state self.old).told → entry < ((tables_of S.state self.old).table kind).count
+            → IfOk result (λ name. name.0 ≡ ((tables_of S.state self.old).table kind).name entry) }
+        ensures cause { HasCause (space_of S.state self.old) kind (place_of self.old kind)
+            (used_entries ((tables_of S.state self.old).table kind) entry) (λ _ _. ⊥) result }
+        ensures reads { ReadsEntries S.state S.keeps S.lands self.old self.new (bad_of result) }
+    {
+        let info = self.info(kind);
+        let space = &mut *self.space;
+        name_in(space, kind, info, entry)
+    }
+
+    /// What a file's entry says of its contents.
+    pub fn fields(&mut self, entry: u32) -> Result<FileFields, EntryFault>
+        requires { IsLaidOut S.state self.old }
+        ensures start { IsTrue (space_of S.state self.old).told → entry < ((tables_of S.state self.old).table File).count
+            → IfOk result (λ fields. fields.start ≡ (tables_of S.state self.old).start entry) }
+        ensures wide { IsTrue (space_of S.state self.old).told → entry < ((tables_of S.state self.old).table File).count
+            → IfOk result (λ fields. fields.wide ≡ (tables_of S.state self.old).wide entry) }
+        ensures cause { HasCause (space_of S.state self.old) File self.old.files
+            (used_entries ((tables_of S.state self.old).table File) entry) (λ _ _. ⊥) result }
+        ensures reads { ReadsEntries S.state S.keeps S.lands self.old self.new (bad_of result) }
+    {
+        let files = self.files;
+        let space = &mut *self.space;
+        fields_in(space, files, entry)
+    }
+
+    /// How many entries of a kind can still be added. It is answered only where the freed entries of this kind have the
+    /// list that they should.
+    pub fn free(&mut self, kind: EntryKind) -> Result<u32, EntryFault>
+        requires { IsLaidOut S.state self.old }
+        ensures room { IsTrue (space_of S.state self.old).told → IfOk result (IsRoom kind ((tables_of S.state self.old).table kind)) }
+        ensures cause { let t = (tables_of S.state self.old).table kind in
+            HasCause (space_of S.state self.old) kind (place_of self.old kind) (HasFreedList kind t)
+            (λ table entry. (table ≡ table_number kind) × NamesWrongly kind t entry) result }
+        ensures reads { ReadsEntries S.state S.keeps S.lands self.old self.new (bad_of result) }
+    {
+        let info = self.info(kind);
+        let space = &mut *self.space;
+        free_in(space, kind, info)
+    }
+
+    fn info(&self, kind: EntryKind) -> TableInfo
+        ensures { result ≡ place_of self.now kind }
+    {
+        match kind {
+            EntryKind::Dir => self.dirs,
+            EntryKind::File => self.files,
+        }
+    }
+}
