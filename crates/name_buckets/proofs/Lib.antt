@@ -7,3 +7,4 @@ pub mod FindLemmas
 pub mod FreeLemmas
 pub mod HeldLemmas
 pub mod ChildLemmas
+pub mod InOrderLemmas

@@ -26,7 +26,7 @@ HasFreedList kind t = (list : List ℕ) × IsFreedList kind t list
 pub record IsPlaced (t : Tables) (kind : EntryKind) (e : ℕ) : Type 0 where
   pub parent : used_entries (t.table Dir) ((t.table kind).parent e)
   pub named : (t.table kind).name e ≢ replicate 16 0
-  pub path : (names : _) × path_of t kind e names × (length names ≤ 64)
+  pub path : (names : List (List ℕ)) × path_of t kind e names × (length names ≤ 64)
 
 -- a directory's list, through next siblings, has exactly its entries of a kind, each once
 pub record IsChildList (t : Tables) (kind : EntryKind) (dir : ℕ) (list : List ℕ) : Type 0 where

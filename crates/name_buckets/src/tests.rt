@@ -1,5 +1,14 @@
+ghost use Rattle.std.specs.Prelude.{refl, ◌≡◌, ◌+◌, ◌<◌, ◌≤◌, length, IsTrue, IfOk, IfSome};
+ghost use Rattle.std.proofs.Common.{lit<};
+ghost use Rattle.std.proofs.lemmas.Bool.{false≢true};
+ghost use Rattle.name_buckets.specs.InOrder.{untold_state};
+ghost use Rattle.name_buckets.specs.InOrder.{HasEntriesBefore, FollowInOrder};
+ghost use Rattle.name_buckets.specs.Rules.{HasBucketLists};
+ghost use Rattle.name_buckets.specs.Held.{space_of, tables_of, IsLaidOut, ReadsEntries};
+ghost use Rattle.name_buckets.specs.Replies.{bad_of};
+
 use super::*;
-use save_bytes::Name;
+use save_bytes::{Bad, MemSpace, Name, Space, set_u32, set_u64, u32_at};
 
 /// Names of one byte.
 const A: Name = Name(*b"a\0\0\0\0\0\0\0\0\0\0\0\0\0\0\0");
@@ -7,6 +16,18 @@ const D: Name = Name(*b"d\0\0\0\0\0\0\0\0\0\0\0\0\0\0\0");
 const J: Name = Name(*b"j\0\0\0\0\0\0\0\0\0\0\0\0\0\0\0");
 const P: Name = Name(*b"p\0\0\0\0\0\0\0\0\0\0\0\0\0\0\0");
 const X: Name = Name(*b"x\0\0\0\0\0\0\0\0\0\0\0\0\0\0\0");
+
+/// Where the tables stand: room for 10 directories and 9 files.
+const DIRS: TableInfo = TableInfo {
+    buckets_at: 136,
+    buckets: 9,
+    table_at: 1024,
+};
+const FILES: TableInfo = TableInfo {
+    buckets_at: 172,
+    buckets: 9,
+    table_at: 1536,
+};
 
 // Among so many buckets a bucket's number is the whole hash.
 #[test]
@@ -40,5 +61,317 @@ fn buckets_are_hashes_by_their_number(rt: HostRuntime) {
     ] {
         assert!(rt; count >= 1);
         assert_eq!(rt; bucket(parent, &name, count), number);
+    }
+}
+
+/// A reading call, and its answer.
+#[derive(Clone, Copy)]
+enum Call {
+    Find(EntryKind, u32, Name),
+    First(EntryKind, u32),
+    Next(EntryKind, u32),
+    Name(EntryKind, u32),
+    Fields(u32),
+    Free(EntryKind),
+}
+
+#[derive(Clone, Copy, Debug, PartialEq)]
+enum Reply {
+    NoTables,
+    Found(Result<Option<u32>, EntryFault>),
+    Number(Result<u32, EntryFault>),
+    Named(Result<Name, EntryFault>),
+    Fields(Result<FileFields, EntryFault>),
+}
+
+// Whether a table's entries end before a place, and its counts are as they must be.
+fn has_entries(bytes: &[u8], at: usize, size: usize, least: u32, end: usize) -> bool
+    requires counts { at + 8 ≤ length bytes.now }
+    requires near { at < 65536 }
+    requires small { size < 64 }
+    ensures { IsTrue result → HasEntriesBefore bytes.now at size least end }
+{
+    let count = u32_at(bytes, at);
+    let most = u32_at(bytes, at + 4);
+    at + size <= end && at + size * most as usize <= end && least <= count && count <= most
+}
+
+// Whether the two tables follow each other at their places.
+fn are_in_order(bytes: &[u8]) -> bool
+    ensures { IsTrue result → FollowInOrder bytes.now DIRS FILES }
+{
+    bytes.len() >= 1584
+        && has_entries(bytes, 1024, 0x28, 2, 1536)
+        && has_entries(bytes, 1536, 0x30, 1, bytes.len())
+}
+
+/// What a call on the tables in these bytes answers.
+fn reply_to(bytes: &mut [u8], call: Call) -> Reply {
+    if !are_in_order(bytes) {
+        return Reply::NoTables;
+    }
+    let mut space = MemSpace::new(bytes, 512);
+    let mut entries = Entries::new(&mut space, DIRS, FILES);
+    answer(&mut entries, call)
+}
+
+fn answer<S: Space>(entries: &mut Entries<S>, call: Call) -> Reply
+    requires { IsLaidOut S.state entries.old }
+{
+    match call {
+        Call::Find(kind, parent, name) => Reply::Found(entries.find(kind, parent, &name)),
+        Call::First(kind, dir) => Reply::Number(entries.first(kind, dir)),
+        Call::Next(kind, entry) => Reply::Number(entries.next(kind, entry)),
+        Call::Name(kind, entry) => Reply::Named(entries.name(kind, entry)),
+        Call::Fields(entry) => Reply::Fields(entries.fields(entry)),
+        Call::Free(kind) => Reply::Number(entries.free(kind)),
+    }
+}
+
+/// The tables of a tree with a directory `/a`, entry 2, and a file `/a/x` of 3 bytes, entry 1.
+fn tree() -> [u8; 1968] {
+    let mut bytes = [0; 1968];
+    // The root is in the bucket of parent 0 and no name, `/a` in that of its parent and name, and so is `/a/x`.
+    set_u32(&mut bytes, 136, 1);
+    set_u32(&mut bytes, 160, 2);
+    set_u32(&mut bytes, 192, 1);
+    // 3 of 10 directories, the root's first subdirectory, and `/a` with its first file.
+    set_u32(&mut bytes, 1024, 3);
+    set_u32(&mut bytes, 1028, 10);
+    set_u32(&mut bytes, 1088, 2);
+    set_u32(&mut bytes, 1104, 1);
+    bytes[1108] = b'a';
+    set_u32(&mut bytes, 1132, 1);
+    // 2 of 9 files, and `/a/x`.
+    set_u32(&mut bytes, 1536, 2);
+    set_u32(&mut bytes, 1540, 9);
+    set_u32(&mut bytes, 1584, 2);
+    bytes[1588] = b'x';
+    set_u32(&mut bytes, 1612, 2);
+    set_u64(&mut bytes, 1616, 3);
+    bytes
+}
+
+/// Makes a file's entry, with the next one in its bucket's list.
+fn set_file(bytes: &mut [u8; 1968], entry: usize, parent: u32, name: &Name, link: u32)
+    requires { entry < 9 }
+{
+    let at = 1536 + entry * 0x30;
+    set_u32(bytes, at, parent);
+    bytes[at + 4..at + 20].copy_from_slice(&name.0);
+    set_u32(bytes, at + 0x2C, link);
+}
+
+#[test]
+fn the_entries_of_a_tree_are_read(rt: HostRuntime) {
+    let mut bytes = tree();
+    let fields = FileFields { start: 2, wide: 3 };
+    for (call, want) in [
+        (Call::Find(EntryKind::Dir, 1, A), Reply::Found(Ok(Some(2)))),
+        (Call::Find(EntryKind::File, 2, X), Reply::Found(Ok(Some(1)))),
+        (Call::First(EntryKind::Dir, 1), Reply::Number(Ok(2))),
+        (Call::Next(EntryKind::Dir, 2), Reply::Number(Ok(0))),
+        (Call::First(EntryKind::Dir, 2), Reply::Number(Ok(0))),
+        (Call::First(EntryKind::File, 2), Reply::Number(Ok(1))),
+        (Call::Next(EntryKind::File, 1), Reply::Number(Ok(0))),
+        (Call::Name(EntryKind::Dir, 2), Reply::Named(Ok(A))),
+        (Call::Name(EntryKind::File, 1), Reply::Named(Ok(X))),
+        (Call::Fields(1), Reply::Fields(Ok(fields))),
+        (Call::Free(EntryKind::Dir), Reply::Number(Ok(7))),
+        (Call::Free(EntryKind::File), Reply::Number(Ok(7))),
+    ] {
+        assert_eq!(rt; reply_to(&mut bytes, call), want);
+    }
+}
+
+#[test]
+fn a_file_is_found_by_its_bucket_where_its_directory_lists_none(rt: HostRuntime) {
+    let mut bytes = tree();
+    set_u32(&mut bytes, 1132, 0);
+    let listed = reply_to(&mut bytes, Call::First(EntryKind::File, 2));
+    assert_eq!(rt; listed, Reply::Number(Ok(0)));
+    let found = reply_to(&mut bytes, Call::Find(EntryKind::File, 2, X));
+    assert_eq!(rt; found, Reply::Found(Ok(Some(1))));
+}
+
+#[test]
+fn the_root_is_never_found(rt: HostRuntime) {
+    let mut bytes = tree();
+    let none = Name([0; 16]);
+    let found = reply_to(&mut bytes, Call::Find(EntryKind::Dir, 0, none));
+    assert_eq!(rt; found, Reply::Found(Ok(None)));
+}
+
+// In directories 2 and 9 a file `x` is in bucket 5.
+#[test]
+fn files_of_one_name_and_bucket_are_told_apart_by_their_parents(rt: HostRuntime) {
+    let mut bytes = tree();
+    set_u32(&mut bytes, 1536, 3);
+    set_file(&mut bytes, 1, 2, &X, 2);
+    set_file(&mut bytes, 2, 9, &X, 0);
+    for (parent, entry) in [(2, Some(1)), (9, Some(2)), (1, None)] {
+        let found = reply_to(&mut bytes, Call::Find(EntryKind::File, parent, X));
+        assert_eq!(rt; found, Reply::Found(Ok(entry)));
+    }
+}
+
+// Names that end in 0, 9 and a are in bucket 3 of directory 1.
+#[test]
+fn names_of_one_bucket_are_told_apart_by_their_last_byte(rt: HostRuntime) {
+    let mut bytes = tree();
+    set_u32(&mut bytes, 184, 1);
+    set_u32(&mut bytes, 1536, 3);
+    set_file(&mut bytes, 1, 1, &Name(*b"abcdefghijklmno0"), 2);
+    set_file(&mut bytes, 2, 1, &Name(*b"abcdefghijklmno9"), 0);
+    for (name, entry) in [
+        (b"abcdefghijklmno0", Some(1)),
+        (b"abcdefghijklmno9", Some(2)),
+        (b"abcdefghijklmnoa", None),
+    ] {
+        let found = reply_to(&mut bytes, Call::Find(EntryKind::File, 1, Name(*name)));
+        assert_eq!(rt; found, Reply::Found(Ok(entry)));
+    }
+}
+
+#[test]
+fn a_list_that_comes_back_ends_with_its_bucket_named(rt: HostRuntime) {
+    let mut bytes = tree();
+    set_u32(&mut bytes, 1628, 1);
+    let found = reply_to(&mut bytes, Call::Find(EntryKind::File, 2, X));
+    assert_eq!(rt; found, Reply::Found(Ok(Some(1))));
+    let broken = EntryFault::Broken { table: 5, entry: 5 };
+    let missing = reply_to(&mut bytes, Call::Find(EntryKind::File, 9, X));
+    assert_eq!(rt; missing, Reply::Found(Err(broken)));
+}
+
+#[test]
+fn a_number_past_the_table_ends_a_list_with_its_bucket_named(rt: HostRuntime) {
+    for past in [2, 9, u32::MAX] {
+        let mut bytes = tree();
+        set_u32(&mut bytes, 192, past);
+        let broken = EntryFault::Broken { table: 5, entry: 5 };
+        let found = reply_to(&mut bytes, Call::Find(EntryKind::File, 2, X));
+        assert_eq!(rt; found, Reply::Found(Err(broken)));
+    }
+    let mut bytes = tree();
+    set_u32(&mut bytes, 160, 3);
+    let broken = EntryFault::Broken { table: 4, entry: 6 };
+    let found = reply_to(&mut bytes, Call::Find(EntryKind::Dir, 1, A));
+    assert_eq!(rt; found, Reply::Found(Err(broken)));
+}
+
+/// Of 5 files, entries 4, 2 and 3 are freed, in this order.
+fn freed_tree() -> [u8; 1968] {
+    let mut bytes = tree();
+    set_u32(&mut bytes, 1536, 5);
+    set_u32(&mut bytes, 1580, 4);
+    set_u32(&mut bytes, 1772, 2);
+    set_u32(&mut bytes, 1676, 3);
+    bytes
+}
+
+#[test]
+fn freed_entries_can_be_added_again(rt: HostRuntime) {
+    let mut bytes = freed_tree();
+    let room = reply_to(&mut bytes, Call::Free(EntryKind::File));
+    assert_eq!(rt; room, Reply::Number(Ok(7)));
+}
+
+#[test]
+fn a_freed_entry_that_names_a_wrong_number_is_named(rt: HostRuntime) {
+    for (at, number, entry) in [(1724, 5, 3), (1724, 3, 3), (1580, 5, 0), (1772, 9, 4)] {
+        let mut bytes = freed_tree();
+        set_u32(&mut bytes, at, number);
+        let room = reply_to(&mut bytes, Call::Free(EntryKind::File));
+        assert_eq!(rt; room, Reply::Number(Err(EntryFault::Broken { table: 3, entry })));
+    }
+}
+
+#[test]
+fn freed_entries_that_name_each_other_in_a_circle_are_named(rt: HostRuntime) {
+    let mut bytes = freed_tree();
+    set_u32(&mut bytes, 1724, 4);
+    let Reply::Number(Err(EntryFault::Broken { table, entry })) =
+        reply_to(&mut bytes, Call::Free(EntryKind::File))
+    else {
+        panic!(&rt; "no rule failed");
+    };
+    assert_eq!(rt; table, 3);
+    assert!(rt; entry == 2 || entry == 3 || entry == 4);
+}
+
+#[test]
+fn the_root_is_never_freed(rt: HostRuntime) {
+    let mut bytes = tree();
+    set_u32(&mut bytes, 1060, 1);
+    let broken = EntryFault::Broken { table: 2, entry: 0 };
+    let room = reply_to(&mut bytes, Call::Free(EntryKind::Dir));
+    assert_eq!(rt; room, Reply::Number(Err(broken)));
+}
+
+/// A space of 4,096 places that tells nothing of its cells, and lends one byte at each place.
+#[derive(Drop)]
+struct Untold {
+    byte: [u8; 1],
+}
+
+impl Space for Untold {
+    ghost state = { λ _. untold_state };
+
+    ghost keeps = { λ _ _ _. Unit {0} };
+
+    ghost lands = { λ _ _ _. Unit {0} };
+
+    ghost size_fits = { λ _ _. lit< tt };
+
+    ghost plain_bytes = { λ _ plain _ _. absurd (false≢true plain) };
+
+    ghost no_twins = { λ _ _. record { apart = λ x y same. same; free = λ x. refl } };
+
+    ghost keeps_same = { λ _ _. tt };
+
+    ghost keeps_join = { λ _ _ _ _ _ _. tt };
+
+    ghost keeps_shape = { λ _ _ _. refl };
+
+    fn len(&self) -> u64 {
+        4096
+    }
+
+    fn piece(&mut self, _at: u64, _most: usize) -> Result<&[u8], Bad> {
+        Ok(&self.byte)
+    }
+
+    fn ready(&mut self, _at: u64, _n: u64) -> Result<(), Bad> {
+        Err(Bad::Disk)
+    }
+
+    fn put(&mut self, _at: u64, _bytes: &[u8]) -> Result<(), Bad> {
+        Err(Bad::Disk)
+    }
+}
+
+fn answer_untold(byte: u8, call: Call) -> Reply {
+    let mut space = Untold { byte: [byte] };
+    let mut entries = Entries::new(&mut space, DIRS, FILES);
+    answer(&mut entries, call)
+}
+
+// Where each byte is 0 a table has no entry, not even entry 0; where each is 1 each number is 16,843,009.
+#[test]
+fn each_call_returns_over_a_space_that_tells_nothing(rt: HostRuntime) {
+    let broken = EntryFault::Broken { table: 5, entry: 5 };
+    let no_freed = EntryFault::Broken { table: 2, entry: 0 };
+    for (byte, call, want) in [
+        (0, Call::Find(EntryKind::File, 2, X), Reply::Found(Err(broken))),
+        (1, Call::Find(EntryKind::File, 2, X), Reply::Found(Err(broken))),
+        (0, Call::Free(EntryKind::Dir), Reply::Number(Err(no_freed))),
+        (1, Call::Free(EntryKind::Dir), Reply::Number(Err(no_freed))),
+        (1, Call::First(EntryKind::Dir, 1), Reply::Number(Ok(0x0101_0101))),
+        (1, Call::Next(EntryKind::Dir, u32::MAX), Reply::Number(Ok(0))),
+        (1, Call::Name(EntryKind::File, 1), Reply::Named(Ok(Name([1; 16])))),
+        (1, Call::Name(EntryKind::File, 1000), Reply::Named(Ok(Name([0; 16])))),
+    ] {
+        assert_eq!(rt; answer_untold(byte, call), want);
     }
 }

@@ -69,7 +69,7 @@ impl<'a, S: Space> Entries<'a, S> {
             → IfOk result (λ first. first ≡ (tables_of S.state self.old).first kind dir) }
         ensures child { IsTrue (space_of S.state self.old).told → dir < ((tables_of S.state self.old).table Dir).count
             → IfOk result (IsFirstChild (tables_of S.state self.old) kind dir) }
-        ensures cause { HasCause (space_of S.state self.old) Dir self.old.dirs
+        ensures cause { HasCause (space_of S.state self.old) Dir (place_of self.old Dir)
             (used_entries ((tables_of S.state self.old).table Dir) dir) (λ _ _. ⊥) result }
         ensures reads { ReadsEntries S.state S.keeps S.lands self.old self.new (bad_of result) }
     {
@@ -115,7 +115,7 @@ impl<'a, S: Space> Entries<'a, S> {
             → IfOk result (λ fields. fields.start ≡ (tables_of S.state self.old).start entry) }
         ensures wide { IsTrue (space_of S.state self.old).told → entry < ((tables_of S.state self.old).table File).count
             → IfOk result (λ fields. fields.wide ≡ (tables_of S.state self.old).wide entry) }
-        ensures cause { HasCause (space_of S.state self.old) File self.old.files
+        ensures cause { HasCause (space_of S.state self.old) File (place_of self.old File)
             (used_entries ((tables_of S.state self.old).table File) entry) (λ _ _. ⊥) result }
         ensures reads { ReadsEntries S.state S.keeps S.lands self.old self.new (bad_of result) }
     {
