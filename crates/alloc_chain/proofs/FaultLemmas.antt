@@ -1,0 +1,37 @@
+-- Faults of one call as faults of another.
+use Rattle.std.proofs.Common.{ℕ, IsTrue, Option, Some, None, sym, subst}
+use Rattle.save_bytes.specs.declared.space.Bad.{Bad}
+use Rattle.save_bytes.specs.declared.space.Bad.TheVariants.{Disk, Damaged}
+use Rattle.save_bytes.specs.Cells.{Cell}
+use Rattle.save_bytes.specs.State.{State, Shape}
+use Rattle.save_bytes.specs.Refusals.{IfDamaged}
+use Rattle.save_bytes.specs.Stays.{Stays}
+use Rattle.alloc_chain.specs.declared.info.ChainInfo.{ChainInfo}
+use Rattle.alloc_chain.specs.declared.fault.ChainFault.{ChainFault}
+use Rattle.alloc_chain.specs.declared.fault.ChainFault.TheVariants.{Broken, Short}
+use Rattle.alloc_chain.specs.declared.fault.ChainFault.TheVariants.{Bad as Refused}
+use Rattle.alloc_chain.specs.Table.{HasFault, HasTable}
+use Rattle.alloc_chain.specs.Faults.{IfBroken, refusal_of, FaultsOnly}
+use Rattle.alloc_chain.proofs.TableLemmas.{table_stays}
+
+pub IfDamaged-map : (refusal : Option Bad) {P Q : ℕ → ℕ → ℕ → Type 0} → ((part level block : ℕ) → P part level block → Q part level block) → IfDamaged refusal P → IfDamaged refusal Q
+IfDamaged-map None f h = tt
+IfDamaged-map (Some Disk) f h = tt
+IfDamaged-map (Some (Damaged part level block)) f h = f part level block h
+
+pub IfBroken-map : (fault : Option ChainFault) {P Q : ℕ → Type 0} → ((entry : ℕ) → P entry → Q entry) → IfBroken fault P → IfBroken fault Q
+IfBroken-map None f h = tt
+IfBroken-map (Some (Refused bad)) f h = tt
+IfBroken-map (Some (Broken entry)) f h = f entry h
+IfBroken-map (Some (Short need have)) f h = tt
+
+-- the same fault after calls that changed no cell, with weaker facts of the entry
+pub FaultsOnly-later : (s t : State) (info : ChainInfo) {B N B' N' : ℕ → Type 0} (fault : Option ChainFault) → HasTable s.shape info → Stays s t None → (IsTrue s.told → (entry : ℕ) → B entry → B' entry) → (IsTrue s.told → (entry : ℕ) → N entry → N' entry) → FaultsOnly t info B N fault → FaultsOnly s info B' N' fault
+FaultsOnly-later s t info fault table stays f g h = record {
+  broken = λ told. IfBroken-map fault (f told) (h.broken (subst IsTrue (sym stays.space.told) told));
+  damaged = λ told. IfDamaged-map (refusal_of fault)
+      (λ part level block (entry, needed, has). (entry, g told entry needed, subst (λ (cells : ℕ → ℕ → Cell). HasFault cells entry part level block) (table_stays s t info table stays told) has))
+      (h.damaged (subst IsTrue (sym stays.space.told) told));
+  plain = λ plain. h.plain (subst (λ (shape : Shape). IsTrue shape.plain) (sym stays.space.shape) plain);
+  never_short = h.never_short;
+}

@@ -1,0 +1,123 @@
+//! Chains of blocks in a space.
+
+ghost use Rattle.std.specs.Prelude.{◌≡◌, ℕ, ◌+◌, ◌<◌, ◌≤◌, IsTrue, List, length, IfOk};
+ghost use Rattle.std.specs.Result.{result_err};
+ghost use Rattle.save_bytes.specs.Reads.{Reads};
+ghost use Rattle.alloc_chain.specs.declared.node.Lead.TheVariants.{Opens, OpensFree};
+ghost use Rattle.alloc_chain.specs.Table.{index_of, word_v, HasTable, IsEntry};
+ghost use Rattle.alloc_chain.specs.Chains.{IsChain, IsFreeList};
+ghost use Rattle.alloc_chain.specs.Faults.{FailsAt, IsBroken, IsFreeBroken, IsFreeNeeded, refusal_of, FaultsOnly};
+ghost use Rattle.alloc_chain.specs.Runs.{IsPlaceIn, HasLength, IsAtEnd, HasPosition, DoneUnlessDisk, IsRunIn, IsRestOfNode};
+ghost use Rattle.alloc_chain.specs.Held.{below, table_of, IsChainOver, SameChain};
+
+use crate::fault::ChainFault;
+use crate::info::{ChainInfo, Run};
+use crate::lists::{chain_len, chain_run, free_len, next_run};
+use crate::walk::Cursor;
+use save_bytes::Space;
+
+/// The chains of an allocation table in a space.
+#[derive(Drop)]
+pub struct Chain<'a, S: Space> {
+    base: &'a mut S,
+    info: ChainInfo,
+}
+
+impl<'a, S: Space> Chain<'a, S> {
+    /// The chains of the table that `info` tells of.
+    pub fn new(base: &'a mut S, info: ChainInfo) -> Chain<'a, S>
+        requires { HasTable (S.state base.old).shape info }
+        ensures { IsChainOver result base.entry info }
+    {
+        Chain { base, info }
+    }
+
+    /// How many blocks are free.
+    pub fn free_count(&mut self) -> Result<u32, ChainFault>
+        requires { HasTable (below S.state self.old).shape self.old.info }
+        ensures length { let table = table_of S.state self.old in IsTrue (below S.state self.old).told
+            → IfOk result (HasLength table self.old.info.count OpensFree (index_of (word_v table 0))) }
+        ensures small { IfOk result (λ n. n ≤ self.old.info.count) }
+        ensures exact { IsTrue (below S.state self.old).told → (list : List ℕ)
+            → IsFreeList (below S.state self.old) self.old.info list → DoneUnlessDisk result (λ n. n ≡ length list) }
+        ensures faults { let table = table_of S.state self.old in
+            FaultsOnly (below S.state self.old) self.old.info (IsFreeBroken table self.old.info.count)
+            (IsFreeNeeded table self.old.info.count) (result_err result) }
+        ensures reads { Reads S.state S.keeps S.lands self.old.base.now self.new.base.now (refusal_of (result_err result)) }
+        ensures same { SameChain self.old self.new }
+    {
+        let base = &mut *self.base;
+        free_len(base, self.info)
+    }
+
+    /// How many blocks the chain has that begins with entry `first`.
+    pub fn length(&mut self, first: u32) -> Result<u32, ChainFault>
+        requires table { HasTable (below S.state self.old).shape self.old.info }
+        requires first { IsTrue (below S.state self.old).told → IsEntry self.old.info.count first }
+        ensures length { IsTrue (below S.state self.old).told
+            → IfOk result (HasLength (table_of S.state self.old) self.old.info.count Opens first) }
+        ensures small { IfOk result (λ n. n ≤ self.old.info.count) }
+        ensures exact { IsTrue (below S.state self.old).told → (list : List ℕ)
+            → IsChain (below S.state self.old) self.old.info first list → DoneUnlessDisk result (λ n. n ≡ length list) }
+        ensures faults { let table = table_of S.state self.old in
+            FaultsOnly (below S.state self.old) self.old.info (IsBroken table self.old.info.count Opens first)
+            (FailsAt table self.old.info.count Opens first) (result_err result) }
+        ensures reads { Reads S.state S.keeps S.lands self.old.base.now self.new.base.now (refusal_of (result_err result)) }
+        ensures same { SameChain self.old self.new }
+    {
+        let base = &mut *self.base;
+        chain_len(base, self.info, first)
+    }
+
+    /// The data blocks from block number `pos` of the chain on that lie side by side in one node: the rest of the node
+    /// that has the block. The chain begins with entry `first`, and has more than `pos` blocks.
+    pub fn run_at(&mut self, first: u32, pos: u32) -> Result<Run, ChainFault>
+        requires table { HasTable (below S.state self.old).shape self.old.info }
+        requires first { IsTrue (below S.state self.old).told → IsEntry self.old.info.count first }
+        requires pos { IsTrue (below S.state self.old).told
+            → HasPosition (table_of S.state self.old) self.old.info.count Opens first pos }
+        ensures some { IfOk result (λ run. 1 ≤ run.len) }
+        ensures inside { IfOk result (λ run. run.block + run.len ≤ self.old.info.count) }
+        ensures run { IsTrue (below S.state self.old).told
+            → IfOk result (IsRestOfNode (table_of S.state self.old) self.old.info.count Opens first pos) }
+        ensures exact { IsTrue (below S.state self.old).told → (list : List ℕ)
+            → IsChain (below S.state self.old) self.old.info first list → DoneUnlessDisk result (IsRunIn list pos) }
+        ensures faults { let table = table_of S.state self.old in
+            FaultsOnly (below S.state self.old) self.old.info (IsBroken table self.old.info.count Opens first)
+            (FailsAt table self.old.info.count Opens first) (result_err result) }
+        ensures reads { Reads S.state S.keeps S.lands self.old.base.now self.new.base.now (refusal_of (result_err result)) }
+        ensures same { SameChain self.old self.new }
+    {
+        let base = &mut *self.base;
+        chain_run(base, self.info, first, pos)
+    }
+
+    /// The run behind a place of a chain, which is a whole node, and the place behind that run. To go over a chain by
+    /// places reads each of its nodes once.
+    pub fn run_behind(&mut self, cursor: Cursor) -> Result<(Run, Cursor), ChainFault>
+        requires table { HasTable (below S.state self.old).shape self.old.info }
+        requires not_at_end { ¬ IsAtEnd cursor }
+        requires place { IsTrue (below S.state self.old).told
+            → IsPlaceIn (table_of S.state self.old) self.old.info.count cursor }
+        ensures some { IfOk result (λ step. 1 ≤ step.0.len) }
+        ensures inside { IfOk result (λ step. step.0.block + step.0.len ≤ self.old.info.count) }
+        ensures first { IfOk result (λ step. step.1.first ≡ cursor.first) }
+        ensures passed { IfOk result (λ step. step.1.passed ≡ cursor.passed + step.0.len) }
+        ensures bounded { IfOk result (λ step. step.1.passed ≤ self.old.info.count) }
+        ensures place { IsTrue (below S.state self.old).told
+            → IfOk result (λ step. IsPlaceIn (table_of S.state self.old) self.old.info.count step.1) }
+        ensures run { let table = table_of S.state self.old in IsTrue (below S.state self.old).told
+            → IfOk result (λ step. IsRestOfNode table self.old.info.count Opens cursor.first cursor.passed step.0) }
+        ensures exact { IsTrue (below S.state self.old).told → (list : List ℕ)
+            → IsChain (below S.state self.old) self.old.info cursor.first list
+            → DoneUnlessDisk result (λ step. IsRunIn list cursor.passed step.0) }
+        ensures faults { let table = table_of S.state self.old in
+            FaultsOnly (below S.state self.old) self.old.info (IsBroken table self.old.info.count Opens cursor.first)
+            (FailsAt table self.old.info.count Opens cursor.first) (result_err result) }
+        ensures reads { Reads S.state S.keeps S.lands self.old.base.now self.new.base.now (refusal_of (result_err result)) }
+        ensures same { SameChain self.old self.new }
+    {
+        let base = &mut *self.base;
+        next_run(base, self.info, cursor)
+    }
+}

@@ -1,0 +1,15 @@
+//! Chains of data blocks: an allocation table links runs of them, in both directions.
+#![tactic(auto)]
+
+mod chain;
+mod fault;
+mod info;
+mod lists;
+mod node;
+mod shared;
+mod walk;
+
+pub use chain::Chain;
+pub use fault::ChainFault;
+pub use info::{ChainInfo, Run};
+pub use walk::Cursor;

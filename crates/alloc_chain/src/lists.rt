@@ -1,0 +1,142 @@
+//! Chains and the free list, as lists of entries.
+
+ghost use Rattle.std.specs.Prelude.{◌≡◌, ℕ, ◌+◌, ◌<◌, ◌≤◌, IsTrue, List, length, IfOk};
+ghost use Rattle.std.specs.Result.{result_err};
+ghost use Rattle.save_bytes.specs.Reads.{Reads};
+ghost use Rattle.alloc_chain.specs.declared.node.Lead.TheVariants.{Opens, OpensFree};
+ghost use Rattle.alloc_chain.specs.Table.{table_in, index_of, word_v, HasWords, HasFault, HasTable, IsEntry};
+ghost use Rattle.alloc_chain.specs.Chains.{IsChain, IsFreeList};
+ghost use Rattle.alloc_chain.specs.Faults.{FailsAt, IsBroken, IsFreeBroken, IsFreeNeeded, refusal_of, FaultsOnly};
+ghost use Rattle.alloc_chain.specs.Runs.{IsPlaceIn, IsAtEnd, HasLength, HasPosition, DoneUnlessDisk, IsRunIn, IsRestOfNode};
+
+use crate::fault::ChainFault;
+use crate::info::{ChainInfo, Run};
+use crate::node::{FLAG, Lead, read_entry};
+use crate::walk::{Cursor, advance, find_run, list_len};
+use save_bytes::Space;
+
+// The first entry of the free list, or 0.
+fn free_first<S: Space>(base: &mut S, info: ChainInfo) -> Result<u32, ChainFault>
+    requires { HasTable (S.state base.old).shape info }
+    ensures first { let table = table_in (S.state base.old).cells info in IsTrue (S.state base.old).told
+        → IfOk result (λ first. HasWords table 0 × (first ≡ index_of (word_v table 0))) }
+    ensures small { IfOk result (λ first. first ≤ info.count) }
+    ensures faults { let table = table_in (S.state base.old).cells info in
+        FaultsOnly (S.state base.old) info (IsFreeBroken table info.count) (IsFreeNeeded table info.count) (result_err result) }
+    ensures reads { Reads S.state S.keeps S.lands base.old base.new (refusal_of (result_err result)) }
+{
+    let root = match read_entry(base, info, 0) {
+        Ok(root) => root,
+        Err(bad) => return Err(ChainFault::Bad(bad)),
+    };
+    let first = root.v % FLAG;
+    if first > info.count {
+        return Err(ChainFault::Broken { entry: 0 });
+    }
+    Ok(first)
+}
+
+/// How many blocks are free.
+pub(crate) fn free_len<S: Space>(base: &mut S, info: ChainInfo) -> Result<u32, ChainFault>
+    requires { HasTable (S.state base.old).shape info }
+    ensures length { let table = table_in (S.state base.old).cells info in IsTrue (S.state base.old).told
+        → IfOk result (HasLength table info.count OpensFree (index_of (word_v table 0))) }
+    ensures small { IfOk result (λ n. n ≤ info.count) }
+    ensures exact { IsTrue (S.state base.old).told → (list : List ℕ)
+        → IsFreeList (S.state base.old) info list → DoneUnlessDisk result (λ n. n ≡ length list) }
+    ensures faults { let table = table_in (S.state base.old).cells info in
+        FaultsOnly (S.state base.old) info (IsFreeBroken table info.count) (IsFreeNeeded table info.count) (result_err result) }
+    ensures reads { Reads S.state S.keeps S.lands base.old base.new (refusal_of (result_err result)) }
+{
+    let first = match free_first(base, info) {
+        Ok(first) => first,
+        Err(fault) => return Err(fault),
+    };
+    list_len(base, info, Lead::OpensFree, first)
+}
+
+/// How many blocks the chain has that begins with an entry.
+pub(crate) fn chain_len<S: Space>(
+    base: &mut S,
+    info: ChainInfo,
+    first: u32,
+) -> Result<u32, ChainFault>
+    requires table { HasTable (S.state base.old).shape info }
+    requires first { IsTrue (S.state base.old).told → IsEntry info.count first }
+    ensures length { IsTrue (S.state base.old).told
+        → IfOk result (HasLength (table_in (S.state base.old).cells info) info.count Opens first) }
+    ensures small { IfOk result (λ n. n ≤ info.count) }
+    ensures exact { IsTrue (S.state base.old).told → (list : List ℕ)
+        → IsChain (S.state base.old) info first list → DoneUnlessDisk result (λ n. n ≡ length list) }
+    ensures faults { let table = table_in (S.state base.old).cells info in
+        FaultsOnly (S.state base.old) info (IsBroken table info.count Opens first) (FailsAt table info.count Opens first)
+        (result_err result) }
+    ensures reads { Reads S.state S.keeps S.lands base.old base.new (refusal_of (result_err result)) }
+{
+    if first > info.count {
+        return Err(ChainFault::Broken { entry: first });
+    }
+    list_len(base, info, Lead::Opens, first)
+}
+
+/// The rest of the node that has a chain's block number `pos`.
+pub(crate) fn chain_run<S: Space>(
+    base: &mut S,
+    info: ChainInfo,
+    first: u32,
+    pos: u32,
+) -> Result<Run, ChainFault>
+    requires table { HasTable (S.state base.old).shape info }
+    requires first { IsTrue (S.state base.old).told → IsEntry info.count first }
+    requires pos { IsTrue (S.state base.old).told
+        → HasPosition (table_in (S.state base.old).cells info) info.count Opens first pos }
+    ensures some { IfOk result (λ run. 1 ≤ run.len) }
+    ensures inside { IfOk result (λ run. run.block + run.len ≤ info.count) }
+    ensures run { IsTrue (S.state base.old).told
+        → IfOk result (IsRestOfNode (table_in (S.state base.old).cells info) info.count Opens first pos) }
+    ensures exact { IsTrue (S.state base.old).told → (list : List ℕ)
+        → IsChain (S.state base.old) info first list → DoneUnlessDisk result (IsRunIn list pos) }
+    ensures faults { let table = table_in (S.state base.old).cells info in
+        FaultsOnly (S.state base.old) info (IsBroken table info.count Opens first) (FailsAt table info.count Opens first)
+        (result_err result) }
+    ensures reads { Reads S.state S.keeps S.lands base.old base.new (refusal_of (result_err result)) }
+{
+    if first > info.count {
+        return Err(ChainFault::Broken { entry: first });
+    }
+    find_run(base, info, Lead::Opens, first, pos)
+}
+
+/// The run behind a place of a chain, and the place behind that run.
+pub(crate) fn next_run<S: Space>(
+    base: &mut S,
+    info: ChainInfo,
+    cursor: Cursor,
+) -> Result<(Run, Cursor), ChainFault>
+    requires table { HasTable (S.state base.old).shape info }
+    requires not_at_end { ¬ IsAtEnd cursor }
+    requires place { IsTrue (S.state base.old).told → IsPlaceIn (table_in (S.state base.old).cells info) info.count cursor }
+    ensures some { IfOk result (λ step. 1 ≤ step.0.len) }
+    ensures inside { IfOk result (λ step. step.0.block + step.0.len ≤ info.count) }
+    ensures first { IfOk result (λ step. step.1.first ≡ cursor.first) }
+    ensures passed { IfOk result (λ step. step.1.passed ≡ cursor.passed + step.0.len) }
+    ensures bounded { IfOk result (λ step. step.1.passed ≤ info.count) }
+    ensures place { IsTrue (S.state base.old).told
+        → IfOk result (λ step. IsPlaceIn (table_in (S.state base.old).cells info) info.count step.1) }
+    ensures run { let table = table_in (S.state base.old).cells info in IsTrue (S.state base.old).told
+        → IfOk result (λ step. IsRestOfNode table info.count Opens cursor.first cursor.passed step.0) }
+    ensures exact { IsTrue (S.state base.old).told → (list : List ℕ)
+        → IsChain (S.state base.old) info cursor.first list → DoneUnlessDisk result (λ step. IsRunIn list cursor.passed step.0) }
+    ensures faults { let table = table_in (S.state base.old).cells info in
+        FaultsOnly (S.state base.old) info (IsBroken table info.count Opens cursor.first)
+        (FailsAt table info.count Opens cursor.first) (result_err result) }
+    ensures reads { Reads S.state S.keeps S.lands base.old base.new (refusal_of (result_err result)) }
+{
+    let count = info.count;
+    if cursor.first > count || cursor.next > count || cursor.passed > u64::from(count) {
+        return Err(ChainFault::Broken {
+            entry: cursor.first,
+        });
+    }
+    advance(base, info, Lead::Opens, cursor)
+}

@@ -1,0 +1,203 @@
+//! Going over the nodes of a list.
+
+ghost use Rattle.std.specs.Prelude.{◌≡◌, ℕ, ◌+◌, ◌-◌, ◌^◌, ◌<◌, ◌≤◌, ◌↔◌, IsTrue, IfOk};
+ghost use Rattle.std.specs.Result.{result_err};
+ghost use Rattle.save_bytes.specs.Cells.{Cell};
+ghost use Rattle.save_bytes.specs.Reads.{Reads};
+ghost use Rattle.alloc_chain.specs.declared.node.Lead.TheVariants.{Opens, Follows};
+ghost use Rattle.alloc_chain.specs.Table.{table_in, HasTable, IsEntry};
+ghost use Rattle.alloc_chain.specs.Faults.{FailsAt, IsBroken, refusal_of, FaultsOnly};
+ghost use Rattle.alloc_chain.specs.Runs.{IsReached, IsPlaceIn, IsAtEnd, HasLength, HasPosition, IsRestOfNode};
+
+use crate::fault::ChainFault;
+use crate::info::{ChainInfo, Run};
+use crate::node::{Lead, Link, Node, read_node};
+use crate::shared::shared_fault;
+use save_bytes::Space;
+
+/// A place between two nodes of a list.
+#[derive(Clone, Copy, Debug, PartialEq, Eq)]
+pub struct Cursor {
+    /// The first entry of the list.
+    pub(crate) first: u32,
+    /// How the node behind the cursor begins.
+    pub(crate) lead: Lead,
+    /// The first entry of the node behind the cursor: 0 for none.
+    pub(crate) next: u32,
+    /// How many blocks lie before the cursor.
+    pub(crate) passed: u64,
+}
+
+// How many entries a node has.
+fn node_len(node: Node) -> u32
+    requires ordered { node.first ≤ node.last }
+    requires some { 1 ≤ node.first }
+    ensures { result ≡ node.last + 1 - node.first }
+{
+    node.last - node.first + 1
+}
+
+impl Cursor {
+    /// The place before the first block of the chain that begins with entry `first`.
+    pub fn of_chain(first: u32) -> Cursor
+        ensures place { (table : ℕ → ℕ → Cell) (count : ℕ) → IsEntry count first → IsPlaceIn table count result }
+        ensures first { result.first ≡ first }
+        ensures passed { result.passed ≡ 0 }
+    {
+        Cursor::start(Lead::Opens, first)
+    }
+
+    /// How many blocks lie before it.
+    pub fn passed(&self) -> u64
+        ensures { result ≡ self.now.passed }
+    {
+        self.passed
+    }
+
+    /// Whether no block lies behind it.
+    pub fn is_at_end(&self) -> bool
+        ensures { IsTrue result ↔ IsAtEnd self.now }
+    {
+        self.next == 0
+    }
+
+    // Before the first node.
+    pub(crate) fn start(lead: Lead, first: u32) -> Cursor
+        ensures first { result.first ≡ first }
+        ensures lead { result.lead ≡ lead }
+        ensures next { result.next ≡ first }
+        ensures passed { result.passed ≡ 0 }
+    {
+        Cursor {
+            first,
+            lead,
+            next: first,
+            passed: 0,
+        }
+    }
+
+    // Behind the node that begins at the cursor.
+    pub(crate) fn behind(self, link: Link) -> Cursor
+        requires ordered { link.node.first ≤ link.node.last }
+        requires some { 1 ≤ link.node.first }
+        requires room { self.passed + 2 ^ 32 < 2 ^ 64 }
+        ensures first { result.first ≡ self.first }
+        ensures lead { result.lead ≡ Follows link.node.first }
+        ensures next { result.next ≡ link.next }
+        ensures passed { result.passed ≡ self.passed + (link.node.last + 1 - link.node.first) }
+    {
+        Cursor {
+            first: self.first,
+            lead: Lead::Follows(link.node.first),
+            next: link.next,
+            passed: self.passed + u64::from(node_len(link.node)),
+        }
+    }
+}
+
+/// The run behind a cursor, which is a whole node, and the place behind that run.
+pub(crate) fn advance<S: Space>(
+    base: &mut S,
+    info: ChainInfo,
+    lead: Lead,
+    cursor: Cursor,
+) -> Result<(Run, Cursor), ChainFault>
+    requires table { HasTable (S.state base.old).shape info }
+    requires next { IsEntry info.count cursor.next }
+    requires first { cursor.first ≤ info.count }
+    requires passed { cursor.passed ≤ info.count }
+    requires reached { IsTrue (S.state base.old).told
+        → IsReached (table_in (S.state base.old).cells info) info.count lead cursor.first cursor }
+    ensures some { IfOk result (λ step. 1 ≤ step.0.len) }
+    ensures inside { IfOk result (λ step. step.0.block + step.0.len ≤ info.count) }
+    ensures first { IfOk result (λ step. step.1.first ≡ cursor.first) }
+    ensures next { IfOk result (λ step. step.1.next ≤ info.count) }
+    ensures passed { IfOk result (λ step. step.1.passed ≡ cursor.passed + step.0.len) }
+    ensures bounded { IfOk result (λ step. step.1.passed ≤ info.count) }
+    ensures reached { let table = table_in (S.state base.old).cells info in IsTrue (S.state base.old).told
+        → IfOk result (λ step. IsReached table info.count lead cursor.first step.1) }
+    ensures run { let table = table_in (S.state base.old).cells info in IsTrue (S.state base.old).told
+        → IfOk result (λ step. IsRestOfNode table info.count lead cursor.first cursor.passed step.0) }
+    ensures faults { let table = table_in (S.state base.old).cells info in
+        FaultsOnly (S.state base.old) info (IsBroken table info.count lead cursor.first)
+        (FailsAt table info.count lead cursor.first) (result_err result) }
+    ensures reads { Reads S.state S.keeps S.lands base.old base.new (refusal_of (result_err result)) }
+{
+    let link = match read_node(base, info, cursor.lead, cursor.next) {
+        Ok(link) => link,
+        Err(fault) => return Err(fault),
+    };
+    let behind = cursor.behind(link);
+    if behind.passed > u64::from(info.count) {
+        return Err(shared_fault(base, info, lead, cursor.first, behind));
+    }
+    let block = link.node.first - 1;
+    let len = node_len(link.node);
+    Ok((Run { block, len }, behind))
+}
+
+/// How many blocks the list from `first` on has: none where `first` is 0.
+pub(crate) fn list_len<S: Space>(
+    base: &mut S,
+    info: ChainInfo,
+    lead: Lead,
+    first: u32,
+) -> Result<u32, ChainFault>
+    requires table { HasTable (S.state base.old).shape info }
+    requires first { first ≤ info.count }
+    ensures length { IsTrue (S.state base.old).told
+        → IfOk result (HasLength (table_in (S.state base.old).cells info) info.count lead first) }
+    ensures small { IfOk result (λ n. n ≤ info.count) }
+    ensures faults { let table = table_in (S.state base.old).cells info in
+        FaultsOnly (S.state base.old) info (IsBroken table info.count lead first) (FailsAt table info.count lead first)
+        (result_err result) }
+    ensures reads { Reads S.state S.keeps S.lands base.old base.new (refusal_of (result_err result)) }
+{
+    let mut cursor = Cursor::start(lead, first);
+    while cursor.next != 0 {
+        cursor = match advance(base, info, lead, cursor) {
+            Ok((_, behind)) => behind,
+            Err(fault) => return Err(fault),
+        };
+    }
+    Ok(cursor.passed as u32)
+}
+
+/// The rest of the node that has the block at a position of the list from `first` on.
+pub(crate) fn find_run<S: Space>(
+    base: &mut S,
+    info: ChainInfo,
+    lead: Lead,
+    first: u32,
+    pos: u32,
+) -> Result<Run, ChainFault>
+    requires table { HasTable (S.state base.old).shape info }
+    requires first { first ≤ info.count }
+    requires pos { IsTrue (S.state base.old).told
+        → HasPosition (table_in (S.state base.old).cells info) info.count lead first pos }
+    ensures some { IfOk result (λ run. 1 ≤ run.len) }
+    ensures inside { IfOk result (λ run. run.block + run.len ≤ info.count) }
+    ensures run { IsTrue (S.state base.old).told
+        → IfOk result (IsRestOfNode (table_in (S.state base.old).cells info) info.count lead first pos) }
+    ensures faults { let table = table_in (S.state base.old).cells info in
+        FaultsOnly (S.state base.old) info (IsBroken table info.count lead first) (FailsAt table info.count lead first)
+        (result_err result) }
+    ensures reads { Reads S.state S.keeps S.lands base.old base.new (refusal_of (result_err result)) }
+{
+    let mut cursor = Cursor::start(lead, first);
+    while cursor.next != 0 {
+        let (run, behind) = match advance(base, info, lead, cursor) {
+            Ok(step) => step,
+            Err(fault) => return Err(fault),
+        };
+        if u64::from(pos) < behind.passed {
+            let skipped = pos - cursor.passed as u32;
+            return Ok(Run {
+                block: run.block + skipped,
+                len: run.len - skipped,
+            });
+        }
+        cursor = behind;
+    }
+    Err(ChainFault::Broken { entry: first })
+}
