@@ -1,5 +1,6 @@
 pub mod ReadLemmas
 pub mod SectorLemmas
+pub mod SameLemmas
 pub mod PieceLemmas
 pub mod PutLemmas
 pub mod WriteLemmas

@@ -3,7 +3,7 @@
 ghost use Rattle.std.specs.Prelude.{refl, ◌≡◌, ℕ, true, IsTrue, OnOk, OnErr};
 ghost use Rattle.save_bytes.specs.Cells.{AreBytesAt};
 ghost use Rattle.save_bytes.specs.Stays.{SameCells};
-ghost use Rattle.save_bytes.specs.Spots.{Spot};
+ghost use Rattle.save_bytes.specs.Spots.{Spot, Frame};
 ghost use Rattle.save_disk.specs.Trace.{Sync};
 ghost use Rattle.save_disk.specs.State.{GoesOn, Happens, IsQuiet, IsSteady, HasCause};
 ghost use Rattle.save_disk.specs.Writes.{GrewBy};
@@ -52,7 +52,8 @@ impl<D: Disk> Image<'_, D> {
     /// Where the disk fails. Some of the sectors may then be written.
     pub fn flush(&mut self) -> Result<(), Failed>
         requires { IsTrue (shown D.state self.old).shape.sound }
-        ensures keeps { (spot : Spot) → ImageKeeps D.state spot self.old self.new }
+        ensures frame { ImageKeeps D.state Frame self.old self.new }
+        ensures spots { (spot : Spot) → ImageKeeps D.state spot self.old self.new }
         ensures cells { SameCells (shown D.state self.old) (shown D.state self.new) }
         ensures clean { OnOk result (IsClean self.new.image.now) }
         ensures written { OnOk result (GoesOn (GrewBy (WritesEach self.old.image.now (λ sector. true))) (D.state self.old.disk.now) (D.state self.new.disk.now)) }

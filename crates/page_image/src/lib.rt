@@ -8,3 +8,6 @@ mod writing;
 
 pub use image::Image;
 pub use state::{ImageFault, ImageState};
+
+#[cfg(test)]
+mod tests;

@@ -29,11 +29,7 @@ pub(crate) fn write_out<D: Disk>(disk: &mut D, image: &mut ImageState) -> Result
 }
 
 // Writes a sector if it is changed; then it is not changed.
-fn write_changed<D: Disk>(
-    disk: &mut D,
-    image: &mut ImageState,
-    sector: usize,
-) -> Result<(), Failed>
+fn write_changed<D: Disk>(disk: &mut D, image: &mut ImageState, sector: usize) -> Result<(), Failed>
     requires disk_of { IsDiskOf (D.state disk.old) image.old }
     requires inside { sector < length image.old.changed.items }
     ensures leaves { (spot : Spot) → Leaves spot (D.state disk.old) image.old (D.state disk.new) image.new }

@@ -1,0 +1,308 @@
+ghost use Rattle.std.specs.Prelude.{◌≡◌, ℕ, ◌+◌, ◌<◌, ◌≤◌, length, slice_index, vec_len, IsTrue, IfOk};
+ghost use Rattle.std.specs.Result.{result_err};
+ghost use Rattle.save_bytes.specs.Cells.{Byte};
+ghost use Rattle.save_bytes.specs.State.{IsInside, IsWritable};
+ghost use Rattle.save_bytes.specs.Stays.{Stays};
+ghost use Rattle.save_bytes.specs.Spots.{Spot, Frame, Misses, Unmoved};
+ghost use Rattle.save_disk.specs.MemDesks.{state_of};
+ghost use Rattle.page_image.specs.Images.{IsDiskOf};
+
+use super::*;
+use save_bytes::{Bad, Space};
+use save_disk::{Call, Failed, MemDesk};
+use std::alloc::{AllocError, Global};
+use std::test::Fail;
+
+/// A desk with such a length of bytes, each unlike its neighbours.
+fn desk_with(alloc: Global, len: usize, is_wide: bool) -> Result<MemDesk, AllocError>
+    requires { len ≤ 20000 }
+    ensures { IfOk result (λ desk. (state_of desk).size ≡ len) }
+{
+    let mut bytes = vec![in alloc; 0u8; len]?;
+    number(&mut bytes);
+    if is_wide {
+        MemDesk::wide(alloc, &bytes, &[])
+    } else {
+        MemDesk::new(alloc, &bytes, &[])
+    }
+}
+
+/// Byte x is the remainder of x by 251.
+fn number(bytes: &mut [u8]) {
+    for (x, byte) in bytes.iter_mut().enumerate() {
+        *byte = (x % 251) as u8;
+    }
+}
+
+/// How many of the first 64 calls are of a kind.
+fn count(desk: &MemDesk, kind: Call) -> usize {
+    let mut n: usize = 0;
+    for i in 0..64usize {
+        if desk.call(i) == Some(kind) {
+            n = n.saturating_add(1);
+        }
+    }
+    n
+}
+
+/// What a piece of a new image is: how long, its first byte and its last.
+fn piece_of(alloc: Global, is_wide: bool, at: u64, most: usize) -> Result<(usize, u8, u8), Fail>
+    requires inside { at < 1300 }
+    requires some { 1 ≤ most }
+{
+    let mut desk = desk_with(alloc, 1300, is_wide)?;
+    let mut state = ImageState::open(alloc, &mut desk, 1300)?;
+    let mut image = state.view(&mut desk);
+    let piece = image.piece(at, most)?;
+    Ok((piece.len(), piece[0], piece[piece.len() - 1]))
+}
+
+#[test]
+fn pieces_are_lent_from_any_place(rt: HostRuntime) -> Result<(), Fail> {
+    for is_wide in [false, true] {
+        for (at, most, want) in [
+            (0u64, 1usize, (1usize, 0u8, 0u8)),
+            (0, 2000, (1300, 0, 44)),
+            (511, 3, (3, 9, 11)),
+            (1024, 300, (276, 20, 44)),
+            (1299, 5, (1, 44, 44)),
+        ] {
+            assert!(rt; at < 1300 && 1 <= most);
+            assert_eq!(rt; piece_of(rt.alloc(), is_wide, at, most)?, want, "at {at}");
+        }
+    }
+    Ok(())
+}
+
+#[test]
+fn opening_reads_each_sector_once(rt: HostRuntime) -> Result<(), Fail> {
+    for (is_wide, len, reads) in [
+        (false, 1300usize, 3usize),
+        (false, 1536, 3),
+        (false, 512, 1),
+        (true, 512, 1),
+        (true, 4096, 1),
+        (true, 9000, 3),
+    ] {
+        assert!(rt; 512 <= len && len <= 9000);
+        let mut desk = desk_with(rt.alloc(), len, is_wide)?;
+        let mut state = ImageState::open(rt.alloc(), &mut desk, len as u64)?;
+        let image = state.view(&mut desk);
+        assert_eq!(rt; image.len(), len as u64);
+        assert_eq!(rt;
+            (image.header()[0], image.header()[250], image.header()[511]),
+            (0, 250, 9)
+        );
+        assert_eq!(rt; count(&desk, Call::Read), reads);
+        assert_eq!(rt; count(&desk, Call::Write), 0);
+    }
+    Ok(())
+}
+
+/// The byte at a place after a put of two bytes there, and the disk's byte at it before and after a flush.
+fn put_and_flush(alloc: Global, is_wide: bool, at: u64) -> Result<(u8, u8, u8), Fail>
+    requires first { 512 ≤ at }
+    requires inside { at + 2 ≤ 1300 }
+{
+    let mut desk = desk_with(alloc, 1300, is_wide)?;
+    let mut state = ImageState::open(alloc, &mut desk, 1300)?;
+    let mut image = state.view(&mut desk);
+    image.ready(at, 2)?;
+    image.put(at, &[255, 254])?;
+    let shown = image.piece(at, 1)?[0];
+    let before = byte_at(desk.image(), at);
+    let mut image = state.view(&mut desk);
+    image.flush()?;
+    image.sync()?;
+    let after = byte_at(desk.image(), at);
+    Ok((shown, before, after))
+}
+
+/// A byte, or 0 past the end.
+fn byte_at(bytes: &[u8], at: u64) -> u8 {
+    bytes.get(at as usize).copied().unwrap_or(0)
+}
+
+#[test]
+fn a_put_comes_to_the_disk_with_a_flush(rt: HostRuntime) -> Result<(), Fail> {
+    for is_wide in [false, true] {
+        for (at, before) in [(512u64, 10u8), (1023, 19), (1298, 43)] {
+            assert!(rt; 512 <= at && at <= 1298);
+            assert_eq!(rt;
+                put_and_flush(rt.alloc(), is_wide, at)?,
+                (255, before, 255),
+                "at {at}"
+            );
+        }
+    }
+    Ok(())
+}
+
+/// Puts bytes.
+fn put(desk: &mut MemDesk, state: &mut ImageState, at: u64, bytes: &[u8])
+    requires disk_of { IsDiskOf (state_of desk.old) state.old }
+    requires first { 512 ≤ at }
+    requires inside { at + length bytes.now ≤ state.old.len }
+    ensures { IsDiskOf (state_of desk.new) state.new }
+{
+    let _ = state.view(desk).put(at, bytes);
+}
+
+/// Writes what is changed.
+fn flush(desk: &mut MemDesk, state: &mut ImageState) -> Result<(), Failed>
+    requires { IsDiskOf (state_of desk.old) state.old }
+    ensures { IsDiskOf (state_of desk.new) state.new }
+{
+    state.view(desk).flush()
+}
+
+/// How many writes a flush makes after a put, and how many all flushes make when another one follows.
+fn writes_after_put(
+    alloc: Global,
+    is_wide: bool,
+    at: u64,
+    bytes: &[u8],
+) -> Result<(usize, usize), Fail>
+    requires first { 512 ≤ at }
+    requires inside { at + length bytes.now ≤ 9000 }
+{
+    let mut desk = desk_with(alloc, 9000, is_wide)?;
+    let mut state = ImageState::open(alloc, &mut desk, 9000)?;
+    put(&mut desk, &mut state, at, bytes);
+    flush(&mut desk, &mut state)?;
+    let first = count(&desk, Call::Write);
+    flush(&mut desk, &mut state)?;
+    Ok((first, count(&desk, Call::Write)))
+}
+
+#[test]
+fn a_flush_writes_each_changed_sector_once(rt: HostRuntime) -> Result<(), Fail> {
+    let long = [7; 5000];
+    for (at, len, narrow, wide) in [
+        (512u64, 1usize, 1usize, 1usize),
+        (512, 0, 0, 0),
+        (1023, 2, 2, 1),
+        (1024, 512, 1, 1),
+        (4000, 5000, 11, 3),
+        (8999, 1, 1, 1),
+        (9000, 0, 0, 0),
+    ] {
+        assert!(rt; 512 <= at && len <= 5000);
+        assert!(rt; at + len as u64 <= 9000);
+        let bytes = &long[..len];
+        assert_eq!(rt;
+            writes_after_put(rt.alloc(), false, at, bytes)?,
+            (narrow, narrow),
+            "at {at}"
+        );
+        assert_eq!(rt;
+            writes_after_put(rt.alloc(), true, at, bytes)?,
+            (wide, wide),
+            "at {at}"
+        );
+    }
+    Ok(())
+}
+
+#[test]
+fn bytes_0_to_511_go_out_as_they_are(rt: HostRuntime) -> Result<(), Fail> {
+    let mut desk = desk_with(rt.alloc(), 1300, true)?;
+    let mut state = ImageState::open(rt.alloc(), &mut desk, 1300)?;
+    put(&mut desk, &mut state, 512, &[255]);
+    flush(&mut desk, &mut state)?;
+    assert_eq!(rt; count(&desk, Call::Write), 1);
+    let bytes = desk.image();
+    assert_eq!(rt; bytes.len(), 1300);
+    assert_eq!(rt;
+        (byte_at(bytes, 0), byte_at(bytes, 250), byte_at(bytes, 511)),
+        (0, 250, 9)
+    );
+    assert_eq!(rt;
+        (
+            byte_at(bytes, 512),
+            byte_at(bytes, 513),
+            byte_at(bytes, 1299)
+        ),
+        (255, 11, 44)
+    );
+    let image = state.view(&mut desk);
+    assert_eq!(rt; (image.header()[0], image.header()[511]), (0, 9));
+    Ok(())
+}
+
+#[test]
+fn opening_fails_where_a_read_fails(rt: HostRuntime) -> Result<(), Fail> {
+    for nth in 1..=3u32 {
+        let mut desk = desk_with(rt.alloc(), 1300, false)?;
+        desk.fail(Call::Read, nth);
+        let fault = ImageState::open(rt.alloc(), &mut desk, 1300).err();
+        assert_eq!(rt; fault, Some(ImageFault::Disk));
+        assert_eq!(rt; count(&desk, Call::Read), nth as usize);
+    }
+    Ok(())
+}
+
+#[test]
+fn a_sector_whose_write_failed_is_written_again(rt: HostRuntime) -> Result<(), Fail> {
+    let mut desk = desk_with(rt.alloc(), 3000, false)?;
+    let mut state = ImageState::open(rt.alloc(), &mut desk, 3000)?;
+    desk.fail(Call::Write, 2);
+    put(&mut desk, &mut state, 1000, &[255; 600]);
+    assert!(rt; flush(&mut desk, &mut state).is_err());
+    assert_eq!(rt; count(&desk, Call::Write), 2);
+    flush(&mut desk, &mut state)?;
+    assert_eq!(rt; count(&desk, Call::Write), 4);
+    let bytes = desk.image();
+    assert_eq!(rt; (byte_at(bytes, 999), byte_at(bytes, 1000)), (246, 255));
+    assert_eq!(rt; (byte_at(bytes, 1599), byte_at(bytes, 1600)), (255, 94));
+    Ok(())
+}
+
+#[test]
+fn a_sync_is_passed_on(rt: HostRuntime) -> Result<(), Fail> {
+    let mut desk = desk_with(rt.alloc(), 600, false)?;
+    let mut state = ImageState::open(rt.alloc(), &mut desk, 600)?;
+    desk.fail(Call::Sync, 1);
+    let mut image = state.view(&mut desk);
+    assert!(rt; image.sync().is_err());
+    image.sync()?;
+    assert_eq!(rt; count(&desk, Call::Sync), 2);
+    Ok(())
+}
+
+fn read_one<S: Space>(space: &mut S, at: u64) -> Result<u8, Bad>
+    requires { IsInside (S.state space.old).shape at 1 }
+    ensures byte { IsTrue (S.state space.old).told → IfOk result (λ byte. (S.state space.old).cells at ≡ Byte byte) }
+    ensures stays { Stays (S.state space.old) (S.state space.new) (result_err result) }
+    ensures unmoved { Unmoved S.keeps S.lands (S.state space.old) space.old space.new (result_err result) }
+{
+    let piece = space.piece(at, 1)?;
+    Ok(piece[0])
+}
+
+// What was put is read again, and no other spot was touched.
+fn put_and_read<S: Space>(space: &mut S, at: u64, bytes: [u8; 1]) -> Result<u8, Bad>
+    requires { IsWritable (S.state space.old) at 1 }
+    ensures read_back { IsTrue (S.state space.old).told → IfOk result (λ byte. byte ≡ slice_index bytes 0) }
+    ensures frame { S.keeps Frame space.old space.new }
+    ensures spots { IsTrue (S.state space.old).told → (spot : Spot)
+        → Misses (S.lands space.old) at 1 spot → S.keeps spot space.old space.new }
+{
+    space.put(at, &bytes)?;
+    read_one(space, at)
+}
+
+#[test]
+fn a_generic_call_acts_on_an_image(rt: HostRuntime) -> Result<(), Fail> {
+    let mut desk = desk_with(rt.alloc(), 5000, true)?;
+    let mut state = ImageState::open(rt.alloc(), &mut desk, 5000)?;
+    let mut image = state.view(&mut desk);
+    assert_eq!(rt; put_and_read(&mut image, 4999, [1])?, 1);
+    image.flush()?;
+    assert_eq!(rt; count(&desk, Call::Write), 1);
+    assert_eq!(rt;
+        (byte_at(desk.image(), 4998), byte_at(desk.image(), 4999)),
+        (229, 1)
+    );
+    Ok(())
+}
