@@ -5,3 +5,4 @@ pub mod PieceLemmas
 pub mod PutLemmas
 pub mod WriteLemmas
 pub mod CountLemmas
+pub mod AllowedLemmas

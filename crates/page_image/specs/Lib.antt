@@ -6,3 +6,4 @@ pub mod Held
 pub mod Laws
 pub mod Puts
 pub mod WriteOuts
+pub mod Allowed

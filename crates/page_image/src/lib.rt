@@ -2,11 +2,13 @@
 #![tactic(auto)]
 
 mod image;
+mod laws;
 mod opening;
 mod state;
 mod writing;
 
 pub use image::Image;
+pub use laws::writes_of_calls;
 pub use state::{ImageFault, ImageState};
 
 #[cfg(test)]

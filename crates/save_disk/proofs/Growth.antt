@@ -1,11 +1,11 @@
 -- How calls that add events add up.
 use Rattle.std.proofs.Common.{◌≡◌, ◌⊎◌, ℕ, Bool, List, [], ◌∷◌, ◌++◌, Option, Some, None, MatchOption, refl, sym, subst, ◌∙◌, ap, append_assoc, ⊎_elim}
 use Rattle.std.specs.Option.{option_map}
-use Rattle.std.proofs.lemmas.List.{append-nil}
-use Rattle.save_disk.specs.Trace.{Event, Write, Told, with_sector, image_after, image_now}
+use Rattle.std.proofs.lemmas.List.{append-nil, append_cancel_left}
+use Rattle.save_disk.specs.Trace.{Event, Write, Sync, Said, Told, with_sector, image_after, image_now}
 use Rattle.save_disk.specs.State.{State, IsQuiet, Happens, GoesOn, WriteFails, then_event}
 use Rattle.save_disk.specs.Tells.{is_sure, tells}
-use Rattle.save_disk.specs.Writes.{GrewBy}
+use Rattle.save_disk.specs.Writes.{OnlyWrites, GrewBy, WritesOnly}
 use Rattle.save_disk.proofs.Events.{image_after-push}
 
 module _ (P Q R : List Event → Type 0) (append : (xs ys : List Event) → P xs → Q ys → R (xs ++ ys)) where
@@ -83,3 +83,35 @@ image_written a b sector bytes grew =
 -- with no event more the image is as it was
 pub image_unchanged : (a b : Told) → GrewBy (λ events. events ≡ []) a b → image_now b ≡ image_now a
 image_unchanged a b grew = rw (grew.grain, grew.start, grew.events, grew.such, append-nil) refl
+
+module _ {T : Type 0} (Q : T → ℕ → List ℕ → Type 0) where
+  -- each of the writes is as each of the relations says
+  OnlyWrites-all : (P : ℕ → List ℕ → Type 0) (events : List Event) → OnlyWrites P events → ((t : T) → OnlyWrites (Q t) events) → OnlyWrites (λ sector bytes. (t : T) → Q t sector bytes) events
+  OnlyWrites-all P [] base each = tt
+  OnlyWrites-all P (Write sector bytes ∷ events) base each = (λ t. (each t).0, OnlyWrites-all P events base.1 (λ t. (each t).1))
+  OnlyWrites-all P (Sync ∷ events) base each = absurd base
+  OnlyWrites-all P (Said bytes ∷ events) base each = absurd base
+
+  grew_all : (P : ℕ → List ℕ → Type 0) (a b : Told) → GrewBy (OnlyWrites P) a b → ((t : T) → GrewBy (OnlyWrites (Q t)) a b) → GrewBy (OnlyWrites (λ sector bytes. (t : T) → Q t sector bytes)) a b
+  grew_all P a b base each = record {
+    start = base.start;
+    grain = base.grain;
+    left = base.left;
+    added = base.added;
+    events = base.events;
+    such = OnlyWrites-all P base.added base.such (λ t. subst (OnlyWrites (Q t)) (append_cancel_left a.events (each t).added base.added (sym (each t).events ∙ base.events)) (each t).such);
+  }
+
+  went_all : (P : ℕ → List ℕ → Type 0) (o p : Option Told) → MatchOption o (p ≡ None) (λ told. (next : Told) × (p ≡ Some next) × GrewBy (OnlyWrites P) told next) → ((t : T) → MatchOption o (p ≡ None) (λ told. (next : Told) × (p ≡ Some next) × GrewBy (OnlyWrites (Q t)) told next)) → MatchOption o (p ≡ None) (λ told. (next : Told) × (p ≡ Some next) × GrewBy (OnlyWrites (λ sector bytes. (t : T) → Q t sector bytes)) told next)
+  went_all P None p base each = base
+  went_all P (Some told) p (next, is, grew) each = (next, is, grew_all P told next grew (λ t.
+      (let mine = each t in
+      let same : mine.0 ≡ next = some_same mine.0 next (sym mine.1 ∙ is) in
+      subst (GrewBy (OnlyWrites (Q t)) told) same mine.2)))
+    where
+      some_same : (x y : Told) → Some x ≡ Some y → x ≡ y
+      some_same x y same = cc
+
+  -- a call whose writes each of the relations allows
+  pub WritesOnly-all : (P : ℕ → List ℕ → Type 0) (one two : State) → WritesOnly P one two → ((t : T) → WritesOnly (Q t) one two) → WritesOnly (λ sector bytes. (t : T) → Q t sector bytes) one two
+  WritesOnly-all P one two base each = went_all P one.told two.told base each

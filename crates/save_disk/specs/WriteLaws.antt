@@ -53,3 +53,14 @@ module _ (Q : ℕ → List ℕ → Type 0) where
 
   pub WritesOnly-join : (one two three : State) → WritesOnly Q one two → WritesOnly Q two three → WritesOnly Q one three
   WritesOnly-join = GoesOn-join (OnlyWrites Q) tt (OnlyWrites-append Q)
+
+module _ (P Q : ℕ → List ℕ → Type 0) (f : (sector : ℕ) (bytes : List ℕ) → P sector bytes → Q sector bytes) where
+  grew_map : (a b : Told) → GrewBy (OnlyWrites P) a b → GrewBy (OnlyWrites Q) a b
+  grew_map a b h = record { start = h.start; grain = h.grain; left = h.left; added = h.added; events = h.events; such = OnlyWrites-map P Q h.added f h.such }
+
+  went_map : (o p : Option Told) → MatchOption o (p ≡ None) (λ told. (next : Told) × (p ≡ Some next) × GrewBy (OnlyWrites P) told next) → MatchOption o (p ≡ None) (λ told. (next : Told) × (p ≡ Some next) × GrewBy (OnlyWrites Q) told next)
+  went_map None p h = h
+  went_map (Some told) p (next, is, grew) = (next, is, grew_map told next grew)
+
+  pub WritesOnly-map : (one two : State) → WritesOnly P one two → WritesOnly Q one two
+  WritesOnly-map one two h = went_map one.told two.told h

@@ -1,0 +1,17 @@
+-- What a call on an image may write to its disk.
+use Rattle.std.specs.Prelude.{◌≡◌, ℕ, ◌+◌, false, List}
+use Rattle.save_bytes.specs.Spots.{Spot, Place, Sector, Misses}
+use Rattle.save_disk.specs.State as disks
+use Rattle.page_image.specs.declared.state.ImageState.{ImageState}
+use Rattle.page_image.specs.Images.{byte_of, is_changed}
+use Rattle.page_image.specs.Spots.{HoldsAt, Leaves, ImageLands}
+
+-- A write in a call that puts n bytes at a place: its sector is changed or has one of the places, and it holds the
+-- image's byte at each other place. A call that reads puts none.
+pub record IsAllowedWrite (image : ImageState) (at n : ℕ) (sector : ℕ) (written : List ℕ) : Type 0 where
+  pub changed : is_changed image sector ≡ false → Misses (ImageLands image.grain) at n (Sector sector) → ⊥
+  pub bytes : (x : ℕ) → Misses (ImageLands image.grain) at n (Place x) → HoldsAt image.grain x (byte_of image x) sector written
+
+-- a call that leaves alone each spot that a put of n bytes at a place misses
+abbrev pub LeavesMissed : ℕ → ℕ → disks.State → ImageState → disks.State → ImageState → Type 0
+LeavesMissed at n disk image disk_new image_new = (spot : Spot) → Misses (ImageLands image.grain) at n spot → Leaves spot disk image disk_new image_new

@@ -1,0 +1,14 @@
+//! What the calls on an image write, as a law over the spots that they leave alone.
+
+ghost use Rattle.std.specs.Prelude.{ℕ};
+ghost use Rattle.save_disk.specs.State.{State};
+ghost use Rattle.save_disk.specs.Writes.{WritesOnly};
+ghost use Rattle.page_image.specs.declared.state.ImageState.{ImageState};
+ghost use Rattle.page_image.specs.Allowed.{IsAllowedWrite, LeavesMissed};
+
+/// A call that leaves alone each spot that a put would miss adds nothing to the trace but writes, each of a sector that
+/// is changed or that the put meets, and with the image's bytes at all places that the put does not meet.
+pub fn writes_of_calls()
+    ensures { (disk disk_new : State) (image image_new : ImageState) (at n : ℕ) → LeavesMissed at n disk image disk_new image_new
+        → WritesOnly (IsAllowedWrite image at n) disk disk_new }
+{}
