@@ -1,7 +1,7 @@
 -- What a call may write, from the spots that it leaves alone.
 use Rattle.std.proofs.Common.{◌≡◌, ◌≢◌, ℕ, false, List, refl}
 use Rattle.std.specs.Bool.{⊤}
-use Rattle.save_bytes.specs.Spots.{Spot, Place, Sector, Frame, Misses}
+use Rattle.save_bytes.specs.Spots.{Place, Sector, Frame, Misses}
 use Rattle.save_disk.specs.State as disks
 use Rattle.save_disk.specs.Writes.{WritesOnly}
 use Rattle.save_disk.specs.WriteLaws.{WritesOnly-map}

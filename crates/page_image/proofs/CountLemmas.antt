@@ -1,13 +1,12 @@
 -- The writes of a sector behind those of the sectors before it.
-use Rattle.std.proofs.Common.{◌≡◌, ◌≢◌, ◌⊎◌, ℕ, zero, suc, ◌+◌, ◌*◌, ◌<◌, ◌≤◌, Bool, true, false, ◌&&◌, eqb, ltb, List, [], ◌∷◌, ◌++◌, length, refl, sym, ◌∙◌, ap, arith, inl, inr, ⊎_elim, add_assoc, zero-add}
+use Rattle.std.proofs.Common.{◌≡◌, ◌≢◌, ℕ, ◌+◌, ◌*◌, ◌<◌, ◌≤◌, Bool, true, false, ◌&&◌, eqb, ltb, List, [], ◌∷◌, ◌++◌, refl, sym, ◌∙◌, ap, arith, ⊎_elim, add_assoc, zero-add}
 use Rattle.std.proofs.lemmas.Bool.{cases_lt, cases_eq, lt-ltb, le-ltb, eq-eqb, eqb-true}
-use Rattle.std.proofs.lemmas.List.{get_or_past}
 use Rattle.save_disk.specs.Trace.{Event, Write, Sync, Said}
 use Rattle.save_disk.specs.Writes.{OnlyWrites}
 use Rattle.save_disk.specs.WriteLaws.{OnlyWrites-append, OnlyWrites-map}
 use Rattle.page_image.specs.declared.state.ImageState.{ImageState}
 use Rattle.page_image.specs.Images.{byte_of, is_changed}
-use Rattle.page_image.specs.WriteOuts.{IsSectorOf, IsOwnWrite, one_if, writes_to, WritesEach, WritesSome}
+use Rattle.page_image.specs.WriteOuts.{IsOwnWrite, one_if, writes_to, WritesEach, WritesSome}
 
 pub writes_to-append : (sector : ℕ) (xs ys : List Event) → writes_to sector (xs ++ ys) ≡ writes_to sector xs + writes_to sector ys
 writes_to-append sector [] ys = sym (zero-add (writes_to sector ys))

@@ -1,5 +1,5 @@
 -- What a put does to an image.
-use Rattle.std.proofs.Common.{◌≡◌, ◌≢◌, ◌⊎◌, ℕ, ◌+◌, ◌/◌, ◌<◌, ◌≤◌, Bool, true, false, List, length, get_or, None, refl, sym, ◌∙◌, ap, arith, ⊎_elim}
+use Rattle.std.proofs.Common.{◌≡◌, ◌≢◌, ℕ, ◌+◌, ◌/◌, ◌<◌, ◌≤◌, Bool, true, false, List, length, get_or, None, refl, sym, ◌∙◌, ap, arith, ⊎_elim}
 use Rattle.std.specs.Bool.{⊤}
 use Rattle.std.proofs.lemmas.List.{get_or_past}
 use Rattle.std.proofs.lemmas.Bool.{cases_lt}
@@ -10,14 +10,13 @@ use Rattle.save_bytes.specs.Spots.{Spot, Place, Sector, Frame, Misses, MovesOnly
 use Rattle.save_bytes.specs.Memory.{bytes_state}
 use Rattle.save_bytes.proofs.MemoryLemmas.{bytes_put}
 use Rattle.save_disk.specs.State as disks
-use Rattle.save_disk.specs.Writes.{WritesOnly}
 use Rattle.save_disk.specs.WriteLaws.{WritesOnly-quiet}
 use Rattle.save_disk.proofs.Telling.{steady_start}
 use Rattle.page_image.specs.declared.state.ImageState.{ImageState}
 use Rattle.page_image.specs.declared.image.Image.{Image}
 use Rattle.page_image.specs.Layout.{IsEndOf}
 use Rattle.page_image.specs.Images.{byte_of, is_changed, image_state, Mirrors}
-use Rattle.page_image.specs.Spots.{SameImage, HoldsAt, SameSpot, Leaves, ImageLands}
+use Rattle.page_image.specs.Spots.{SameImage, HoldsAt, Leaves, ImageLands}
 use Rattle.page_image.specs.Held.{shown, SameView, ImageKeeps}
 use Rattle.page_image.specs.Puts.{IsPut}
 use Rattle.page_image.proofs.SectorLemmas.{rising}

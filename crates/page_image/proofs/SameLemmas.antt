@@ -1,10 +1,9 @@
 -- What calls on an image leave of its disk.
-use Rattle.std.proofs.Common.{◌≡◌, ℕ, ◌/◌, ◌<◌, Bool, true, false, ◌&&◌, IsTrue, List, length, get_or, Some, refl, sym, ◌∙◌}
+use Rattle.std.proofs.Common.{◌≡◌, ◌/◌, Bool, true, false, ◌&&◌, IsTrue, refl, sym, ◌∙◌}
 use Rattle.std.proofs.lemmas.Bool.{eqb-true}
-use Rattle.save_disk.specs.Trace.{Told, image_now}
 use Rattle.save_disk.specs.State as disks
 use Rattle.page_image.specs.declared.state.ImageState.{ImageState}
-use Rattle.page_image.specs.Images.{byte_of, IsDiskOf, is_disk_of, Mirrors}
+use Rattle.page_image.specs.Images.{IsDiskOf, is_disk_of, Mirrors, IsStored}
 use Rattle.page_image.specs.Spots.{SameImage}
 use Rattle.page_image.specs.WriteOuts.{IsClean}
 
@@ -22,6 +21,6 @@ sound_disk d i sound =
     let tests = both _ _ sound in
     record { size = eqb-true d.size i.len tests.0; grain = eqb-true d.grain i.grain tests.1 }
 
--- where no sector is changed the disk has each byte
-pub clean_mirrors : (d : disks.State) (i : ImageState) (told : Told) → Mirrors d i → IsClean i → d.told ≡ Some told → (x : ℕ) → x < i.len → get_or (image_now told) x 0 ≡ byte_of i x
-clean_mirrors d i told mirrors clean is x below = mirrors told is x below (clean (x / i.grain))
+-- where no sector is changed each byte is on the disk
+pub clean_stored : (d : disks.State) (i : ImageState) → Mirrors d i → IsClean i → IsStored d i
+clean_stored d i mirrors clean told is x below = mirrors told is x below (clean (x / i.grain))

@@ -1,5 +1,5 @@
 -- What a write of a changed sector leaves.
-use Rattle.std.proofs.Common.{◌≡◌, ◌≢◌, ◌⊎◌, ℕ, ◌+◌, ◌-◌, ◌*◌, ◌/◌, ◌%◌, ◌<◌, ◌≤◌, true, false, List, [], ◌∷◌, ◌++◌, length, get_or, Option, Some, refl, sym, ◌∙◌, ap, arith, inl, inr, ⊎_elim}
+use Rattle.std.proofs.Common.{◌≡◌, ◌≢◌, ◌⊎◌, ℕ, ◌+◌, ◌-◌, ◌*◌, ◌/◌, ◌%◌, ◌<◌, ◌≤◌, false, List, [], ◌∷◌, ◌++◌, length, get_or, Some, refl, sym, ◌∙◌, ap, arith, inl, inr, ⊎_elim}
 use Rattle.std.specs.Bool.{⊤}
 use Rattle.std.proofs.lemmas.List.{append-nil}
 use Rattle.std.proofs.lemmas.Nat.{div-add-mod', div-mul-add, mod_below}
@@ -13,7 +13,7 @@ use Rattle.save_disk.proofs.Told.{told_grain, now_size}
 use Rattle.save_disk.proofs.Growth.{grew_happens, grew_failed, came_from, image_written, image_unchanged}
 use Rattle.page_image.specs.declared.state.ImageState.{ImageState}
 use Rattle.page_image.specs.Images.{byte_of, is_changed, IsDiskOf, Mirrors}
-use Rattle.page_image.specs.Spots.{SameImage, HoldsAt, SameSpot, Leaves}
+use Rattle.page_image.specs.Spots.{HoldsAt, SameSpot, Leaves}
 use Rattle.page_image.specs.WriteOuts.{IsOwnWrite}
 use Rattle.page_image.proofs.SectorLemmas.{some_grain}
 

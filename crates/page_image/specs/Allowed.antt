@@ -1,5 +1,5 @@
 -- What a call on an image may write to its disk.
-use Rattle.std.specs.Prelude.{◌≡◌, ℕ, ◌+◌, false, List}
+use Rattle.std.specs.Prelude.{◌≡◌, ℕ, false, List}
 use Rattle.save_bytes.specs.Spots.{Spot, Place, Sector, Misses}
 use Rattle.save_disk.specs.State as disks
 use Rattle.page_image.specs.declared.state.ImageState.{ImageState}

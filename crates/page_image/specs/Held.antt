@@ -1,5 +1,5 @@
 -- What a view of an image holds.
-use Rattle.std.specs.Prelude.{◌≡◌, ℕ}
+use Rattle.std.specs.Prelude.{◌≡◌}
 use Rattle.std.specs.Borrow.{MutBor}
 use Rattle.save_bytes.specs.State.{State}
 use Rattle.save_bytes.specs.Spots.{Spot}
@@ -7,7 +7,7 @@ use Rattle.save_disk.specs.State as disks
 use Rattle.page_image.specs.declared.state.ImageState.{ImageState}
 use Rattle.page_image.specs.declared.image.Image.{Image}
 use Rattle.page_image.specs.Images.{image_state}
-use Rattle.page_image.specs.Spots.{Leaves, ImageLands}
+use Rattle.page_image.specs.Spots.{Leaves}
 
 -- what a contract sees of a view over a disk of which this is seen
 abbrev pub shown : {D : Type 0} → (D → disks.State) → Image D → State

@@ -1,5 +1,5 @@
 -- What a contract sees of an image over its disk.
-use Rattle.std.specs.Prelude.{◌≡◌, ℕ, ◌/◌, ◌<◌, Bool, true, false, ◌==◌, ◌&&◌, IsTrue, Option, Some, slice_index, get_or}
+use Rattle.std.specs.Prelude.{◌≡◌, ℕ, ◌/◌, ◌<◌, Bool, true, false, ◌==◌, ◌&&◌, IsTrue, Some, slice_index, get_or}
 use Rattle.save_bytes.specs.Cells.{Byte}
 use Rattle.save_bytes.specs.State.{State}
 use Rattle.save_disk.specs.Trace.{Told, image_now}
@@ -46,6 +46,10 @@ image_state disk image = record {
 -- in a sector that is not changed each byte is on the disk
 abbrev pub Mirrors : disks.State → ImageState → Type 0
 Mirrors disk image = (told : Told) → disk.told ≡ Some told → (x : ℕ) → x < image.len → is_changed image (x / image.grain) ≡ false → slice_index (image_now told) x ≡ byte_of image x
+
+-- each byte is on the disk
+abbrev pub IsStored : disks.State → ImageState → Type 0
+IsStored disk image = (told : Told) → disk.told ≡ Some told → (x : ℕ) → x < image.len → slice_index (image_now told) x ≡ byte_of image x
 
 -- an image just opened: its bytes are the disk's, and none is changed
 pub record IsOpened (disk : disks.State) (image : ImageState) : Type 0 where

@@ -1,15 +1,15 @@
 -- The laws of a space, of an image.
-use Rattle.std.specs.Prelude.{◌≡◌, ◌≢◌, ℕ, ◌+◌, ◌*◌, ◌^◌, ◌<◌, ◌≤◌, false, List, IsTrue, refl, ⊤}
-use Rattle.std.proofs.Common.{◌∙◌, ap, sym, subst, arith, rules, tests}
+use Rattle.std.specs.Prelude.{◌≡◌, ◌≢◌, ◌^◌, ◌<◌, refl, ⊤}
+use Rattle.std.proofs.Common.{◌∙◌, arith}
 use Rattle.save_bytes.specs.Spots.{Spot, Place, Sector, Frame}
 use Rattle.save_disk.specs.State as disks
 use Rattle.save_disk.specs.Writes.{WritesOnly}
 use Rattle.save_disk.specs.WriteLaws.{WritesOnly-quiet, WritesOnly-join}
 use Rattle.page_image.specs.declared.state.ImageState.{ImageState}
 use Rattle.page_image.specs.declared.image.Image.{Image}
-use Rattle.page_image.specs.Images.{byte_of, is_changed, image_state, Mirrors}
+use Rattle.page_image.specs.Images.{byte_of, image_state}
 use Rattle.page_image.specs.Spots.{SameImage, HoldsAt, SameSpot, Leaves}
-use Rattle.page_image.specs.Held.{shown, ImageKeeps}
+use Rattle.page_image.specs.Held.{ImageKeeps}
 
 pub image_size_fits : (d : disks.State) (image : ImageState) → (image_state d image).shape.size < 2 ^ 64
 image_size_fits d image = omega (arith, image.layout.most)

@@ -1,5 +1,5 @@
 -- How an image is read.
-use Rattle.std.specs.Prelude.{◌≡◌, ℕ, ◌/◌, ◌<◌, List, IsTrue, Option, Some, slice_index}
+use Rattle.std.specs.Prelude.{◌≡◌, ℕ, ◌/◌, ◌<◌, List, IsTrue, Some, slice_index}
 use Rattle.save_disk.specs.Trace.{Told, image_now}
 use Rattle.save_disk.specs.State as disks
 

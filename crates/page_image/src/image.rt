@@ -7,7 +7,7 @@ ghost use Rattle.save_bytes.specs.Spots.{Spot, Frame};
 ghost use Rattle.save_disk.specs.Trace.{Sync};
 ghost use Rattle.save_disk.specs.State.{GoesOn, Happens, IsQuiet, IsSteady, HasCause};
 ghost use Rattle.save_disk.specs.Writes.{GrewBy};
-ghost use Rattle.page_image.specs.Images.{IsDiskOf};
+ghost use Rattle.page_image.specs.Images.{IsDiskOf, Mirrors, IsStored};
 ghost use Rattle.page_image.specs.Spots.{ImageLands};
 ghost use Rattle.page_image.specs.Held.{shown, IsViewOf, SameView, ImageKeeps};
 ghost use Rattle.page_image.specs.WriteOuts.{WritesEach, WritesSome, IsClean};
@@ -58,6 +58,7 @@ impl<D: Disk> Image<'_, D> {
         ensures clean { OnOk result (IsClean self.new.image.now) }
         ensures written { OnOk result (GoesOn (GrewBy (WritesEach self.old.image.now (λ sector. true))) (D.state self.old.disk.now) (D.state self.new.disk.now)) }
         ensures failed { OnErr result (GoesOn (GrewBy (WritesSome self.old.image.now (λ sector. true))) (D.state self.old.disk.now) (D.state self.new.disk.now)) }
+        ensures stored { Mirrors (D.state self.old.disk.now) self.old.image.now → OnOk result (IsStored (D.state self.new.disk.now) self.new.image.now) }
         ensures told { OnOk result ((shown D.state self.new).told ≡ (shown D.state self.old).told) }
         ensures cause { HasCause (D.state self.old.disk.now).counts.disk (D.state self.new.disk.now).counts.disk result }
     {

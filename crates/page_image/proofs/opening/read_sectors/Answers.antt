@@ -1,4 +1,4 @@
-use Rattle.std.proofs.Common.{ℕ, ◌≡◌, ◌<◌, ◌≤◌, ◌*◌, ◌+◌, refl, sym, ◌∙◌, arith}
+use Rattle.std.proofs.Common.{◌*◌, ◌+◌, refl, sym, ◌∙◌, arith}
 use Rattle.save_disk.proofs.Telling.{steady_start, steady_join}
 use Rattle.page_image.proofs.ReadLemmas.{sector_begins, read_same}
 use Rattle.page_image.proofs.opening.read_sectors.Goals as goal

@@ -1,5 +1,5 @@
-use Rattle.std.proofs.Common.{◌≡◌, ◌⊎◌, ◌≢◌, ℕ, ◌+◌, ◌<◌, ◌≤◌, ltb, eqb, true, Result, Ok, Err, OnErr, refl, sym, ◌∙◌, arith, ⊎_elim}
-use Rattle.std.proofs.lemmas.Bool.{cases_lt, cases_eq}
+use Rattle.std.proofs.Common.{◌≡◌, ◌≢◌, ℕ, ◌+◌, ltb, eqb, true, Result, Ok, Err, OnErr, sym, ◌∙◌, arith, ⊎_elim}
+use Rattle.std.proofs.lemmas.Bool.{cases_eq}
 use Rattle.save_bytes.specs.Spots.{Place, Frame}
 use Rattle.save_bytes.proofs.SpaceLemmas.{Rose-later}
 use Rattle.save_disk.proofs.Growth.{GoesOn-then}

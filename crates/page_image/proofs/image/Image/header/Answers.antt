@@ -1,4 +1,4 @@
-use Rattle.std.proofs.Common.{◌≡◌, ℕ, ◌+◌, ◌<◌, ◌≤◌, List, length, get_or, take, ◌∙◌, sym, ap, arith, zero-add, get_or-take}
+use Rattle.std.proofs.Common.{ℕ, ◌<◌, List, length, get_or, take, ◌∙◌, sym, ap, arith, zero-add, get_or-take}
 use Rattle.std.proofs.lemmas.List.{length-take}
 use Rattle.save_bytes.specs.Cells.{Byte}
 use Rattle.page_image.proofs.image.Image.header.Goals as goal

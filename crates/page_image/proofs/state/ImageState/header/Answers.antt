@@ -1,4 +1,4 @@
-use Rattle.std.proofs.Common.{ℕ, ◌≤◌, ◌≡◌, length, arith, sym, take}
+use Rattle.std.proofs.Common.{arith, sym}
 use Rattle.std.proofs.lemmas.List.{length-take-le}
 use Rattle.page_image.proofs.state.ImageState.header.Goals as goal
 
