@@ -4,7 +4,7 @@ use Rattle.std.specs.Bool.{⊤}
 use Rattle.save_bytes.specs.Spots.{Place, Sector, Frame, Misses}
 use Rattle.save_disk.specs.State as disks
 use Rattle.save_disk.specs.Writes.{WritesOnly}
-use Rattle.save_disk.specs.WriteLaws.{WritesOnly-map}
+use Rattle.save_disk.proofs.Growth.{WritesOnly-map}
 use Rattle.save_disk.proofs.Growth.{WritesOnly-all}
 use Rattle.page_image.specs.declared.state.ImageState.{ImageState}
 use Rattle.page_image.specs.Images.{byte_of, is_changed}

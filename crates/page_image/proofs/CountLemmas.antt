@@ -3,7 +3,7 @@ use Rattle.std.proofs.Common.{◌≡◌, ◌≢◌, ℕ, ◌+◌, ◌*◌, ◌<�
 use Rattle.std.proofs.lemmas.Bool.{cases_lt, cases_eq, lt-ltb, le-ltb, eq-eqb, eqb-true}
 use Rattle.save_disk.specs.Trace.{Event, Write, Sync, Said}
 use Rattle.save_disk.specs.Writes.{OnlyWrites}
-use Rattle.save_disk.specs.WriteLaws.{OnlyWrites-append, OnlyWrites-map}
+use Rattle.save_disk.proofs.Growth.{OnlyWrites-append, OnlyWrites-map}
 use Rattle.page_image.specs.declared.state.ImageState.{ImageState}
 use Rattle.page_image.specs.Images.{byte_of, is_changed}
 use Rattle.page_image.specs.WriteOuts.{IsOwnWrite, one_if, writes_to, WritesEach, WritesSome}

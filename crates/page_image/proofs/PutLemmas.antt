@@ -10,7 +10,7 @@ use Rattle.save_bytes.specs.Spots.{Spot, Place, Sector, Frame, Misses, MovesOnly
 use Rattle.save_bytes.specs.Memory.{bytes_state}
 use Rattle.save_bytes.proofs.MemoryLemmas.{bytes_put}
 use Rattle.save_disk.specs.State as disks
-use Rattle.save_disk.specs.WriteLaws.{WritesOnly-quiet}
+use Rattle.save_disk.proofs.Growth.{WritesOnly-quiet}
 use Rattle.save_disk.proofs.Telling.{steady_start}
 use Rattle.page_image.specs.declared.state.ImageState.{ImageState}
 use Rattle.page_image.specs.declared.image.Image.{Image}

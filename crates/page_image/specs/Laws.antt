@@ -4,7 +4,8 @@ use Rattle.std.proofs.Common.{◌∙◌, arith}
 use Rattle.save_bytes.specs.Spots.{Spot, Place, Sector, Frame}
 use Rattle.save_disk.specs.State as disks
 use Rattle.save_disk.specs.Writes.{WritesOnly}
-use Rattle.save_disk.specs.WriteLaws.{WritesOnly-quiet, WritesOnly-join}
+use Rattle.save_disk.proofs.Telling.{steady_start, steady_join}
+use Rattle.save_disk.proofs.Growth.{WritesOnly-quiet, WritesOnly-join}
 use Rattle.page_image.specs.declared.state.ImageState.{ImageState}
 use Rattle.page_image.specs.declared.image.Image.{Image}
 use Rattle.page_image.specs.Images.{byte_of, image_state}
@@ -14,11 +15,8 @@ use Rattle.page_image.specs.Held.{ImageKeeps}
 pub image_size_fits : (d : disks.State) (image : ImageState) → (image_state d image).shape.size < 2 ^ 64
 image_size_fits d image = omega (arith, image.layout.most)
 
-steady_same : (d : disks.State) → disks.IsSteady d d
-steady_same d = record { size = refl; grain = refl; disk = omega arith; source = omega arith; sink = omega arith }
-
 SameImage-same : (d : disks.State) (image : ImageState) → SameImage d image d image
-SameImage-same d image = record { len = refl; grain = refl; steady = steady_same d; writes = WritesOnly-quiet (λ sector bytes. ⊤) d d refl; mirrors = λ h. h }
+SameImage-same d image = record { len = refl; grain = refl; steady = steady_start d; writes = WritesOnly-quiet (λ sector bytes. ⊤) d d refl; mirrors = λ h. h }
 
 SameSpot-same : (spot : Spot) (d : disks.State) (image : ImageState) → SameSpot spot d image d image
 SameSpot-same (Place x) d image = (refl, WritesOnly-quiet (HoldsAt image.grain x (byte_of image x)) d d refl)
@@ -30,15 +28,6 @@ Leaves-same spot d image = (SameImage-same d image, SameSpot-same spot d image)
 
 pub ImageKeeps-same : {D : Type 0} (states : D → disks.State) (spot : Spot) (s : Image D) → ImageKeeps states spot s s
 ImageKeeps-same states spot s = (record { same_image = refl; same_disk = refl }, Leaves-same spot (states s.disk.now) s.image.now)
-
-steady_join : (one two three : disks.State) → disks.IsSteady one two → disks.IsSteady two three → disks.IsSteady one three
-steady_join one two three h k = record {
-  size = k.size ∙ h.size;
-  grain = k.grain ∙ h.grain;
-  disk = omega (arith, h.disk, k.disk);
-  source = omega (arith, h.source, k.source);
-  sink = omega (arith, h.sink, k.sink);
-}
 
 module _ (d e f : disks.State) (i j k : ImageState) where
   SameImage-join : SameImage d i e j → SameImage e j f k → SameImage d i f k

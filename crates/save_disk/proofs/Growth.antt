@@ -4,9 +4,20 @@ use Rattle.std.specs.Option.{option_map}
 use Rattle.std.proofs.lemmas.List.{append-nil, append_cancel_left}
 use Rattle.save_disk.specs.Trace.{Event, Write, Sync, Said, Told, with_sector, image_after, image_now}
 use Rattle.save_disk.specs.State.{State, IsQuiet, Happens, GoesOn, WriteFails, then_event}
-use Rattle.save_disk.specs.Tells.{is_sure, tells}
 use Rattle.save_disk.specs.Writes.{OnlyWrites, GrewBy, WritesOnly}
 use Rattle.save_disk.proofs.Events.{image_after-push}
+
+pub OnlyWrites-append : (Q : ℕ → List ℕ → Type 0) (xs ys : List Event) → OnlyWrites Q xs → OnlyWrites Q ys → OnlyWrites Q (xs ++ ys)
+OnlyWrites-append Q [] ys h k = k
+OnlyWrites-append Q (Write sector bytes ∷ xs) ys h k = (h.0, OnlyWrites-append Q xs ys h.1 k)
+OnlyWrites-append Q (Sync ∷ xs) ys h k = absurd h
+OnlyWrites-append Q (Said bytes ∷ xs) ys h k = absurd h
+
+pub OnlyWrites-map : (P Q : ℕ → List ℕ → Type 0) (events : List Event) → ((sector : ℕ) (bytes : List ℕ) → P sector bytes → Q sector bytes) → OnlyWrites P events → OnlyWrites Q events
+OnlyWrites-map P Q [] f h = tt
+OnlyWrites-map P Q (Write sector bytes ∷ events) f h = (f sector bytes h.0, OnlyWrites-map P Q events f h.1)
+OnlyWrites-map P Q (Sync ∷ events) f h = absurd h
+OnlyWrites-map P Q (Said bytes ∷ events) f h = absurd h
 
 module _ (P Q R : List Event → Type 0) (append : (xs ys : List Event) → P xs → Q ys → R (xs ++ ys)) where
   grew_then : (a b c : Told) → GrewBy P a b → GrewBy Q b c → GrewBy R a c
@@ -32,7 +43,7 @@ module _ (P : List Event → Type 0) where
   quiet None none = refl
   quiet (Some told) none = (told, refl, record { start = refl; grain = refl; left = refl; added = []; events = sym (append-nil told.events); such = none })
 
-  -- no event
+  -- nothing happened
   pub grew_quiet : (one two : State) → IsQuiet one two → P [] → GoesOn (GrewBy P) one two
   grew_quiet one two same none = rw same (quiet one.told none)
 
@@ -59,13 +70,23 @@ module _ (P : List Event → Type 0) where
   pub grew_failed : (sector : ℕ) (bytes : List ℕ) (one two : State) → GoesOn (WriteFails sector bytes) one two → P [] → P (Write sector bytes ∷ []) → GoesOn (GrewBy P) one two
   grew_failed sector bytes one two fails none such = went_failed sector bytes one.told two.told fails none such
 
-sure_then : (event : Event) (size : ℕ) (o p : Option Told) → p ≡ option_map (then_event event) o → is_sure size p ≡ is_sure size o
-sure_then event size None p is = rw is refl
-sure_then event size (Some told) p is = rw is refl
+module _ (Q : ℕ → List ℕ → Type 0) where
+  pub WritesOnly-quiet : (one two : State) → IsQuiet one two → WritesOnly Q one two
+  WritesOnly-quiet one two same = grew_quiet (OnlyWrites Q) one two same tt
 
--- an event leaves each read as told as it was
-pub tells_then : (event : Event) (one two : State) → two.size ≡ one.size → Happens event one two → tells two ≡ tells one
-tells_then event one two size happens = rw size (sure_then event one.size one.told two.told happens)
+  pub WritesOnly-join : (one two three : State) → WritesOnly Q one two → WritesOnly Q two three → WritesOnly Q one three
+  WritesOnly-join = GoesOn-then (OnlyWrites Q) (OnlyWrites Q) (OnlyWrites Q) (OnlyWrites-append Q)
+
+module _ (P Q : ℕ → List ℕ → Type 0) (f : (sector : ℕ) (bytes : List ℕ) → P sector bytes → Q sector bytes) where
+  grew_map : (a b : Told) → GrewBy (OnlyWrites P) a b → GrewBy (OnlyWrites Q) a b
+  grew_map a b h = record { start = h.start; grain = h.grain; left = h.left; added = h.added; events = h.events; such = OnlyWrites-map P Q h.added f h.such }
+
+  went_map : (o p : Option Told) → MatchOption o (p ≡ None) (λ told. (next : Told) × (p ≡ Some next) × GrewBy (OnlyWrites P) told next) → MatchOption o (p ≡ None) (λ told. (next : Told) × (p ≡ Some next) × GrewBy (OnlyWrites Q) told next)
+  went_map None p h = h
+  went_map (Some told) p (next, is, grew) = (next, is, grew_map told next grew)
+
+  pub WritesOnly-map : (one two : State) → WritesOnly P one two → WritesOnly Q one two
+  WritesOnly-map one two h = went_map one.told two.told h
 
 came : (R : Told → Told → Type 0) (o p : Option Told) (now : Told) → MatchOption o (p ≡ None) (λ told. (next : Told) × (p ≡ Some next) × R told next) → p ≡ Some now → (told : Told) × (o ≡ Some told) × R told now
 came R None p now is here = absurd (cc)
@@ -104,10 +125,14 @@ module _ {T : Type 0} (Q : T → ℕ → List ℕ → Type 0) where
 
   went_all : (P : ℕ → List ℕ → Type 0) (o p : Option Told) → MatchOption o (p ≡ None) (λ told. (next : Told) × (p ≡ Some next) × GrewBy (OnlyWrites P) told next) → ((t : T) → MatchOption o (p ≡ None) (λ told. (next : Told) × (p ≡ Some next) × GrewBy (OnlyWrites (Q t)) told next)) → MatchOption o (p ≡ None) (λ told. (next : Told) × (p ≡ Some next) × GrewBy (OnlyWrites (λ sector bytes. (t : T) → Q t sector bytes)) told next)
   went_all P None p base each = base
-  went_all P (Some told) p (next, is, grew) each = (next, is, grew_all P told next grew (λ t.
-      (let mine = each t in
-      let same : mine.0 ≡ next = some_same mine.0 next (sym mine.1 ∙ is) in
-      subst (GrewBy (OnlyWrites (Q t)) told) same mine.2)))
+  went_all P (Some told) p (next, is, grew) each = (
+    next,
+    is,
+    grew_all P told next grew (λ t.
+        (let mine = each t in
+        let same : mine.0 ≡ next = some_same mine.0 next (sym mine.1 ∙ is) in
+        subst (GrewBy (OnlyWrites (Q t)) told) same mine.2)),
+  )
     where
       some_same : (x y : Told) → Some x ≡ Some y → x ≡ y
       some_same x y same = cc

@@ -3,7 +3,6 @@ pub mod State
 pub mod Stops
 pub mod Tells
 pub mod Writes
-pub mod WriteLaws
 pub mod Grains
 pub mod Calls
 pub mod CallLogs
