@@ -1,8 +1,8 @@
 -- Bytes that were read, as fields.
-use Rattle.std.proofs.Common.{◌≡◌, ℕ, ◌+◌, ◌<◌, ◌≤◌, List, length, take, drop, get_or, refl, sym, ◌∙◌, ap, subst, arith, zero-add, get_or-take, get_or-drop, length-drop}
+use Rattle.std.proofs.Common.{◌≡◌, ℕ, ◌+◌, ◌<◌, ◌≤◌, List, length, take, drop, sym, ◌∙◌, ap, arith, get_or-take, get_or-drop, length-drop}
 use Rattle.std.proofs.lemmas.List.{length-take-le}
 use Rattle.save_bytes.specs.Fields.{number_at}
-use Rattle.save_bytes.specs.Cells.{Cell, Byte, AreBytesAt}
+use Rattle.save_bytes.specs.Cells.{Cell, AreBytesAt}
 use Rattle.save_bytes.specs.CellNumbers.{bytes_in, number_in}
 use Rattle.save_bytes.proofs.FieldLemmas.{number_at-drop, number_at-take}
 use Rattle.save_bytes.proofs.CellLemmas.{bytes_in-is, number_in-is}

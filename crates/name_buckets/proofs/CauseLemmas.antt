@@ -1,5 +1,5 @@
 -- Why calls on entries are refused.
-use Rattle.std.proofs.Common.{◌≡◌, ℕ, ◌+◌, ◌≤◌, IsTrue, Result, Ok, Err, Some, refl, ap, subst, sym, arith}
+use Rattle.std.proofs.Common.{◌≡◌, ℕ, ◌+◌, ◌≤◌, IsTrue, Result, Ok, Err, Some, ap, subst, sym, arith}
 use Rattle.std.specs.Result.{IsErrAnd}
 use Rattle.save_bytes.specs.declared.space.Bad.{Bad}
 use Rattle.save_bytes.specs.State.{Shape, State}
@@ -11,7 +11,7 @@ use Rattle.name_buckets.specs.declared.table.EntryFault.TheVariants as fault
 use Rattle.name_buckets.specs.Kinds.{entry_size}
 use Rattle.name_buckets.specs.Tables.{table_in, entry_place}
 use Rattle.name_buckets.specs.Used.{used_entries}
-use Rattle.name_buckets.specs.Layout.{IsWithin, IsNeeded, OfZero, OfUsed, BlamesNeeded, IsReadAt, AtZero, AtPlace, BlamesRead}
+use Rattle.name_buckets.specs.Layout.{IsNeeded, OfZero, OfUsed, BlamesNeeded, IsReadAt, AtZero, AtPlace, BlamesRead}
 use Rattle.name_buckets.specs.Replies.{HasCause}
 use Rattle.name_buckets.proofs.StayLemmas.{IfDamaged-map}
 
@@ -22,10 +22,10 @@ passed_on (Err found) bad h = ap Err h
 
 module _ {A : Type 0} (s : State) (kind : EntryKind) (info : TableInfo) (Rule : Type 0) (Fails : ℕ → ℕ → Type 0) where
   pub bad_cause : (bad : Bad) → (IsTrue s.told → Rule → IfDamaged (Some bad) (BlamesNeeded kind info s.cells)) → (IsTrue s.shape.plain → NeverDamaged (Some bad)) → HasCause {A = A} s kind info Rule Fails (Err (fault.Bad bad))
-  bad_cause bad damaged plain = record { damaged = damaged; plain = plain; broken = λ told. tt; entries = tt }
+  bad_cause bad damaged plain = record { damaged = damaged; plain = plain; broken = λ told. tt; never_full = tt }
 
   pub broken_cause : (table entry : ℕ) → (IsTrue s.told → Fails table entry) → HasCause {A = A} s kind info Rule Fails (Err (fault.Broken table entry))
-  broken_cause table entry fails = record { damaged = λ told rule. tt; plain = λ plain. tt; broken = fails; entries = tt }
+  broken_cause table entry fails = record { damaged = λ told rule. tt; plain = λ plain. tt; broken = fails; never_full = tt }
 
 -- what is plain stays plain
 pub plain_stays : (old new : Shape) → new ≡ old → IsTrue old.plain → IsTrue new.plain

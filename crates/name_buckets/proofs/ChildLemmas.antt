@@ -1,9 +1,8 @@
 -- The list of a directory, entry by entry.
-use Rattle.std.proofs.Common.{◌≡◌, ℕ, zero, suc, ◌+◌, ◌<◌, List, [], ◌∷◌, length, get_or, refl, sym, ◌∙◌, ap, subst, arith, add-one}
+use Rattle.std.proofs.Common.{◌≡◌, ℕ, zero, suc, ◌<◌, List, [], ◌∷◌, length, get_or, sym, ◌∙◌, ap, arith, add-one}
 use Rattle.name_buckets.specs.declared.table.EntryKind.{EntryKind}
 use Rattle.name_buckets.specs.Tables.{Tables}
 use Rattle.name_buckets.specs.Links.{IsLinked}
-use Rattle.name_buckets.specs.Rules.{IsChildList}
 use Rattle.name_buckets.specs.Replies.{IsFirstChild, IsNextChild}
 
 -- a list begins where it is linked from

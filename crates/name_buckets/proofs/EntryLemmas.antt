@@ -1,12 +1,12 @@
 -- The bytes of an entry, as its fields.
-use Rattle.std.proofs.Common.{◌≡◌, ℕ, ◌+◌, ◌<◌, ◌≤◌, List, length, take, drop, refl, sym, ◌∙◌, arith}
+use Rattle.std.proofs.Common.{◌≡◌, ℕ, ◌+◌, ◌≤◌, List, length, take, drop, refl, sym, ◌∙◌, arith}
 use Rattle.save_bytes.specs.Fields.{number_at}
 use Rattle.save_bytes.specs.Cells.{Cell, AreBytesAt}
 use Rattle.name_buckets.specs.declared.table.EntryKind.{EntryKind}
 use Rattle.name_buckets.specs.declared.table.EntryKind.TheVariants.{Dir, File}
 use Rattle.name_buckets.specs.declared.table.TableInfo.{TableInfo}
 use Rattle.name_buckets.specs.Kinds.{entry_size, link_offset, least_freed, IsRoot}
-use Rattle.name_buckets.specs.Tables.{Table, table_in, entry_place}
+use Rattle.name_buckets.specs.Tables.{table_in, entry_place}
 use Rattle.name_buckets.specs.Looks.{HasKey, Matches}
 use Rattle.name_buckets.proofs.ByteLemmas.{field_is, part_is}
 

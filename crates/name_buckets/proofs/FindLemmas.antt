@@ -1,16 +1,14 @@
 -- The list of a bucket, as far as it was followed.
-use Rattle.std.proofs.Common.{◌≡◌, ◌≢◌, ℕ, ◌+◌, ◌<◌, ◌≤◌, List, [], ◌∷◌, ◌++◌, length, nat_eq, refl, sym, ◌∙◌, ap, subst, arith, Some, None, ⊎_elim, length-append}
-use Rattle.std.specs.List.{All, Contains, IsDistinct}
+use Rattle.std.proofs.Common.{◌≡◌, ◌≢◌, ℕ, ◌+◌, ◌<◌, ◌≤◌, List, [], ◌∷◌, ◌++◌, length, refl, sym, ◌∙◌, ap, subst, arith, length-append}
+use Rattle.std.specs.List.{All, Contains}
 use Rattle.std.proofs.lemmas.List.{append-nil}
 use Rattle.std.proofs.lemmas.List.Elements.{All-nil, All-push, All-contains}
 use Rattle.name_buckets.specs.declared.table.EntryKind.{EntryKind}
-use Rattle.name_buckets.specs.Kinds.{IsRoot}
 use Rattle.name_buckets.specs.Hash.{bucket_number}
 use Rattle.name_buckets.specs.Tables.{Table}
-use Rattle.name_buckets.specs.Links.{LeadsTo, IsLinked}
-use Rattle.name_buckets.specs.Used.{used_entries, named_entries}
+use Rattle.name_buckets.specs.Links.{LeadsTo}
 use Rattle.name_buckets.specs.Rules.{StandsIn, IsBucketList, HasBucketLists, IsBrokenBucket}
-use Rattle.name_buckets.specs.Replies.{IsEntryOf, IsFound}
+use Rattle.name_buckets.specs.Replies.{IsEntryOf}
 use Rattle.name_buckets.specs.Looks.{Matches}
 use Rattle.name_buckets.proofs.StayLemmas.{SameEntry}
 use Rattle.name_buckets.proofs.LinkLemmas.{LeadsTo-push, reached, whole_list, whole_front, few_between}

@@ -1,17 +1,17 @@
 -- The list of freed entries, as far as it was followed.
-use Rattle.std.proofs.Common.{◌≡◌, ◌≢◌, ℕ, ◌+◌, ◌-◌, ◌*◌, ◌<◌, ◌≤◌, Bool, true, false, List, [], ◌∷◌, ◌++◌, length, nat_eq, refl, sym, ◌∙◌, ap, subst, arith, length-append}
-use Rattle.std.specs.List.{All, Contains, IsDistinct}
+use Rattle.std.proofs.Common.{◌≡◌, ◌≢◌, ℕ, ◌+◌, ◌-◌, ◌<◌, ◌≤◌, Bool, true, false, List, [], ◌∷◌, ◌++◌, length, nat_eq, refl, sym, ◌∙◌, subst, arith, length-append}
+use Rattle.std.specs.List.{All, Contains}
 use Rattle.std.specs.Set.{is_member}
 use Rattle.std.proofs.lemmas.Bool.{false≢true}
 use Rattle.std.proofs.lemmas.Bool.Decides.{Decides-eqb}
-use Rattle.std.proofs.lemmas.List.Elements.{All-nil, All-push, All-head, All-tail, All-contains, Contains-append_left}
+use Rattle.std.proofs.lemmas.List.Elements.{All-nil, All-push, All-contains, Contains-append_left}
 use Rattle.std.proofs.lemmas.Map.Made.{is_member-Decides}
 use Rattle.name_buckets.specs.declared.table.EntryKind.{EntryKind}
 use Rattle.name_buckets.specs.declared.table.TableInfo.{TableInfo}
-use Rattle.name_buckets.specs.Kinds.{entry_size, link_offset, least_freed}
+use Rattle.name_buckets.specs.Kinds.{link_offset}
 use Rattle.name_buckets.specs.Tables.{Table, entry_place}
 use Rattle.name_buckets.specs.Links.{LeadsTo, IsLinked, last_of}
-use Rattle.name_buckets.specs.Rules.{CanBeFreed, IsFreedList, HasFreedList, NamesWrongly}
+use Rattle.name_buckets.specs.Rules.{CanBeFreed, HasFreedList, NamesWrongly}
 use Rattle.name_buckets.specs.Layout.{IsWithin, IsNeeded, OfZero, OfFreed}
 use Rattle.name_buckets.specs.Replies.{IsRoom}
 use Rattle.name_buckets.proofs.EntryLemmas.{link_last, least_some}

@@ -1,5 +1,5 @@
 -- Tables lie as they should where no cell changed.
-use Rattle.std.proofs.Common.{◌≡◌, ℕ, ◌+◌, ◌*◌, ◌<◌, ◌≤◌, IsTrue, Option, Some, None, refl, sym, ◌∙◌, ap, arith}
+use Rattle.std.proofs.Common.{◌≡◌, ℕ, ◌<◌, IsTrue, Option, Some, None, sym, ◌∙◌, ap, arith}
 use Rattle.save_bytes.specs.declared.space.Bad.{Bad}
 use Rattle.save_bytes.specs.declared.space.Bad.TheVariants.{Disk, Damaged}
 use Rattle.save_bytes.specs.State.{Shape, State}
@@ -10,10 +10,10 @@ use Rattle.save_bytes.specs.Reads.{Reads}
 use Rattle.name_buckets.specs.declared.table.EntryKind.{EntryKind}
 use Rattle.name_buckets.specs.declared.table.TableInfo.{TableInfo}
 use Rattle.name_buckets.specs.declared.view.Entries.{Entries}
-use Rattle.name_buckets.specs.Tables.{table_in, info_of}
-use Rattle.name_buckets.specs.Layout.{Range, Buckets, LiesIn, InBuckets, InZero, InEntry, HasTable, HasTables}
-use Rattle.name_buckets.specs.Held.{SameEntries, ReadsEntries}
-use Rattle.name_buckets.proofs.StayLemmas.{had_counts, was_told, most_stays, HasTable-stays}
+use Rattle.name_buckets.specs.Tables.{info_of}
+use Rattle.name_buckets.specs.Layout.{HasCounts, Range, LiesIn, InBuckets, InZero, InEntry, HasTable, HasTables}
+use Rattle.name_buckets.specs.Held.{tables_of, place_of, ReadsEntries}
+use Rattle.name_buckets.proofs.StayLemmas.{SameEntry, now_told, count_stays, entry_stays, had_counts, was_told, most_stays, HasTable-stays}
 
 -- a place of a range lies in the space
 lies_below : (s : State) (info : EntryKind → TableInfo) (table : (kind : EntryKind) → HasTable s kind (info kind)) (x : ℕ) (range : Range) → LiesIn s info x range → x < s.shape.size
@@ -65,3 +65,14 @@ entries_read states keeps lands old new refusal tables same_space same_dirs same
   same = record { same_space = same_space; same_dirs = same_dirs; same_files = same_files };
   laid_out = rw (same_dirs, same_files) (still_laid_out (states old.space.now) (states new.space.now) old.dirs old.files tables refusal reads.stays);
 }
+
+-- for callers: what a call that only reads leaves of an entry
+module _ {S : Type 0} (states : S → State) (keeps : Spot → S → S → Type 0) (lands : S → ℕ → Spot → Type 0) (old new : Entries S) (read : ReadsEntries states keeps lands old new None) (tables : HasTables (states old.space.now) old.dirs old.files) (kind : EntryKind) (known : HasCounts (states old.space.now) (place_of old kind)) where
+  pub still_told : IsTrue (states new.space.now).told
+  still_told = now_told (states old.space.now) (states new.space.now) read.reads.stays known.told
+
+  pub same_count : ((tables_of states new).table kind).count ≡ ((tables_of states old).table kind).count
+  same_count = rw (read.same.same_dirs, read.same.same_files) (count_stays (states old.space.now) (states new.space.now) read.reads.stays kind (place_of old kind) (tables.table kind) known.told)
+
+  pub same_entry : (e : ℕ) → e < ((tables_of states old).table kind).count → SameEntry ((tables_of states old).table kind) ((tables_of states new).table kind) e
+  same_entry e below = rw (read.same.same_dirs, read.same.same_files) (entry_stays (states old.space.now) (states new.space.now) read.reads.stays kind (place_of old kind) (tables.table kind) known e below)

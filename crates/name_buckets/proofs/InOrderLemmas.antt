@@ -1,8 +1,8 @@
 -- Tables that follow each other in bytes lie in a memory as they should.
-use Rattle.std.proofs.Common.{◌≡◌, ℕ, ◌+◌, ◌*◌, ◌<◌, ◌≤◌, false, List, length, get_or, IsTrue, refl, sym, ◌∙◌, ap, subst, arith, zero-add}
+use Rattle.std.proofs.Common.{◌≡◌, ℕ, ◌+◌, ◌*◌, ◌<◌, ◌≤◌, false, List, length, get_or, IsTrue, refl, sym, ◌∙◌, ap, arith, zero-add}
 use Rattle.std.proofs.lemmas.Bool.{false≢true}
 use Rattle.save_bytes.specs.Fields.{number_at}
-use Rattle.save_bytes.specs.Cells.{Cell, Byte, AreBytesAt}
+use Rattle.save_bytes.specs.Cells.{Byte}
 use Rattle.save_bytes.specs.CellNumbers.{number_in}
 use Rattle.save_bytes.specs.State.{State}
 use Rattle.save_bytes.specs.Memory.{memory_shape, bytes_state}
@@ -11,7 +11,7 @@ use Rattle.name_buckets.specs.declared.table.EntryKind.TheVariants.{Dir, File}
 use Rattle.name_buckets.specs.declared.table.TableInfo.{TableInfo}
 use Rattle.name_buckets.specs.Kinds.{entry_size, least_freed}
 use Rattle.name_buckets.specs.Tables.{table_in, entry_place, info_of}
-use Rattle.name_buckets.specs.Layout.{IsWithin, HasCounts, HasTable, HasTables, Range, Buckets, Entries, LiesIn, InBuckets, InZero, InEntry}
+use Rattle.name_buckets.specs.Layout.{HasCounts, HasTable, HasTables, Range, Buckets, Entries, LiesIn, InBuckets, InZero, InEntry}
 use Rattle.name_buckets.specs.InOrder.{HasBucketsBefore, HasEntriesBefore, StartInOrder, FollowInOrder}
 use Rattle.name_buckets.proofs.ByteLemmas.{field_is}
 

@@ -1,9 +1,9 @@
 -- Lists of entries in which each one names the next.
-use Rattle.std.proofs.Common.{◌≡◌, ◌≢◌, ℕ, zero, suc, ◌+◌, ◌<◌, ◌≤◌, Bool, true, false, List, [], ◌∷◌, ◌++◌, length, get_or, nat_eq, refl, sym, ◌∙◌, ap, subst, arith, rules, ◌⊎◌, inl, inr, ⊎_elim}
-use Rattle.std.specs.List.{Contains, All, AllByRecursion, IsDistinct, list_any}
+use Rattle.std.proofs.Common.{◌≡◌, ◌≢◌, ℕ, zero, suc, ◌<◌, ◌≤◌, true, false, List, [], ◌∷◌, ◌++◌, length, get_or, nat_eq, refl, sym, ◌∙◌, ap, subst, arith}
+use Rattle.std.specs.List.{Contains, IsDistinct, list_any}
 use Rattle.std.proofs.lemmas.Bool.{ne_eqb}
 use Rattle.std.proofs.lemmas.Bool.Decides.{Decides-eqb}
-use Rattle.std.proofs.lemmas.List.Elements.{recursion_from_All, All-from_get_or, Contains-get_or, Contains-append_right, Contains-append_left}
+use Rattle.std.proofs.lemmas.List.Elements.{recursion_from_All, All-from_get_or, Contains-get_or, Contains-append_right}
 use Rattle.std.proofs.lemmas.Map.Keys.{IsDistinct-cons}
 use Rattle.std.proofs.lemmas.Map.Made.{is_member-Decides}
 use Rattle.std.proofs.lemmas.Map.Steps.{length-le_from_distinct_below}
@@ -95,8 +95,8 @@ one_way next from (x ∷ xs) [] e leads other apart apart_too =
 one_way next from (x ∷ xs) (y ∷ ys) e leads other apart apart_too =
     let same : y ≡ x = sym other.0 ∙ leads.0 in
     let tails : length xs ≡ length ys =
-      one_way next (next x) xs ys e leads.2 (subst (λ (n : ℕ). LeadsTo next (next n) ys e) same other.2)
-      (λ within. apart (Contains-tail x xs e within)) (λ within. apart_too (Contains-tail y ys e within))
+    one_way next (next x) xs ys e leads.2 (subst (λ (n : ℕ). LeadsTo next (next n) ys e) same other.2)
+    (λ within. apart (Contains-tail x xs e within)) (λ within. apart_too (Contains-tail y ys e within))
     in
     omega (arith, tails)
 
@@ -107,9 +107,9 @@ LeadsTo-distinct next from [] e leads apart = tt
 LeadsTo-distinct next from (x ∷ xs) e leads apart =
     let apart_tail : ¬ Contains xs e = λ within. apart (Contains-tail x xs e within) in
     let once : (y : ℕ) → Contains xs y → x ≢ y = λ y within same.
-      (let later = behind next (next x) xs e x within.0 leads.2 within.1 (rw same (subst (λ (d : ℕ). get_or xs within.0 d ≡ y) refl within.2)) in
-      let long : length xs ≡ length later.rest = one_way next (next x) xs later.rest e leads.2 later.leads apart_tail (λ there. apart_tail (later.kept e there)) in
-      omega (arith, later.shorter, long))
+    (let later = behind next (next x) xs e x within.0 leads.2 within.1 (rw same (subst (λ (d : ℕ). get_or xs within.0 d ≡ y) refl within.2)) in
+    let long : length xs ≡ length later.rest = one_way next (next x) xs later.rest e leads.2 later.leads apart_tail (λ there. apart_tail (later.kept e there)) in
+    omega (arith, later.shorter, long))
     in
     IsDistinct-cons nat_eq x xs
     (recursion_from_All (λ y. nat_eq x y ≡ false) xs (All-from_get_or (λ y. nat_eq x y ≡ false) xs 0 (λ i h. ne_eqb x (get_or xs i 0) (once (get_or xs i 0) (Contains-get_or xs i 0 h)))))
@@ -120,9 +120,9 @@ pub few_between : (xs : List ℕ) (n : ℕ) → 1 ≤ n → IsDistinct nat_eq xs
 few_between xs n some distinct between =
     let apart : (e : ℕ) → Contains xs e → 0 ≢ e = λ e within. omega (arith, (between e within).0) in
     let with_zero : IsDistinct nat_eq (0 ∷ xs) =
-      IsDistinct-cons nat_eq 0 xs
-      (recursion_from_All (λ y. nat_eq 0 y ≡ false) xs (All-from_get_or (λ y. nat_eq 0 y ≡ false) xs 0 (λ i h. ne_eqb 0 (get_or xs i 0) (apart (get_or xs i 0) (Contains-get_or xs i 0 h)))))
-      distinct
+    IsDistinct-cons nat_eq 0 xs
+    (recursion_from_All (λ y. nat_eq 0 y ≡ false) xs (All-from_get_or (λ y. nat_eq 0 y ≡ false) xs 0 (λ i h. ne_eqb 0 (get_or xs i 0) (apart (get_or xs i 0) (Contains-get_or xs i 0 h)))))
+    distinct
     in
     let below : (q : ℕ) → list_any (nat_eq q) (0 ∷ xs) ≡ true → q < n = λ q member. below_in xs n some between q ((is_member-Decides Decides-eqb (0 ∷ xs) q).0 member) in
     omega (arith, length-le_from_distinct_below (0 ∷ xs) n with_zero below)

@@ -1,18 +1,18 @@
 -- A table stays where the cells of its space do.
-use Rattle.std.proofs.Common.{◌≡◌, ℕ, zero, suc, ◌+◌, ◌*◌, ◌<◌, ◌≤◌, List, IsTrue, Option, Some, None, refl, sym, ◌∙◌, ap, subst, arith, add-zero}
+use Rattle.std.proofs.Common.{◌≡◌, ℕ, zero, suc, ◌+◌, ◌<◌, ◌≤◌, List, IsTrue, Option, Some, None, refl, sym, ◌∙◌, ap, subst, arith, add-zero}
 use Rattle.std.proofs.Math.Nat.{add-suc, suc-add}
 use Rattle.save_bytes.specs.declared.space.Bad.{Bad}
 use Rattle.save_bytes.specs.declared.space.Bad.TheVariants.{Disk, Damaged}
 use Rattle.save_bytes.specs.Fields.{number_at}
-use Rattle.save_bytes.specs.Cells.{Cell, IsByte, Blames}
-use Rattle.save_bytes.specs.CellNumbers.{value_of, bytes_in, number_in}
+use Rattle.save_bytes.specs.Cells.{Cell, Blames}
+use Rattle.save_bytes.specs.CellNumbers.{bytes_in, number_in}
 use Rattle.save_bytes.specs.State.{Shape, State}
 use Rattle.save_bytes.specs.Refusals.{IfDamaged}
 use Rattle.save_bytes.specs.Answers.{IsFirstFault}
 use Rattle.save_bytes.specs.Stays.{Stays}
 use Rattle.name_buckets.specs.declared.table.EntryKind.{EntryKind}
 use Rattle.name_buckets.specs.declared.table.TableInfo.{TableInfo}
-use Rattle.name_buckets.specs.Kinds.{entry_size, link_offset, IsRoot}
+use Rattle.name_buckets.specs.Kinds.{entry_size, link_offset}
 use Rattle.name_buckets.specs.Tables.{Table, table_in, entry_place, bucket_place}
 use Rattle.name_buckets.specs.Layout.{IsWithin, HasCounts, HasTable, IsNeeded, OfZero, BlamesNeeded, IsReadAt, AtZero, AtPlace, BlamesRead}
 use Rattle.name_buckets.proofs.EntryLemmas.{link_last, entry_long}

@@ -1,5 +1,5 @@
 -- What the calls on entries answer.
-use Rattle.std.specs.Prelude.{◌≡◌, ◌≢◌, ℕ, ◌+◌, ◌-◌, ◌<◌, IsTrue, List, [], length, Option, Some, None, Result, Ok, Err, Contains, slice_index, ⊤}
+use Rattle.std.specs.Prelude.{◌≡◌, ℕ, ◌+◌, ◌-◌, ◌<◌, IsTrue, List, length, Option, Some, None, Result, Ok, Err, slice_index, ⊤}
 use Rattle.save_bytes.specs.declared.space.Bad.{Bad}
 use Rattle.save_bytes.specs.State.{State}
 use Rattle.save_bytes.specs.Refusals.{IfDamaged, NeverDamaged}
@@ -39,7 +39,7 @@ pub record HasCause {A : Type 0} (s : State) (kind : EntryKind) (info : TableInf
   pub damaged : IsTrue s.told → Rule → IfDamaged (bad_of result) (BlamesNeeded kind info s.cells)
   pub plain : IsTrue s.shape.plain → NeverDamaged (bad_of result)
   pub broken : IsTrue s.told → IfBroken result Fails
-  pub entries : NeverNoEntry result
+  pub never_full : NeverNoEntry result
 
 -- the entry with this parent and name, the root left out
 pub record IsEntryOf (kind : EntryKind) (t : Table) (parent : ℕ) (name : List ℕ) (e : ℕ) : Type 0 where

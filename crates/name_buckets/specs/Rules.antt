@@ -1,8 +1,8 @@
 -- The rules of tables and buckets, on whole lists and sets.
-use Rattle.std.specs.Prelude.{◌≡◌, ◌≢◌, ℕ, ◌+◌, ◌<◌, ◌≤◌, List, length, replicate, nat_eq, All, Contains}
+use Rattle.std.specs.Prelude.{◌≡◌, ◌≢◌, ℕ, ◌<◌, ◌≤◌, List, length, replicate, nat_eq, All, Contains}
 use Rattle.std.specs.List.{IsDistinct}
 use Rattle.name_buckets.specs.declared.table.EntryKind.{EntryKind}
-use Rattle.name_buckets.specs.declared.table.EntryKind.TheVariants.{Dir, File}
+use Rattle.name_buckets.specs.declared.table.EntryKind.TheVariants.{Dir}
 use Rattle.name_buckets.specs.Kinds.{least_freed, IsRoot}
 use Rattle.name_buckets.specs.Hash.{bucket_number}
 use Rattle.name_buckets.specs.Tables.{Table, Tables}

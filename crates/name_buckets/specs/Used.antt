@@ -1,7 +1,7 @@
 -- Which entries there are: sets of numbers, by parent. No list of siblings or of a bucket is followed to find them.
-use Rattle.std.specs.Prelude.{◌≡◌, ◌≢◌, ℕ, ◌<◌, ◌≤◌, List, [], ◌∷◌, ◌++◌, Contains, map, reverse}
+use Rattle.std.specs.Prelude.{◌≡◌, ℕ, ◌<◌, ◌≤◌, List, [], ◌∷◌, ◌++◌, Contains, map, reverse}
 use Rattle.name_buckets.specs.declared.table.EntryKind.{EntryKind}
-use Rattle.name_buckets.specs.declared.table.EntryKind.TheVariants.{Dir, File}
+use Rattle.name_buckets.specs.declared.table.EntryKind.TheVariants.{Dir}
 use Rattle.name_buckets.specs.Kinds.{IsRoot}
 use Rattle.name_buckets.specs.Tables.{Table, Tables}
 use Rattle.name_buckets.specs.Links.{LeadsTo, IsLinked}

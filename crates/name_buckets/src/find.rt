@@ -74,7 +74,7 @@ pub(crate) fn find_in<S: Space>(
         → IfOk result (IsFound kind (table_in (S.state space.old).cells kind info) parent name.now.0) }
     ensures cause { HasCause (S.state space.old) kind info (HasBucketLists kind (table_in (S.state space.old).cells kind info))
         (λ table entry. (table ≡ bucket_table kind) × (entry ≡ bucket_number parent name.now.0 info.buckets)
-            × IsBrokenBucket kind (table_in (S.state space.old).cells kind info) entry) result }
+        × IsBrokenBucket kind (table_in (S.state space.old).cells kind info) entry) result }
     ensures reads { Reads S.state S.keeps S.lands space.old space.new (bad_of result) }
 {
     let count = read_counts(space, kind, info)?.count;

@@ -4,17 +4,21 @@ ghost use Rattle.std.proofs.lemmas.Bool.{false≢true};
 ghost use Rattle.name_buckets.specs.InOrder.{untold_state};
 ghost use Rattle.name_buckets.specs.InOrder.{HasEntriesBefore, FollowInOrder};
 ghost use Rattle.name_buckets.specs.Rules.{HasBucketLists};
-ghost use Rattle.name_buckets.specs.Held.{space_of, tables_of, IsLaidOut, ReadsEntries};
-ghost use Rattle.name_buckets.specs.Replies.{bad_of};
+ghost use Rattle.name_buckets.specs.Layout.{HasCounts};
+ghost use Rattle.name_buckets.specs.Held.{space_of, tables_of, place_of, IsLaidOut};
 
 use super::*;
 use save_bytes::{Bad, MemSpace, Name, Space, set_u32, set_u64, u32_at};
 
 /// Names of one byte.
 const A: Name = Name(*b"a\0\0\0\0\0\0\0\0\0\0\0\0\0\0\0");
+
 const D: Name = Name(*b"d\0\0\0\0\0\0\0\0\0\0\0\0\0\0\0");
+
 const J: Name = Name(*b"j\0\0\0\0\0\0\0\0\0\0\0\0\0\0\0");
+
 const P: Name = Name(*b"p\0\0\0\0\0\0\0\0\0\0\0\0\0\0\0");
+
 const X: Name = Name(*b"x\0\0\0\0\0\0\0\0\0\0\0\0\0\0\0");
 
 /// Where the tables stand: room for 10 directories and 9 files.
@@ -23,6 +27,7 @@ const DIRS: TableInfo = TableInfo {
     buckets: 9,
     table_at: 1024,
 };
+
 const FILES: TableInfo = TableInfo {
     buckets_at: 172,
     buckets: 9,
@@ -73,6 +78,7 @@ enum Call {
     Name(EntryKind, u32),
     Fields(u32),
     Free(EntryKind),
+    FindName(EntryKind, u32, Name),
 }
 
 #[derive(Clone, Copy, Debug, PartialEq)]
@@ -115,6 +121,28 @@ fn reply_to(bytes: &mut [u8], call: Call) -> Reply {
     answer(&mut entries, call)
 }
 
+// The name of the entry that was found, which is the one that was sought.
+fn found_name<S: Space>(
+    entries: &mut Entries<S>,
+    kind: EntryKind,
+    parent: u32,
+    name: &Name,
+) -> Result<Option<Name>, EntryFault>
+    requires { IsLaidOut S.state entries.old }
+    ensures { HasCounts (space_of S.state entries.old) (place_of entries.old kind)
+        → HasBucketLists kind ((tables_of S.state entries.old).table kind)
+        → IfOk result (λ found. IfSome found (λ its. its.0 ≡ name.now.0)) }
+{
+    match entries.find(kind, parent, name) {
+        Ok(Some(entry)) => match entries.name(kind, entry) {
+            Ok(its) => Ok(Some(its)),
+            Err(fault) => Err(fault),
+        },
+        Ok(None) => Ok(None),
+        Err(fault) => Err(fault),
+    }
+}
+
 fn answer<S: Space>(entries: &mut Entries<S>, call: Call) -> Reply
     requires { IsLaidOut S.state entries.old }
 {
@@ -125,6 +153,11 @@ fn answer<S: Space>(entries: &mut Entries<S>, call: Call) -> Reply
         Call::Name(kind, entry) => Reply::Named(entries.name(kind, entry)),
         Call::Fields(entry) => Reply::Fields(entries.fields(entry)),
         Call::Free(kind) => Reply::Number(entries.free(kind)),
+        Call::FindName(kind, parent, name) => match found_name(entries, kind, parent, &name) {
+            Ok(Some(its)) => Reply::Named(Ok(its)),
+            Ok(None) => Reply::Found(Ok(None)),
+            Err(fault) => Reply::Named(Err(fault)),
+        },
     }
 }
 
@@ -179,6 +212,11 @@ fn the_entries_of_a_tree_are_read(rt: HostRuntime) {
         (Call::Fields(1), Reply::Fields(Ok(fields))),
         (Call::Free(EntryKind::Dir), Reply::Number(Ok(7))),
         (Call::Free(EntryKind::File), Reply::Number(Ok(7))),
+        (Call::FindName(EntryKind::File, 2, X), Reply::Named(Ok(X))),
+        (
+            Call::FindName(EntryKind::File, 1, X),
+            Reply::Found(Ok(None)),
+        ),
     ] {
         assert_eq!(rt; reply_to(&mut bytes, call), want);
     }
@@ -283,7 +321,10 @@ fn a_freed_entry_that_names_a_wrong_number_is_named(rt: HostRuntime) {
         let mut bytes = freed_tree();
         set_u32(&mut bytes, at, number);
         let room = reply_to(&mut bytes, Call::Free(EntryKind::File));
-        assert_eq!(rt; room, Reply::Number(Err(EntryFault::Broken { table: 3, entry })));
+        assert_eq!(rt;
+            room,
+            Reply::Number(Err(EntryFault::Broken { table: 3, entry }))
+        );
     }
 }
 
@@ -291,9 +332,10 @@ fn a_freed_entry_that_names_a_wrong_number_is_named(rt: HostRuntime) {
 fn freed_entries_that_name_each_other_in_a_circle_are_named(rt: HostRuntime) {
     let mut bytes = freed_tree();
     set_u32(&mut bytes, 1724, 4);
-    let Reply::Number(Err(EntryFault::Broken { table, entry })) =
-        reply_to(&mut bytes, Call::Free(EntryKind::File))
-    else {
+    let Reply::Number(Err(EntryFault::Broken { table, entry })) = reply_to(
+        &mut bytes,
+        Call::Free(EntryKind::File),
+    ) else {
         panic!(&rt; "no rule failed");
     };
     assert_eq!(rt; table, 3);
@@ -363,14 +405,38 @@ fn each_call_returns_over_a_space_that_tells_nothing(rt: HostRuntime) {
     let broken = EntryFault::Broken { table: 5, entry: 5 };
     let no_freed = EntryFault::Broken { table: 2, entry: 0 };
     for (byte, call, want) in [
-        (0, Call::Find(EntryKind::File, 2, X), Reply::Found(Err(broken))),
-        (1, Call::Find(EntryKind::File, 2, X), Reply::Found(Err(broken))),
+        (
+            0,
+            Call::Find(EntryKind::File, 2, X),
+            Reply::Found(Err(broken)),
+        ),
+        (
+            1,
+            Call::Find(EntryKind::File, 2, X),
+            Reply::Found(Err(broken)),
+        ),
         (0, Call::Free(EntryKind::Dir), Reply::Number(Err(no_freed))),
         (1, Call::Free(EntryKind::Dir), Reply::Number(Err(no_freed))),
-        (1, Call::First(EntryKind::Dir, 1), Reply::Number(Ok(0x0101_0101))),
-        (1, Call::Next(EntryKind::Dir, u32::MAX), Reply::Number(Ok(0))),
-        (1, Call::Name(EntryKind::File, 1), Reply::Named(Ok(Name([1; 16])))),
-        (1, Call::Name(EntryKind::File, 1000), Reply::Named(Ok(Name([0; 16])))),
+        (
+            1,
+            Call::First(EntryKind::Dir, 1),
+            Reply::Number(Ok(0x0101_0101)),
+        ),
+        (
+            1,
+            Call::Next(EntryKind::Dir, u32::MAX),
+            Reply::Number(Ok(0)),
+        ),
+        (
+            1,
+            Call::Name(EntryKind::File, 1),
+            Reply::Named(Ok(Name([1; 16]))),
+        ),
+        (
+            1,
+            Call::Name(EntryKind::File, 1000),
+            Reply::Named(Ok(Name([0; 16]))),
+        ),
     ] {
         assert_eq!(rt; answer_untold(byte, call), want);
     }

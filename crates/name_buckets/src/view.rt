@@ -54,7 +54,7 @@ impl<'a, S: Space> Entries<'a, S> {
         ensures cause { let t = (tables_of S.state self.old).table kind in
             HasCause (space_of S.state self.old) kind (place_of self.old kind) (HasBucketLists kind t)
             (λ table entry. (table ≡ bucket_table kind) × (entry ≡ bucket_number parent name.now.0 t.buckets)
-                × IsBrokenBucket kind t entry) result }
+            × IsBrokenBucket kind t entry) result }
         ensures reads { ReadsEntries S.state S.keeps S.lands self.old self.new (bad_of result) }
     {
         let info = self.info(kind);

@@ -1,14 +1,11 @@
-use Rattle.std.proofs.Common.{◌≡◌, ℕ, ◌+◌, ◌*◌, ◌<◌, ◌≤◌, IsTrue, Some, None, refl, sym, ◌∙◌, ap, subst, arith}
-use Rattle.save_bytes.specs.State.{State}
+use Rattle.std.proofs.Common.{◌≡◌, ◌+◌, ◌*◌, ◌<◌, ◌≤◌, Some, None, refl, sym, ◌∙◌, arith}
 use Rattle.save_bytes.proofs.CallLemmas.{Reads-join}
 use Rattle.name_buckets.specs.Hash.{bucket_number}
-use Rattle.name_buckets.specs.Kinds.{bucket_table, entry_size}
+use Rattle.name_buckets.specs.Kinds.{entry_size}
 use Rattle.name_buckets.specs.Tables.{table_in, entry_place, bucket_place}
-use Rattle.name_buckets.specs.Rules.{HasBucketLists, IsBrokenBucket}
 use Rattle.name_buckets.specs.Layout.{OfBucket, OfUsed}
-use Rattle.name_buckets.specs.Looks.{Matches}
 use Rattle.name_buckets.proofs.EntryLemmas.{least_some}
-use Rattle.name_buckets.proofs.StayLemmas.{now_told, number_stays, count_stays, head_stays, HasTable-stays, entry_fits, entry_stays, needed_read, fault_read, IfDamaged-map}
+use Rattle.name_buckets.proofs.StayLemmas.{now_told, count_stays, head_stays, HasTable-stays, entry_fits, entry_stays, needed_read, fault_read, IfDamaged-map}
 use Rattle.name_buckets.proofs.CauseLemmas.{passed_on, bad_cause, broken_cause, plain_stays}
 use Rattle.name_buckets.proofs.FindLemmas.{HasPassed-none, HasPassed-more, Matches-stays, Matches-was, passed_stands, match_found, none_found, broken_past, broken_long}
 use Rattle.name_buckets.proofs.find.find_in.Goals as goal
@@ -73,7 +70,7 @@ returns-then-entry-count-clause-cause g c =
       c.bucket_table.ensures,
       c.bucket-number.ensures.number,
       rw c.bucket-number.ensures.number
-      (broken_past c.args.kind t c.args.parent c.args.name.now.0 own c.loop-step._step c.loop-step.entry (c.loop-step.invariant.passed told) c.if-entry-eq0.false below (omega (arith, c.if-entry-count.true, c.in_ok-count.ensures.count told))),
+          (broken_past c.args.kind t c.args.parent c.args.name.now.0 own c.loop-step._step c.loop-step.entry (c.loop-step.invariant.passed told) c.if-entry-eq0.false below (omega (arith, c.if-entry-count.true, c.in_ok-count.ensures.count told))),
     ))
 
 pub look_at-requires : goal.look_at-requires
@@ -164,7 +161,7 @@ returns-clause-cause g c =
       c.bucket_table.ensures,
       c.bucket-number.ensures.number,
       (let counted = c.in_ok-count.ensures.count told in
-      let some : 1 ≤ t.count = omega (arith, least_some kind, c.requires.least (c.in_ok-count.ensures.known told)) in
-      rw c.bucket-number.ensures.number
-      (broken_long kind t c.args.parent c.args.name.now.0 own c.loop-step._step c.loop-step.entry (c.loop-step.invariant.passed told) below (omega (arith, counted, c.loop-step-test.false)) some)),
+          let some : 1 ≤ t.count = omega (arith, least_some kind, c.requires.least (c.in_ok-count.ensures.known told)) in
+          rw c.bucket-number.ensures.number
+          (broken_long kind t c.args.parent c.args.name.now.0 own c.loop-step._step c.loop-step.entry (c.loop-step.invariant.passed told) below (omega (arith, counted, c.loop-step-test.false)) some)),
     ))

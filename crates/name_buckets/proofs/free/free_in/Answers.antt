@@ -1,4 +1,4 @@
-use Rattle.std.proofs.Common.{◌≡◌, ℕ, ◌+◌, ◌-◌, ◌<◌, ◌≤◌, IsTrue, Some, None, refl, sym, ◌∙◌, ap, subst, arith}
+use Rattle.std.proofs.Common.{◌+◌, ◌<◌, ◌≤◌, Some, None, refl, sym, ◌∙◌, arith}
 use Rattle.save_bytes.proofs.CallLemmas.{Reads-join}
 use Rattle.name_buckets.specs.Kinds.{table_number, link_offset}
 use Rattle.name_buckets.specs.Tables.{table_in, entry_place}
@@ -85,19 +85,19 @@ returns-then-next-least_freed-clause-cause g c =
     (λ told. (
       refl,
       (let known = c.in_ok-counts.ensures.known told in
-      let some : 1 ≤ t.count = omega (arith, least_some kind, c.requires.least known) in
-      let followed = c.loop-freed.invariant.followed told in
-      let below = followed_below kind t c.loop-freed.freed from some followed in
-      let in_mid : from < (table_in mid.cells kind info).count = omega (arith, below, count_stays old mid stays kind info c.requires told) in
-      let next = last_word old mid stays kind info c.requires known from below c.in_ok-next.next c.link_offset.result c.link_offset.ensures (c.in_ok-next.ensures.word (now_told old mid stays told) in_mid) in
-      let counted = c.in_ok-counts.ensures.count told in
-      let cannot : ¬ CanBeFreed kind t c.in_ok-next.next = λ can.
-        elim c.then-next-least_freed.branch [
-          then-next-least_freed-via-then-next-least_freed w ↦ omega (arith, can.0, w.if-next-least_freed.true, c.least_freed.ensures)
-          | then-next-least_freed-via-else-next-least_freed+then-next-counts w ↦ omega (arith, can.1, w.if-next-counts.true, counted)
-        ]
-      in
-      wrong_number kind t c.loop-freed.freed from c.in_ok-next.next followed next c.if-next-eq0.false cannot),
+          let some : 1 ≤ t.count = omega (arith, least_some kind, c.requires.least known) in
+          let followed = c.loop-freed.invariant.followed told in
+          let below = followed_below kind t c.loop-freed.freed from some followed in
+          let in_mid : from < (table_in mid.cells kind info).count = omega (arith, below, count_stays old mid stays kind info c.requires told) in
+          let next = last_word old mid stays kind info c.requires known from below c.in_ok-next.next c.link_offset.result c.link_offset.ensures (c.in_ok-next.ensures.word (now_told old mid stays told) in_mid) in
+          let counted = c.in_ok-counts.ensures.count told in
+          let cannot : ¬ CanBeFreed kind t c.in_ok-next.next = λ can.
+          elim c.then-next-least_freed.branch [
+            | then-next-least_freed-via-then-next-least_freed w ↦ omega (arith, can.0, w.if-next-least_freed.true, c.least_freed.ensures)
+            | then-next-least_freed-via-else-next-least_freed+then-next-counts w ↦ omega (arith, can.1, w.if-next-counts.true, counted)
+          ]
+          in
+          wrong_number kind t c.loop-freed.freed from c.in_ok-next.next followed next c.if-next-eq0.false cannot),
     )))
 
 pub loop-freed-preserved : goal.loop-freed-preserved
@@ -134,5 +134,5 @@ returns-clause-cause g c =
     (λ told. (
       refl,
       (let some : 1 ≤ t.count = omega (arith, least_some kind, c.requires.least (c.in_ok-counts.ensures.known told)) in
-      named_before kind t c.loop-freed.freed c.loop-freed.from (c.loop-freed.invariant.followed told) (omega (arith, c.loop-freed-test.false, c.in_ok-counts.ensures.count told)) some),
+          named_before kind t c.loop-freed.freed c.loop-freed.from (c.loop-freed.invariant.followed told) (omega (arith, c.loop-freed-test.false, c.in_ok-counts.ensures.count told)) some),
     )))

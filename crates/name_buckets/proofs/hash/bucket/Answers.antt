@@ -1,4 +1,4 @@
-use Rattle.std.proofs.Common.{rules, refl}
+use Rattle.std.proofs.Common.{refl}
 use Rattle.name_buckets.specs.Hash.{name_hash}
 use Rattle.name_buckets.proofs.hash.bucket.Goals as goal
 
