@@ -84,7 +84,8 @@ impl EntryKind {
     }
 }
 
-/// Where a table and its buckets stand in a space: byte places, and how many buckets there are.
+/// Where a table and its buckets stand in a space: the places of the first bucket and of entry 0, in bytes, and how
+/// many buckets there are, at least one.
 #[derive(Clone, Copy, Debug, PartialEq, Eq)]
 pub struct TableInfo {
     pub buckets_at: u64,

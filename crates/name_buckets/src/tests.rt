@@ -3,7 +3,7 @@ ghost use Rattle.std.proofs.Common.{lit<};
 ghost use Rattle.std.proofs.lemmas.Bool.{false≢true};
 ghost use Rattle.name_buckets.specs.InOrder.{untold_state};
 ghost use Rattle.name_buckets.specs.InOrder.{HasEntriesBefore, FollowInOrder};
-ghost use Rattle.name_buckets.specs.Rules.{HasBucketLists};
+ghost use Rattle.name_buckets.specs.Rules.{IsOrderly};
 ghost use Rattle.name_buckets.specs.Layout.{HasCounts};
 ghost use Rattle.name_buckets.specs.Held.{space_of, tables_of, place_of, IsLaidOut};
 
@@ -130,7 +130,7 @@ fn found_name<S: Space>(
 ) -> Result<Option<Name>, EntryFault>
     requires { IsLaidOut S.state entries.old }
     ensures { HasCounts (space_of S.state entries.old) (place_of entries.old kind)
-        → HasBucketLists kind ((tables_of S.state entries.old).table kind)
+        → IsOrderly (tables_of S.state entries.old)
         → IfOk result (λ found. IfSome found (λ its. its.0 ≡ name.now.0)) }
 {
     match entries.find(kind, parent, name) {

@@ -23,6 +23,9 @@ use save_bytes::{Name, Space};
 /// entry 0 of a table, its buckets, its used entries and the last words of the freed ones. It is refused with `Broken`
 /// only where a rule fails at the entry, or the bucket, that it names. Over a space that tells nothing each call is
 /// safe, and returns.
+///
+/// What is said of an entry's fields is said of entries below the count of their table. Another number is read as if
+/// it were an entry where it lies in the space, and as zeros where it does not.
 #[derive(Drop)]
 pub struct Entries<'a, S: Space> {
     space: &'a mut S,
