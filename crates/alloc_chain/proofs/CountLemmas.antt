@@ -53,6 +53,15 @@ count_between-split low middle high [] h k = refl
 count_between-split low middle high (y ∷ list) h k =
     omega (arith, hit_split low middle high y h k, count_between-split low middle high list h k, count_between-cons low high y list, count_between-cons low middle y list, count_between-cons (middle + 1) high y list)
 
+-- between no numbers lies none
+pub count_between-none : (low high : ℕ) (list : List ℕ) → high < low → count_between low high list ≡ 0
+count_between-none low high [] h = refl
+count_between-none low high (y ∷ list) h =
+    ⊎_elim
+    (λ (below : y < low). omega (arith, count_between-cons low high y list, hit_below low high y below, count_between-none low high list h))
+    (λ (from : low ≤ y). omega (arith, count_between-cons low high y list, hit_above low high y (omega arith), count_between-none low high list h))
+    (cases_lt y low)
+
 -- in a run
 hit_range : (low high a n : ℕ) → min (a + 1 + n) (high + 1) - max (a + 1) low + hit low high a ≡ min (a + suc n) (high + 1) - max a low
 hit_range low high a n =
@@ -93,9 +102,6 @@ count_between-one x [] = refl
 count_between-one x (y ∷ list) =
     let here : occurrences x (y ∷ list) ≡ cond (eqb y x) 1 0 + occurrences x list = sum_by-cons (λ z. cond (eqb z x) 1 0) y list in
     omega (arith, hit_one x y, count_between-one x list, count_between-cons x x y list)
-
-pub occurrences-append : (x : ℕ) (xs ys : List ℕ) → occurrences x (xs ++ ys) ≡ occurrences x xs + occurrences x ys
-occurrences-append x xs ys = sum_by-append (λ y. cond (eqb y x) 1 0) xs ys
 
 -- in the run of a node
 pub node_between : (low high first last : ℕ) → first ≤ last → count_between low high (range_with_len first (last + 1 - first)) ≡ min last high + 1 - max first low

@@ -1,5 +1,5 @@
 -- Where the table is as it should be, no call on a list fails but for the disk's sake.
-use Rattle.std.proofs.Common.{◌≡◌, ℕ, ◌+◌, ◌-◌, ◌^◌, ◌<◌, ◌≤◌, IsTrue, List, [], ◌∷◌, ◌++◌, length, Result, Ok, Err, IfOk, refl, sym, ◌∙◌, ap, subst, arith, inl, ⊎_elim, length-append}
+use Rattle.std.proofs.Common.{◌≡◌, ℕ, zero, suc, ◌+◌, ◌-◌, ◌^◌, ◌<◌, ◌≤◌, IsTrue, List, [], ◌∷◌, ◌++◌, length, Result, Ok, Err, IfOk, refl, sym, ◌∙◌, ap, subst, arith, inl, ⊎_elim, length-append}
 use Rattle.std.proofs.lemmas.List.{append-nil, get_or_append_left, get_or-append-add}
 use Rattle.std.proofs.lemmas.Bool.{cases_lt}
 use Rattle.std.specs.Result.{result_err}
@@ -25,8 +25,31 @@ use Rattle.alloc_chain.specs.Faults.IsFreeBroken.{AtRoot, InList}
 use Rattle.alloc_chain.specs.Faults.IsFreeNeeded.{Root, Listed}
 use Rattle.alloc_chain.specs.Runs.{DoneUnlessDisk, IsRunIn, IsRestOfNode}
 use Rattle.alloc_chain.proofs.ListLemmas.{entries_of-append}
-use Rattle.alloc_chain.proofs.CountLemmas.{occurrences-append}
+use Rattle.alloc_chain.specs.Between.{count_between}
+use Rattle.alloc_chain.proofs.CountLemmas.{count_between-split, count_between-none, count_between-one, count_between-all}
 use Rattle.alloc_chain.proofs.FrontLemmas.{front_of, same_node, start_small}
+
+-- of numbers that stand once each there are no more than there are numbers
+few_between : (n : ℕ) (list : List ℕ) → ((x : ℕ) → occurrences x list ≤ 1) → count_between 1 n list ≤ n
+few_between zero list once = omega (arith, count_between-none 1 0 list (omega arith))
+few_between (suc n) list once =
+    let last : count_between (n + 1) (n + 1) list ≤ 1 = omega (arith, count_between-one (n + 1) list, once (n + 1)) in
+    let all : count_between 1 (n + 1) list ≤ n + 1 =
+    ⊎_elim
+    (λ (some : 0 < n). omega (arith, last, few_between n list once, count_between-split 1 n (n + 1) list (omega arith) (omega arith)))
+    (λ (none : n ≤ 0).
+    let zero_n : n ≡ 0 = omega arith in
+    let here : count_between 1 (n + 1) list ≤ 1 = subst (λ (m : ℕ). count_between (m + 1) (n + 1) list ≤ 1) zero_n last in
+    omega (arith, here))
+    (cases_lt 0 n) in
+    let next : n + 1 ≡ suc n = omega arith in
+    subst (λ (m : ℕ). count_between 1 m list ≤ m) next all
+
+-- so a chain has no more blocks than the table
+pub chain_few : (table : ℕ → ℕ → Cell) (count : ℕ) (lead : Lead) (first : ℕ) (list : List ℕ) → IsLinked table count lead first list → ((x : ℕ) → occurrences x list ≤ 1) → length list ≤ count
+chain_few table count lead first list linked once =
+    let all : count_between 1 count list ≡ length list = subst (λ (l : List ℕ). count_between 1 count l ≡ length l) linked.entries (count_between-all table count lead linked.nodes 0 linked.linked) in
+    omega (arith, all, few_between count list once)
 
 module _ (table : ℕ → ℕ → Cell) (count : ℕ) (few : count < 2 ^ 31) where
   module _ (lead : Lead) (node : Node) (next : ℕ) (inside : next ≤ count) (h : IsNode table count lead node next) where
@@ -93,17 +116,20 @@ module _ (table : ℕ → ℕ → Cell) (count : ℕ) (few : count < 2 ^ 31) whe
         let rest = front_of table count few lead fails.nodes linked.nodes fails.next 0 fails.named.inside (omega arith) fails.linked linked.linked (fails.starts ∙ sym linked.starts) (inl refl) in
         no_fault_in (lead_after lead fails.nodes) rest.rest fails.next entry rest.linked rest.starts fails.named.some fails.faulty
 
-    -- no entry has two places
-    no_sharing : (entry : ℕ) → ((x : ℕ) → occurrences x list ≤ 1) → (shared : IsShared table count lead first entry) → ⊥
-    no_sharing entry once shared =
+    -- nor does an entry have two places, where the list is no longer than the table
+    no_sharing : length list ≤ count → (entry : ℕ) → ¬ IsShared table count lead first entry
+    no_sharing small entry shared =
         let rest = front_of table count few lead shared.nodes linked.nodes shared.next 0 shared.named (omega arith) shared.linked linked.linked (shared.starts ∙ sym linked.starts) (inl refl) in
         let whole : list ≡ entries_of shared.nodes ++ entries_of rest.rest = sym linked.entries ∙ ap entries_of rest.whole ∙ entries_of-append shared.nodes rest.rest in
-        let twice : occurrences entry (entries_of shared.nodes ++ entries_of rest.rest) ≤ 1 = subst (λ (l : List ℕ). occurrences entry l ≤ 1) whole (once entry) in
-        omega (arith, twice, occurrences-append entry (entries_of shared.nodes) (entries_of rest.rest), shared.twice)
+        omega (arith, small, shared.many, ap length whole, length-append (entries_of shared.nodes) (entries_of rest.rest))
 
-    pub no_break : ((x : ℕ) → occurrences x list ≤ 1) → (entry : ℕ) → ¬ IsBroken table count lead first entry
-    no_break once entry (Unlike read fails) = no_failure entry fails
-    no_break once entry (Shared shared) = no_sharing entry once shared
+    -- what begins a list lies in the table
+    pub linked_first : first ≤ count
+    linked_first = omega (arith, linked.starts, start_in lead linked.nodes linked.linked)
+
+    pub no_break : length list ≤ count → (entry : ℕ) → ¬ IsBroken table count lead first entry
+    no_break small entry (Unlike read fails) = no_failure entry fails
+    no_break small entry (Shared shared) = no_sharing small entry shared
 
     -- the table fixes the list
     pub same_list : (other : List ℕ) → IsLinked table count lead first other → other ≡ list
@@ -155,7 +181,7 @@ no_words table entry part level block words (k, small, blames) = no_byte (table 
 -- nothing fails in the free list
 pub no_free_break : (table : ℕ → ℕ → Cell) (count : ℕ) (list : List ℕ) → count < 2 ^ 31 → IsLinked table count OpensFree (index_of (word_v table 0)) list → ((x : ℕ) → occurrences x list ≤ 1) → (entry : ℕ) → ¬ IsFreeBroken table count entry
 no_free_break table count list few linked once entry (AtRoot is read above) = omega (arith, linked.starts, start_in table count few OpensFree linked.nodes linked.linked)
-no_free_break table count list few linked once entry (InList broken) = no_break table count few OpensFree (index_of (word_v table 0)) list linked once entry broken
+no_free_break table count list few linked once entry (InList broken) = no_break table count few OpensFree (index_of (word_v table 0)) list linked (chain_few table count OpensFree (index_of (word_v table 0)) list linked once) entry broken
 
 pub no_free_need : (table : ℕ → ℕ → Cell) (count : ℕ) (list : List ℕ) → count < 2 ^ 31 → HasWords table 0 → IsLinked table count OpensFree (index_of (word_v table 0)) list → (entry part level block : ℕ) → IsFreeNeeded table count entry → ¬ HasFault table entry part level block
 no_free_need table count list few words linked entry part level block (Root is) fault = no_words table 0 part level block words (subst (λ (e : ℕ). HasFault table e part level block) is fault)

@@ -7,3 +7,8 @@ pub mod FrontLemmas
 pub mod SharedLemmas
 pub mod ReadLemmas
 pub mod ExactLemmas
+pub mod WalkLemmas
+pub mod ShownLemmas
+pub mod JoinLemmas
+pub mod ViewLemmas
+pub mod PieceLemmas

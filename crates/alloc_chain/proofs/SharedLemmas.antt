@@ -87,8 +87,8 @@ module _ (table : ℕ → ℕ → Cell) (count : ℕ) (lead : Lead) (first : ℕ
   crowded_back low middle high h k crowded front = omega (arith, count_between-split low middle high (entries_of whole.nodes) h (omega arith))
 
   -- a number that is crowded alone has two places
-  pub crowded_one : (x high : ℕ) → high ≡ x → high + 1 - x < count_between x high (entries_of whole.nodes) → IsShared table count lead first x
-  crowded_one x high same crowded =
+  pub crowded_one : (x high : ℕ) → count < end.passed → high ≡ x → high + 1 - x < count_between x high (entries_of whole.nodes) → IsShared table count lead first x
+  crowded_one x high many same crowded =
       let here : x + 1 - x < count_between x x (entries_of whole.nodes) = subst (λ (h : ℕ). h + 1 - x < count_between x h (entries_of whole.nodes)) same crowded in
       record {
         nodes = whole.nodes;
@@ -96,5 +96,6 @@ module _ (table : ℕ → ℕ → Cell) (count : ℕ) (lead : Lead) (first : ℕ
         linked = whole.linked;
         starts = whole.starts;
         named = whole.named;
+        many = omega (arith, many, whole.behind);
         twice = omega (arith, here, count_between-one x (entries_of whole.nodes));
       }

@@ -1,5 +1,5 @@
 -- At which entries of a list the table is not as it should be, and which fault of a call comes when.
-use Rattle.std.specs.Prelude.{◌≡◌, ℕ, ◌+◌, ◌^◌, ◌<◌, ◌≤◌, IsTrue, List, Option, Some, None, ⊤}
+use Rattle.std.specs.Prelude.{◌≡◌, ℕ, ◌+◌, ◌^◌, ◌<◌, ◌≤◌, IsTrue, List, length, Option, Some, None, ⊤}
 use Rattle.save_bytes.specs.declared.space.Bad.{Bad}
 use Rattle.save_bytes.specs.Cells.{Cell}
 use Rattle.save_bytes.specs.State.{State}
@@ -47,13 +47,15 @@ pub record FailsAt (table : ℕ → ℕ → Cell) (count : ℕ) (lead : Lead) (f
   pub named : IsEntry count next
   pub faulty : IsFaulty table count (lead_after lead nodes) next entry
 
--- from `first` on some nodes are as they should be, but this entry has two places in them
+-- From `first` on some nodes are as they should be, but have more entries than the table, so that some have two places in
+-- them. This entry is one of those.
 pub record IsShared (table : ℕ → ℕ → Cell) (count : ℕ) (lead : Lead) (first entry : ℕ) : Type 0 where
   pub nodes : List Node
   pub next : ℕ
   pub linked : AreNodes table count lead nodes next
   pub starts : start_of nodes next ≡ first
   pub named : next ≤ count
+  pub many : count < length (entries_of nodes)
   pub twice : 2 ≤ occurrences entry (entries_of nodes)
 
 -- the list from `first` on is broken at this entry: its words are not as they should be, or it has two places

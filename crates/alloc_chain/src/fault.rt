@@ -1,5 +1,8 @@
 //! Why a call on a chain fails.
 
+ghost use Rattle.std.specs.Prelude.{◌≡◌, ◌↔◌, IsTrue};
+ghost use Rattle.save_bytes.specs.declared.space.Bad.TheVariants.{Disk};
+
 use save_bytes::Bad;
 use thiserror::Error;
 
@@ -15,4 +18,13 @@ pub enum ChainFault {
     /// There are fewer blocks than are needed.
     #[error("{need} blocks are needed, and there are {have}")]
     Short { need: u64, have: u32 },
+}
+
+impl ChainFault {
+    // Whether the disk below failed.
+    pub(crate) fn is_disk(&self) -> bool
+        ensures { IsTrue result ↔ (self.now ≡ ChainFault.Bad Disk) }
+    {
+        matches!(self, ChainFault::Bad(Bad::Disk))
+    }
 }

@@ -12,7 +12,7 @@ ghost use Rattle.alloc_chain.specs.Runs.{IsPlaceIn, IsAtEnd, HasLength, HasPosit
 use crate::fault::ChainFault;
 use crate::info::{ChainInfo, Run};
 use crate::node::{FLAG, Lead, read_entry};
-use crate::walk::{Cursor, advance, find_run, list_len};
+use crate::walk::{Cursor, advance, list_len, seek};
 use save_bytes::Space;
 
 // The first entry of the free list, or 0.
@@ -104,7 +104,11 @@ pub(crate) fn chain_run<S: Space>(
     if first > info.count {
         return Err(ChainFault::Broken { entry: first });
     }
-    find_run(base, info, Lead::Opens, first, pos)
+    match seek(base, info, Lead::Opens, first, pos) {
+        Ok(Some(run)) => Ok(run),
+        Ok(None) => Err(ChainFault::Broken { entry: first }),
+        Err(fault) => Err(fault),
+    }
 }
 
 /// The run behind a place of a chain, and the place behind that run.

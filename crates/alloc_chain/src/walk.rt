@@ -1,6 +1,6 @@
 //! Going over the nodes of a list.
 
-ghost use Rattle.std.specs.Prelude.{◌≡◌, ℕ, ◌+◌, ◌-◌, ◌^◌, ◌<◌, ◌≤◌, ◌↔◌, IsTrue, IfOk};
+ghost use Rattle.std.specs.Prelude.{◌≡◌, ℕ, ◌+◌, ◌-◌, ◌^◌, ◌<◌, ◌≤◌, ◌↔◌, IsTrue, IfOk, IfSome, MatchOption};
 ghost use Rattle.std.specs.Result.{result_err};
 ghost use Rattle.save_bytes.specs.Cells.{Cell};
 ghost use Rattle.save_bytes.specs.Reads.{Reads};
@@ -163,22 +163,22 @@ pub(crate) fn list_len<S: Space>(
     Ok(cursor.passed as u32)
 }
 
-/// The rest of the node that has the block at a position of the list from `first` on.
-pub(crate) fn find_run<S: Space>(
+/// The rest of the node that has the block at a position of the list from `first` on, or none where the list ends
+/// before.
+pub(crate) fn seek<S: Space>(
     base: &mut S,
     info: ChainInfo,
     lead: Lead,
     first: u32,
     pos: u32,
-) -> Result<Run, ChainFault>
+) -> Result<Option<Run>, ChainFault>
     requires table { HasTable (S.state base.old).shape info }
     requires first { first ≤ info.count }
-    requires pos { IsTrue (S.state base.old).told
-        → HasPosition (table_in (S.state base.old).cells info) info.count lead first pos }
-    ensures some { IfOk result (λ run. 1 ≤ run.len) }
-    ensures inside { IfOk result (λ run. run.block + run.len ≤ info.count) }
-    ensures run { IsTrue (S.state base.old).told
-        → IfOk result (IsRestOfNode (table_in (S.state base.old).cells info) info.count lead first pos) }
+    ensures some { IfOk result (λ found. IfSome found (λ run. 1 ≤ run.len)) }
+    ensures inside { IfOk result (λ found. IfSome found (λ run. run.block + run.len ≤ info.count)) }
+    ensures run { let table = table_in (S.state base.old).cells info in IsTrue (S.state base.old).told
+        → IfOk result (λ found. MatchOption found (¬ HasPosition table info.count lead first pos)
+        (IsRestOfNode table info.count lead first pos)) }
     ensures faults { let table = table_in (S.state base.old).cells info in
         FaultsOnly (S.state base.old) info (IsBroken table info.count lead first) (FailsAt table info.count lead first)
         (result_err result) }
@@ -192,12 +192,11 @@ pub(crate) fn find_run<S: Space>(
         };
         if u64::from(pos) < behind.passed {
             let skipped = pos - cursor.passed as u32;
-            return Ok(Run {
-                block: run.block + skipped,
-                len: run.len - skipped,
-            });
+            let block = run.block + skipped;
+            let len = run.len - skipped;
+            return Ok(Some(Run { block, len }));
         }
         cursor = behind;
     }
-    Err(ChainFault::Broken { entry: first })
+    Ok(None)
 }

@@ -2,7 +2,7 @@ use Rattle.std.proofs.Common.{◌≡◌, ◌+◌, ◌-◌, ◌≤◌, IsTrue, No
 use Rattle.save_bytes.specs.Reads.{Reads}
 use Rattle.alloc_chain.specs.Table.{table_in}
 use Rattle.alloc_chain.specs.Runs.{IsReached}
-use Rattle.alloc_chain.proofs.walk.find_run.Given as goal
+use Rattle.alloc_chain.proofs.walk.seek.Given as goal
 
 abbrev pub invariant-loop-cursor : goal.invariant-loop-cursor
 invariant-loop-cursor g l = record {

@@ -2,7 +2,7 @@ use Rattle.std.proofs.Common.{◌-◌, Some, None, ◌∙◌, arith}
 use Rattle.save_bytes.proofs.CallLemmas.{Reads-join}
 use Rattle.alloc_chain.specs.Faults.{refusal_of}
 use Rattle.alloc_chain.proofs.ListLemmas.{list_faults_later, reached_later, reached_before, rest_before}
-use Rattle.alloc_chain.proofs.walk.find_run.Goals as goal
+use Rattle.alloc_chain.proofs.walk.seek.Goals as goal
 
 pub advance-requires-clause-reached : goal.advance-requires-clause-reached
 advance-requires-clause-reached g c =

@@ -1,0 +1,35 @@
+use Rattle.std.proofs.Common.{refl, sym, subst, arith}
+use Rattle.std.specs.Result.{result_err}
+use Rattle.save_bytes.specs.State.{Shape, IsInside}
+use Rattle.save_bytes.proofs.CallLemmas.{Reads-join}
+use Rattle.alloc_chain.specs.ShownLaws.{can_show-true}
+use Rattle.alloc_chain.proofs.ViewLemmas.{view_stays, view_unmoved}
+use Rattle.alloc_chain.proofs.PieceLemmas.{view_piece}
+use Rattle.alloc_chain.proofs.behind.ChainSpaceSpace.piece.Goals as goal
+
+pub piece-requires-clause-inside : goal.piece-requires-clause-inside
+piece-requires-clause-inside g c =
+    let states = g.S.Space.state in
+    let space = c.args.self.now in
+    let room = can_show-true (states space.base.now).shape space.shown.info space.shown.blocks c.requires.inside.sound in
+    let located = c.in-Ok.ensures.located in
+    let here : IsInside (states space.base.now).shape c.in-Ok.run'.0 1 = record { sound = room.table.sound; inside = omega (arith, located.in_base, located.some) } in
+    subst (λ (shape : Shape). IsInside shape c.in-Ok.run'.0 1) (sym c.in-Ok.ensures.reads.stays.space.shape) here
+
+pub returns : goal.returns
+returns g c =
+    let base = g.S.Space in
+    let space = c.args.self.now in
+    let shown = space.shown in
+    let last = c.piece.follows.lender-at-none in
+    let after = c.piece.follows.holds-at-none in
+    let refusal = result_err c.piece.result in
+    let room = can_show-true (base.state space.base.now).shape shown.info shown.blocks c.requires.inside.sound in
+    let reads = Reads-join base.state base.keeps base.lands g.met.S.Space.keeps_join space.base.now c.locate.new.base last refusal c.in-Ok.ensures.reads (record { stays = after.0; unmoved = after.1 }) in
+    let unmoved = view_unmoved base.state base.keeps base.lands space.base.now last shown.info shown.first shown.blocks refusal room reads.stays reads.unmoved in (
+      (refl, λ _. tt, (view_stays (base.state space.base.now) (base.state last) shown.info shown.first shown.blocks refusal room reads.stays, record { frame = (refl, refl, unmoved.frame); spots = λ told spot. (refl, refl, unmoved.spots told spot); reach = unmoved.reach })),
+      record {
+        piece = view_piece (base.state space.base.now) (base.state c.locate.new.base) shown.info shown.first shown.blocks c.args.at c.args.most c.in-Ok.run'.0 c.in-Ok.run'.1 c.in-Ok.ensures.located c.in-Ok.ensures.reads.stays c.piece.result c.piece.ensures.piece;
+        after = tt;
+      },
+    )
