@@ -1,0 +1,75 @@
+use Rattle.std.proofs.Common.{◌≡◌, List, ℕ, Option, None, sym, ◌∙◌, ap, subst}
+use Rattle.std.proofs.lemmas.Result.{err_from_is_err_and}
+use Rattle.save_disk.specs.Tells.{image_told}
+use Rattle.container_header.specs.Sound.{IsSound}
+use Rattle.container.specs.declared.fault.OpenFault.{OpenFault}
+use Rattle.container.specs.Openings.{active_table, digest_fault, parts_fault, IsCaused}
+use Rattle.container.proofs.ReadLemmas.{shown_before}
+use Rattle.container.proofs.FaultLemmas.{caused_by, caused_first, caused_second, none_of_both, table_next}
+use Rattle.container.proofs.open.Container.open.Goals as goal
+
+pub returns-in_err-check_table-clause-caused : goal.returns-in_err-check_table-clause-caused
+returns-in_err-check_table-clause-caused g c =
+    let p = err_from_is_err_and c.from_residual-in_err-check_table.result c.from_residual-in_err-check_table.ensures.1 in
+    rw (p.1, p.2) (λ sure.
+    let state = g.D.Disk.state c.args.disk.now in
+    let image = image_told state in
+    let header = c.in_ok-header.header in
+    let table = c.in_ok-table.table.items in
+    let start = c.in_ok-header.ensures in
+    let same : table ≡ active_table image header = shown_before (λ (l : List ℕ). table ≡ active_table l header) state (g.D.Disk.state c.read_header.new.disk) start.quiet start.steady.size c.in_ok-table.ensures.table sure in
+    let at = table_next (g.G.Signer.tag_of c.args.signer.now) (g.G.Signer.is_demanding c.args.signer.now) image header table (start.header sure) (start.tag sure) same in
+    let fault = c.in_err-check_table.field-0.0 in
+    let digest = ap (λ (l : List ℕ). digest_fault l header) (sym c.deref.ensures.value) ∙ c.in_err-check_table.ensures.fault in
+    subst (λ (o : Option OpenFault). IsCaused o fault) (sym at) (caused_first (digest_fault table header) (parts_fault table header) fault (caused_by (digest_fault table header) fault digest)))
+
+pub returns-in_err-parts-clause-caused : goal.returns-in_err-parts-clause-caused
+returns-in_err-parts-clause-caused g c =
+    let p = err_from_is_err_and c.from_residual-in_err-parts.result c.from_residual-in_err-parts.ensures.1 in
+    rw (p.1, p.2) (λ sure.
+    let state = g.D.Disk.state c.args.disk.now in
+    let image = image_told state in
+    let header = c.in_ok-header.header in
+    let table = c.in_ok-table.table.items in
+    let start = c.in_ok-header.ensures in
+    let same : table ≡ active_table image header = shown_before (λ (l : List ℕ). table ≡ active_table l header) state (g.D.Disk.state c.read_header.new.disk) start.quiet start.steady.size c.in_ok-table.ensures.table sure in
+    let at = table_next (g.G.Signer.tag_of c.args.signer.now) (g.G.Signer.is_demanding c.args.signer.now) image header table (start.header sure) (start.tag sure) same in
+    let fault = c.in_err-parts.field-0.0 in
+    let digest : digest_fault table header ≡ None = ap (λ (l : List ℕ). digest_fault l header) (sym c.deref.ensures.value) ∙ c.in_ok-check_table.ensures.none in
+    let parts = subst (λ (l : List ℕ). IsCaused (parts_fault l header) fault) c.deref-2.ensures.value c.in_err-parts.ensures.caused in
+    subst (λ (o : Option OpenFault). IsCaused o fault) (sym at) (caused_second (digest_fault table header) (parts_fault table header) fault digest parts))
+
+pub invariant_of-result : goal.invariant_of-result
+invariant_of-result g c =
+    let start = c.in_ok-header.ensures in
+    let read = c.in_ok-table.ensures in
+    let held = c.in_ok-image.ensures in
+    let len = start.len ∙ sym start.steady.size ∙ sym read.steady.size ∙ sym held.steady.size ∙ held.opened.disk_of.size in
+    record {
+      whole = record {
+        sound = subst (λ (n : ℕ). IsSound c.in_ok-header.header n) len start.sound;
+        table_len = read.len;
+        parts_len = c.in_ok-parts.ensures.count;
+        each = λ number part is. (c.in_ok-parts.ensures.each number part is).part_of;
+      };
+    }
+
+pub returns-clause-opened : goal.returns-clause-opened
+returns-clause-opened g c = λ sure.
+    let state = g.D.Disk.state c.args.disk.now in
+    let image = image_told state in
+    let tag_of = g.G.Signer.tag_of c.args.signer.now in
+    let demands = g.G.Signer.is_demanding c.args.signer.now in
+    let header = c.in_ok-header.header in
+    let table = c.in_ok-table.table.items in
+    let start = c.in_ok-header.ensures in
+    let same : table ≡ active_table image header = shown_before (λ (l : List ℕ). table ≡ active_table l header) state (g.D.Disk.state c.read_header.new.disk) start.quiet start.steady.size c.in_ok-table.ensures.table sure in
+    let at = table_next tag_of demands image header table (start.header sure) (start.tag sure) same in
+    let digest : digest_fault table header ≡ None = ap (λ (l : List ℕ). digest_fault l header) (sym c.deref.ensures.value) ∙ c.in_ok-check_table.ensures.none in
+    let parts : parts_fault table header ≡ None = ap (λ (l : List ℕ). parts_fault l header) (sym c.deref-2.ensures.value) ∙ c.in_ok-parts.ensures.none in
+    record {
+      no_fault = at ∙ none_of_both (digest_fault table header) (parts_fault table header) digest parts;
+      header = start.header sure;
+      table = same;
+      each = λ number part is. rw (← c.deref-2.ensures.value) (c.in_ok-parts.ensures.each number part is);
+    }

@@ -1,0 +1,15 @@
+-- What an open container holds.
+use Rattle.std.specs.Prelude.{◌≡◌, ℕ, Bool, List, slice_get, None, Some, Ok}
+use Rattle.container_header.specs.Conditions.{reading as header_reading}
+use Rattle.part_store.specs.declared.part.Part.{Part}
+use Rattle.container.specs.declared.open.Container.{Container}
+use Rattle.container.specs.Openings.{active_table, fault_of}
+use Rattle.container.specs.Parts.{IsPartRead}
+
+-- What a container holds that was opened over a disk which tells its trace: the image's header and active table, on which
+-- no fault was found, and the parts by the descriptors in that table, of which nothing was changed.
+pub record IsOpenOf (tag_of : List ℕ → List ℕ) (demands : Bool) (image : List ℕ) (container : Container) : Type 0 where
+  pub no_fault : fault_of tag_of demands image ≡ None
+  pub header : header_reading image ≡ Ok container.header
+  pub table : container.table.items ≡ active_table image container.header
+  pub each : (number : ℕ) (part : Part) → slice_get container.parts.items number ≡ Some part → IsPartRead container.table.items container.header number part
