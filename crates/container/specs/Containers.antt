@@ -1,6 +1,7 @@
 -- What an open container holds.
 use Rattle.std.specs.Prelude.{◌≡◌, ℕ, Bool, List, slice_get, None, Some, Ok}
 use Rattle.container_header.specs.Conditions.{reading as header_reading}
+use Rattle.difi.specs.declared.descriptor.Difi.{Difi}
 use Rattle.part_store.specs.declared.part.Part.{Part}
 use Rattle.container.specs.declared.open.Container.{Container}
 use Rattle.container.specs.Openings.{active_table, fault_of}
@@ -13,3 +14,7 @@ pub record IsOpenOf (tag_of : List ℕ → List ℕ) (demands : Bool) (image : L
   pub header : header_reading image ≡ Ok container.header
   pub table : container.table.items ≡ active_table image container.header
   pub each : (number : ℕ) (part : Part) → slice_get container.parts.items number ≡ Some part → IsPartRead container.table.items container.header number part
+
+-- the container has a part of this number, and this holds of its descriptor
+abbrev pub OfPart : Container → ℕ → (Difi → Type 0) → Type 0
+OfPart container number P = (part : Part) × (slice_get container.parts.items number ≡ Some part) × P part.difi

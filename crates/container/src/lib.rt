@@ -1,6 +1,7 @@
 //! An open image: its header, its parts, and a store of the cells of their level fours.
 #![tactic(auto)]
 
+mod facts;
 mod fault;
 mod front;
 mod open;
