@@ -217,7 +217,7 @@ fn small_tree() -> Difi
     }
 }
 
-/// The base of the small tree, with digests that another program made.
+/// The base of the small tree, with digests that Python's hashlib made.
 fn small_base() -> [u8; 101] {
     let mut base = [0; 101];
     base[..32].copy_from_slice(
@@ -233,7 +233,7 @@ fn small_base() -> [u8; 101] {
     base
 }
 
-/// The master hash of the small tree, by that program too.
+/// The master hash of the small tree, by hashlib too.
 const SMALL_MASTER: [u8; 32] =
     *b"\xbb\x06\x07\x79\xa3\x44\x7c\x4f\xfe\x39\x2a\x5d\x15\x7e\x42\x1e\x6d\xa5\x0b\x04\x2b\x88\x85\xd0\xef\xe6\x26\x16\xce\x8b\xe8\x4f";
 
@@ -606,6 +606,7 @@ fn zeros_fill_a_short_block(rt: HostRuntime) -> Result<(), Fail> {
 
 #[test]
 fn an_entry_of_zeros_is_of_a_block_never_written(rt: HostRuntime) -> Result<(), Fail> {
+    use Status::{Blank, Good};
     let difi = wide_tree();
     let mut memory = wide_base(rt.alloc())?;
     let base = &mut memory[..];
@@ -619,24 +620,10 @@ fn an_entry_of_zeros_is_of_a_block_never_written(rt: HostRuntime) -> Result<(), 
             2_247_152,
             5,
             (4, 4096),
-            [Status::Good, Status::Good, Status::Good, Status::Blank],
+            [Good, Good, Good, Blank],
         ),
-        (
-            9_192,
-            6,
-            141_072,
-            32,
-            (3, 256),
-            [Status::Good, Status::Good, Status::Blank, Status::Blank],
-        ),
-        (
-            576,
-            9,
-            9_192,
-            32,
-            (2, 16),
-            [Status::Good, Status::Blank, Status::Blank, Status::Blank],
-        ),
+        (9_192, 6, 141_072, 32, (3, 256), [Good, Good, Blank, Blank]),
+        (576, 9, 9_192, 32, (2, 16), [Good, Blank, Blank, Blank]),
     ] {
         assert!(rt; above <= 9);
         hash_wide(&rt, base, &mut master, 0);
@@ -661,10 +648,7 @@ fn an_entry_of_zeros_is_of_a_block_never_written(rt: HostRuntime) -> Result<(), 
         fill_range(&rt, base, 576, 32, byte);
         let found = fault_at(rt.alloc(), &difi, base, &mut master, 2_097_152)?;
         assert_eq!(rt; found, Some(damaged((1, 1))));
-        assert_eq!(rt;
-            last_statuses(rt.alloc(), base, &mut master)?,
-            [Status::Blank; 4]
-        );
+        assert_eq!(rt; last_statuses(rt.alloc(), base, &mut master)?, [Blank; 4]);
     }
     Ok(())
 }
@@ -699,8 +683,8 @@ fn status_tells_of_each_level(rt: HostRuntime) -> Result<(), Fail> {
     let mut memory = wide_base(rt.alloc())?;
     let base = &mut memory[..];
     let mut master = [0; 64];
-    // An entry's byte that stays when the others become zero, and from where on the blocks above are hashed; then the
-    // bits that are turned.
+    // The last byte of an entry whose other bytes are made zero before the blocks above are hashed; then the bits that
+    // are turned.
     let cases: [(Option<(usize, u8)>, &[usize], [Status; 4]); 9] = [
         (None, &[], [Good, Good, Good, Good]),
         (None, &[2_247_156], [Good, Good, Good, Bad]),
@@ -852,10 +836,18 @@ fn a_caller_needs_to_know_only_that_the_base_is_a_space(rt: HostRuntime) -> Resu
     let mut state = IvfcState::new(rt.alloc(), &difi)?;
     let mut base = small_base();
     let mut memory = MemSpace::new(&mut base, 4096);
-    assert_eq!(rt;
-        good_in(&mut memory, &difi, &mut master, &mut state, 1, 9)?,
-        4
-    );
+    let good = good_in(&mut memory, &difi, &mut master, &mut state, 1, 9)?;
+    assert_eq!(rt; good, 4);
+    let mut bytes = small_base();
+    let mut silent = Silent {
+        bytes: &mut bytes,
+        left: 67,
+        restless: false,
+        faults: 0,
+    };
+    let refused = good_in(&mut silent, &difi, &mut master, &mut state, 1, 9);
+    assert_eq!(rt; refused, Err(Bad::Disk));
+    assert_eq!(rt; silent.faults, 1);
     Ok(())
 }
 
