@@ -1,15 +1,17 @@
-ghost use Rattle.std.specs.Prelude.{◌≡◌, ℕ, ◌+◌, ◌<◌, ◌≤◌, length, slice_index, vec_len, IsTrue, IfOk};
+ghost use Rattle.std.specs.Prelude.{◌≡◌, ℕ, ◌+◌, ◌<◌, ◌≤◌, length, slice_index, IsTrue, IfOk, OnOk, Some};
 ghost use Rattle.std.specs.Result.{result_err};
 ghost use Rattle.save_bytes.specs.Cells.{Byte};
 ghost use Rattle.save_bytes.specs.State.{IsInside, IsWritable};
 ghost use Rattle.save_bytes.specs.Stays.{Stays};
 ghost use Rattle.save_bytes.specs.Spots.{Spot, Frame, Misses, Unmoved};
 ghost use Rattle.save_disk.specs.MemDesks.{state_of};
-ghost use Rattle.page_image.specs.Images.{IsDiskOf};
+ghost use Rattle.save_disk.specs.Trace.{Told, image_now};
+ghost use Rattle.page_image.specs.Images.{IsDiskOf, Mirrors};
+ghost use Rattle.page_image.specs.Held.{shown};
 
 use super::*;
 use save_bytes::{Bad, Space};
-use save_disk::{Call, Failed, MemDesk};
+use save_disk::{Call, Disk, Failed, MemDesk};
 use std::alloc::{AllocError, Global};
 use std::test::Fail;
 
@@ -303,6 +305,34 @@ fn a_generic_call_acts_on_an_image(rt: HostRuntime) -> Result<(), Fail> {
     assert_eq!(rt;
         (byte_at(desk.image(), 4998), byte_at(desk.image(), 4999)),
         (229, 1)
+    );
+    Ok(())
+}
+
+// After a put and a flush the disk has the byte at its place, where it had each byte that was not changed.
+fn store<D: Disk>(image: &mut Image<'_, D>, at: u64, bytes: [u8; 1]) -> Result<(), Bad>
+    requires { IsWritable (shown D.state image.old) at 1 }
+    ensures { IsTrue (shown D.state image.old).told → Mirrors (D.state image.old.disk.now) image.old.image.now
+        → OnOk result ((told : Told) → (D.state image.new.disk.now).told ≡ Some told → slice_index (image_now told) at ≡ slice_index bytes 0) }
+{
+    match image.put(at, &bytes) {
+        Ok(()) => {}
+        Err(bad) => return Err(bad),
+    }
+    match image.flush() {
+        Ok(()) => Ok(()),
+        Err(_) => Err(Bad::Disk),
+    }
+}
+
+#[test]
+fn a_flushed_byte_is_on_the_disk(rt: HostRuntime) -> Result<(), Fail> {
+    let mut desk = desk_with(rt.alloc(), 1300, false)?;
+    let mut state = ImageState::open(rt.alloc(), &mut desk, 1300)?;
+    store(&mut state.view(&mut desk), 1299, [5])?;
+    assert_eq!(rt;
+        (byte_at(desk.image(), 1298), byte_at(desk.image(), 1299)),
+        (43, 5)
     );
     Ok(())
 }
