@@ -12,3 +12,4 @@ pub mod ShownLemmas
 pub mod JoinLemmas
 pub mod ViewLemmas
 pub mod PieceLemmas
+pub mod LaterLemmas

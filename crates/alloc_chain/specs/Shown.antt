@@ -1,5 +1,5 @@
 -- A space behind which the bytes of a chain's blocks lie once more.
-use Rattle.std.specs.Prelude.{◌≡◌, ℕ, ◌+◌, ◌-◌, ◌*◌, ◌/◌, ◌%◌, ◌^◌, ◌<◌, ◌≤◌, Bool, true, ◌&&◌, ◌||◌, ◌==◌, nat_lt, nat_le, if◌then◌else◌, IsTrue, List, [], length, slice_index, unwrap_or, Option, Result, IfOk}
+use Rattle.std.specs.Prelude.{◌≡◌, ℕ, ◌+◌, ◌-◌, ◌*◌, ◌/◌, ◌%◌, ◌^◌, ◌<◌, ◌≤◌, Bool, true, ◌&&◌, ◌||◌, ◌==◌, nat_lt, nat_le, if◌then◌else◌, IsTrue, List, [], slice_index, unwrap_or, Option, Result, IfOk}
 use Rattle.std.specs.Result.{result_err}
 use Rattle.save_bytes.specs.declared.space.Bad.{Bad}
 use Rattle.save_bytes.specs.State.{Shape, State}
@@ -8,7 +8,7 @@ use Rattle.save_bytes.specs.Spots.{Spot}
 use Rattle.alloc_chain.specs.declared.info.ChainInfo.{ChainInfo}
 use Rattle.alloc_chain.specs.declared.node.Lead.TheVariants.{Opens}
 use Rattle.alloc_chain.specs.Table.{table_in, HasTable}
-use Rattle.alloc_chain.specs.Chains.{IsChain}
+use Rattle.alloc_chain.specs.Runs.{HasLength}
 use Rattle.alloc_chain.specs.Bounded.{some_below}
 use Rattle.alloc_chain.specs.Walks.{list_in, has_length}
 
@@ -72,11 +72,18 @@ shown_state info first blocks base = record {
 abbrev pub ShownLands : {A : Type 0} → (A → State) → (A → ℕ → Spot → Type 0) → ChainInfo → ℕ → A → ℕ → Spot → Type 0
 ShownLands states lands info first base x spot = lands base (place_of (states base) info first x) spot
 
--- What is needed of the base and the chain: where the cells are told, the chain is as it should be, and has so many blocks.
+-- the table links a chain as it should, which has so many blocks at least, and not more than the table has
+pub record HasBlocks (base : State) (info : ChainInfo) (first blocks : ℕ) : Type 0 where
+  pub len : ℕ
+  pub linked : HasLength (table_in base.cells info) info.count Opens first len
+  pub enough : blocks ≤ len
+  pub few : len ≤ info.count
+
+-- what is needed of the base and, where the cells are told, of the chain
 pub record CanShow (base : State) (info : ChainInfo) (first blocks : ℕ) : Type 0 where
   pub table : HasTable base.shape info
   pub fits : base.shape.size + blocks * info.block < 2 ^ 64
-  pub chain : IsTrue base.told → (list : List ℕ) × IsChain base info first list × (blocks ≤ length list)
+  pub chain : IsTrue base.told → HasBlocks base info first blocks
 
 -- Where the bytes from `at` on lie in the base, and how many lie there in one piece: as many as are asked for, up to the
 -- end of the base or of a node.

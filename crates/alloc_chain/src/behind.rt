@@ -1,10 +1,13 @@
 //! A space, and behind it the bytes of a chain's blocks once more.
 
-ghost use Rattle.std.specs.Prelude.{◌≡◌, ℕ, IsTrue, refl};
+ghost use Rattle.std.specs.Prelude.{◌≡◌, ℕ, IsTrue, List, refl};
 ghost use Rattle.std.proofs.Common.{◌∙◌};
 ghost use Rattle.save_bytes.specs.State.{State};
 ghost use Rattle.save_bytes.specs.Spots.{Frame};
-ghost use Rattle.alloc_chain.specs.Shown.{place_of, ShownLands, CanShow};
+ghost use Rattle.alloc_chain.specs.declared.node.Lead.TheVariants.{Opens};
+ghost use Rattle.alloc_chain.specs.Table.{table_in};
+ghost use Rattle.alloc_chain.specs.Chains.{IsLinked};
+ghost use Rattle.alloc_chain.specs.Shown.{chain_list, place_of, ShownLands, CanShow};
 ghost use Rattle.alloc_chain.specs.ShownLaws.{with_blocks, shown_size_fits, shown_told, shown_twins, shown_shape};
 ghost use Rattle.alloc_chain.specs.Behind.{seen, IsSpaceOver};
 
@@ -27,6 +30,9 @@ impl<'a, S: Space> ChainSpace<'a, S> {
         ensures holds { IsSpaceOver result base.entry info first blocks }
         ensures sound { IsTrue (seen S.state result).shape.sound }
         ensures told { (seen S.state result).told ≡ (S.state base.old).told }
+        ensures chain { IsTrue (S.state base.old).told → (list : List ℕ)
+            → IsLinked (table_in (S.state base.old).cells info) info.count Opens first list
+            → chain_list (S.state base.old) info first ≡ list }
     {
         let shown = Shown {
             info,

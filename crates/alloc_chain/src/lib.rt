@@ -16,3 +16,6 @@ pub use chain::Chain;
 pub use fault::ChainFault;
 pub use info::{ChainInfo, Run};
 pub use walk::Cursor;
+
+#[cfg(test)]
+mod tests;

@@ -1,9 +1,12 @@
-use Rattle.std.proofs.Common.{◌≡◌, Bool, true, false, ◌&&◌, refl}
+use Rattle.std.proofs.Common.{◌≡◌, ◌<◌, ◌≤◌, ◌^◌, ℕ, Bool, true, false, ◌&&◌, List, [], length, Option, unwrap_or, refl, ap, arith}
+use Rattle.save_bytes.specs.State.{State}
+use Rattle.alloc_chain.specs.declared.info.ChainInfo.{ChainInfo}
 use Rattle.alloc_chain.specs.declared.node.Lead.TheVariants.{Opens}
 use Rattle.alloc_chain.specs.Table.{table_in}
-use Rattle.alloc_chain.specs.Shown.{is_shown}
-use Rattle.alloc_chain.proofs.ExactLemmas.{chain_few}
-use Rattle.alloc_chain.proofs.ShownLemmas.{true-can_show, true-is_shown}
+use Rattle.alloc_chain.specs.Chains.{IsLinked}
+use Rattle.alloc_chain.specs.Shown.{is_shown, chain_list}
+use Rattle.alloc_chain.proofs.ExactLemmas.{same_list}
+use Rattle.alloc_chain.proofs.ShownLemmas.{true-can_show, true-is_shown, linked-found}
 use Rattle.alloc_chain.proofs.behind.ChainSpace.new.Goals as goal
 
 pub returns-clause-sound : goal.returns-clause-sound
@@ -19,4 +22,18 @@ returns-clause-told g c =
     let info = c.args.info in
     and_told base.told (is_shown base info c.args.first c.args.blocks) (λ told.
     (let chain = c.requires.chain told in
-    true-is_shown base info c.args.first c.args.blocks chain.0 c.requires.table.few chain.1.linked (chain_few (table_in base.cells info) info.count Opens c.args.first chain.0 chain.1.linked chain.1.once) chain.2))
+    let len = chain.linked in
+    true-is_shown base info c.args.first c.args.blocks len.0 c.requires.table.few len.1 (omega (arith, len.2, chain.few)) (omega (arith, len.2, chain.enough))))
+
+list_is : (base : State) (info : ChainInfo) (first : ℕ) (list : List ℕ) → info.count < 2 ^ 31 → IsLinked (table_in base.cells info) info.count Opens first list → length list ≤ info.count → chain_list base info first ≡ list
+unfolding chain_list
+list_is base info first list few linked small = ap (λ (o : Option (List ℕ)). unwrap_or o []) (linked-found base info first list few linked small)
+
+pub returns-clause-chain : goal.returns-clause-chain
+returns-clause-chain g c = λ told list linked.
+    let base = g.S.Space.state c.args.base.now in
+    let info = c.args.info in
+    let chain = c.requires.chain told in
+    let len = chain.linked in
+    let same = same_list (table_in base.cells info) info.count c.requires.table.few Opens c.args.first list linked len.0 len.1 in
+    list_is base info c.args.first list c.requires.table.few linked (omega (arith, ap length same, len.2, chain.few))

@@ -1,0 +1,381 @@
+ghost use Rattle.std.specs.Prelude.{refl, ◌≡◌, ℕ, ◌+◌, ◌*◌, ◌^◌, ◌<◌, ◌≤◌, false, length, IsTrue};
+ghost use Rattle.std.proofs.Common.{◌∙◌};
+ghost use Rattle.std.proofs.lemmas.Bool.{false≢true};
+ghost use Rattle.std.specs.Result.{result_err};
+ghost use Rattle.save_bytes.specs.State.{State, IsInside, IsWritable};
+ghost use Rattle.save_bytes.specs.Spots.{Frame};
+ghost use Rattle.save_bytes.specs.Puts.{Puts};
+ghost use Rattle.alloc_chain.specs.Table.{HasTable, IsEntry};
+ghost use Rattle.alloc_chain.specs.Held.{below, SameChain};
+
+use super::*;
+use save_bytes::{Bad, Floor, MemSpace, Space, set_u32, space_copy};
+use std::test::Fail;
+
+/// The flag of a word.
+const FLAG: u32 = 0x8000_0000;
+
+/// A table of 9 entries behind entry 0, and 9 blocks of 4 bytes each.
+const NINE: ChainInfo = ChainInfo {
+    table_at: 0,
+    count: 9,
+    region_at: 80,
+    block: 4,
+};
+
+/// A table of 66 entries behind entry 0.
+const SIXTY_SIX: ChainInfo = ChainInfo {
+    table_at: 0,
+    count: 66,
+    region_at: 0,
+    block: 8,
+};
+
+/// A table of 1,000 entries behind entry 0.
+const THOUSAND: ChainInfo = ChainInfo {
+    table_at: 0,
+    count: 1000,
+    region_at: 0,
+    block: 8,
+};
+
+// A space that tells nothing of its cells.
+#[derive(Drop)]
+struct Untold<'a, F> {
+    base: &'a mut F,
+}
+
+impl<F: Floor> Space for Untold<'_, F> {
+    ghost state = { λ v. record (F.state v.base.now) { told = false } };
+
+    ghost keeps = { λ spot s t. (t.base.ghost_name ≡ s.base.ghost_name) × F.keeps spot s.base.now t.base.now };
+
+    ghost lands = { λ v. F.lands v.base.now };
+
+    ghost size_fits = { λ v. F.size_fits v.base.now };
+
+    ghost plain_bytes = { λ v plain told. absurd (false≢true told) };
+
+    ghost no_twins = { λ v single. record { apart = (F.no_twins v.base.now single).apart; free = (F.no_twins v.base.now single).free } };
+
+    ghost keeps_same = { λ spot v. (refl, F.keeps_same spot v.base.now) };
+
+    ghost keeps_join = { λ spot s t u h k. (k.0 ∙ h.0, F.keeps_join spot s.base.now t.base.now u.base.now h.1 k.1) };
+
+    ghost keeps_shape = { λ s t h. F.keeps_shape s.base.now t.base.now h.1 };
+
+    fn len(&self) -> u64 {
+        self.base.len()
+    }
+
+    fn piece(&mut self, at: u64, most: usize) -> Result<&[u8], Bad> {
+        let base = &mut *self.base;
+        base.piece(at, most)
+    }
+
+    fn ready(&mut self, at: u64, n: u64) -> Result<(), Bad> {
+        let base = &mut *self.base;
+        base.ready(at, n)
+    }
+
+    fn put(&mut self, at: u64, bytes: &[u8]) -> Result<(), Bad> {
+        let base = &mut *self.base;
+        base.put(at, bytes)
+    }
+}
+
+// Sets the two words of an entry of a table that begins at 0.
+fn set_entry(bytes: &mut [u8], entry: usize, u: u32, v: u32)
+    requires { 8 * entry + 8 ≤ length bytes.old }
+{
+    set_u32(bytes, 8 * entry, u);
+    set_u32(bytes, 8 * entry + 4, v);
+}
+
+// A chain of a node of entries 3 to 5 and a node of entry 9. Each byte of a block is the block's number.
+fn two_nodes() -> [u8; 116] {
+    let mut bytes = [0; 116];
+    set_entry(&mut bytes, 3, FLAG, FLAG + 9);
+    set_entry(&mut bytes, 4, FLAG + 3, 5);
+    set_entry(&mut bytes, 5, FLAG + 3, 5);
+    set_entry(&mut bytes, 9, 3, 0);
+    for i in 0..36 {
+        bytes[80 + i] = i as u8 / 4;
+    }
+    bytes
+}
+
+// The table of a made image: two chains of one block, and one node of 64 free blocks.
+fn made_table() -> [u8; 536] {
+    let mut bytes = [0; 536];
+    set_entry(&mut bytes, 0, 0, 3);
+    set_entry(&mut bytes, 1, FLAG, 0);
+    set_entry(&mut bytes, 2, FLAG, 0);
+    set_entry(&mut bytes, 3, 0, FLAG);
+    set_entry(&mut bytes, 4, FLAG + 3, 66);
+    set_entry(&mut bytes, 66, FLAG + 3, 66);
+    bytes
+}
+
+// How long a chain is in the table of 9 entries, and how many blocks are free.
+fn counts(bytes: &mut [u8]) -> (Result<u32, ChainFault>, Result<u32, ChainFault>)
+    requires { length bytes.old ≡ 116 }
+{
+    let mut space = MemSpace::new(bytes, 16);
+    let mut chain = Chain::new(&mut space, NINE);
+    let len = chain.length(3);
+    let free = chain.free_count();
+    (len, free)
+}
+
+// The run that has a block of a chain, where the chain has so many.
+fn run_of<S: Space>(chain: &mut Chain<S>, first: u32, pos: u32) -> Result<Option<Run>, ChainFault>
+    requires table { HasTable (below S.state chain.old).shape chain.old.info }
+    requires first { IsTrue (below S.state chain.old).told → IsEntry chain.old.info.count first }
+    ensures same { SameChain chain.old chain.new }
+    ensures frame { S.keeps Frame chain.old.base.now chain.new.base.now }
+{
+    let len = chain.length(first)?;
+    if pos >= len {
+        return Ok(None);
+    }
+    Ok(Some(chain.run_at(first, pos)?))
+}
+
+#[test]
+fn a_chain_of_two_nodes_has_their_blocks(rt: HostRuntime) -> Result<(), Fail> {
+    let mut bytes = two_nodes();
+    assert_eq!(rt; counts(&mut bytes), (Ok(4), Ok(0)));
+    let cases = [
+        (0, Some(Run { block: 2, len: 3 })),
+        (1, Some(Run { block: 3, len: 2 })),
+        (2, Some(Run { block: 4, len: 1 })),
+        (3, Some(Run { block: 8, len: 1 })),
+        (4, None),
+    ];
+    for (pos, want) in cases {
+        let mut space = MemSpace::new(&mut bytes, 16);
+        let mut chain = Chain::new(&mut space, NINE);
+        assert_eq!(rt; run_of(&mut chain, 3, pos)?, want, "from {pos}");
+    }
+    Ok(())
+}
+
+#[test]
+fn a_made_image_has_64_free_blocks(rt: HostRuntime) -> Result<(), Fail> {
+    let mut bytes = made_table();
+    let entry_3 = [0, 0, 0, 0, 0, 0, 0, 0x80];
+    let entry_66 = [3, 0, 0, 0x80, 66, 0, 0, 0];
+    assert_eq!(rt; &bytes[24..32], entry_3.as_slice());
+    assert_eq!(rt; &bytes[528..536], entry_66.as_slice());
+    let mut space = MemSpace::new(&mut bytes, 16);
+    let mut chain = Chain::new(&mut space, SIXTY_SIX);
+    assert_eq!(rt; chain.free_count()?, 64);
+    assert_eq!(rt; chain.length(1)?, 1);
+    assert_eq!(rt; chain.length(2)?, 1);
+    Ok(())
+}
+
+#[test]
+fn the_flag_of_the_first_free_node_is_not_looked_at(rt: HostRuntime) -> Result<(), Fail> {
+    let cases = [
+        (0, Ok(64)),
+        (FLAG, Ok(64)),
+        (7, Err(ChainFault::Broken { entry: 3 })),
+    ];
+    for (u, want) in cases {
+        let mut bytes = made_table();
+        set_entry(&mut bytes, 3, u, FLAG);
+        let mut space = MemSpace::new(&mut bytes, 16);
+        let mut chain = Chain::new(&mut space, SIXTY_SIX);
+        assert_eq!(rt; chain.free_count(), want, "word {u}");
+    }
+    Ok(())
+}
+
+// The answer on a chain of the table of 9 entries with some entries set.
+fn length_with(entries: &[(usize, u32, u32)], first: u32) -> Result<u32, ChainFault>
+    requires { IsEntry 9 first }
+{
+    let mut bytes = [0; 116];
+    for (entry, u, v) in entries {
+        if *entry <= 9 {
+            set_entry(&mut bytes, *entry, *u, *v);
+        }
+    }
+    let mut space = MemSpace::new(&mut bytes, 16);
+    let mut chain = Chain::new(&mut space, NINE);
+    chain.length(first)
+}
+
+fn broken(entry: u32) -> Result<u32, ChainFault> {
+    Err(ChainFault::Broken { entry })
+}
+
+#[test]
+fn a_node_is_broken_where_its_words_are(rt: HostRuntime) {
+    let five = (5, FLAG, FLAG);
+    assert_eq!(rt;
+        length_with(&[five, (6, FLAG + 5, 9), (9, FLAG + 5, 9)], 5),
+        Ok(5)
+    );
+    // The last entry names another one as the last.
+    assert_eq!(rt;
+        length_with(&[five, (6, FLAG + 5, 9), (9, FLAG + 5, 8)], 5),
+        broken(9)
+    );
+    // The second entry names a last one behind the table, or before it.
+    assert_eq!(rt; length_with(&[five, (6, FLAG + 5, 10)], 5), broken(6));
+    assert_eq!(rt; length_with(&[five, (6, FLAG + 5, 5)], 5), broken(6));
+    // The second entry names another first one, or lacks the flag.
+    assert_eq!(rt; length_with(&[five, (6, FLAG + 4, 9)], 5), broken(6));
+    assert_eq!(rt; length_with(&[five, (6, 5, 9)], 5), broken(6));
+    // The first entry names a node before it, lacks the flag, or names a node behind the table.
+    assert_eq!(rt; length_with(&[(5, FLAG + 1, 0)], 5), broken(5));
+    assert_eq!(rt; length_with(&[(5, 0, 0)], 5), broken(5));
+    assert_eq!(rt; length_with(&[(5, FLAG, 10)], 5), broken(5));
+    // The last entry of the table has no second one.
+    assert_eq!(rt; length_with(&[(9, FLAG, FLAG)], 9), broken(9));
+}
+
+#[test]
+fn a_node_names_the_one_before_it(rt: HostRuntime) {
+    assert_eq!(rt;
+        length_with(&[(1, FLAG, 4), (4, 1, 2), (2, 4, 0)], 1),
+        Ok(3)
+    );
+    assert_eq!(rt;
+        length_with(&[(1, FLAG, 4), (4, 1, 2), (2, 1, 0)], 1),
+        broken(2)
+    );
+    // A list that comes back to its second node, and one that comes back to its first.
+    assert_eq!(rt;
+        length_with(&[(1, FLAG, 4), (4, 1, 2), (2, 4, 4)], 1),
+        broken(4)
+    );
+    assert_eq!(rt; length_with(&[(1, FLAG, 4), (4, 1, 1)], 1), broken(1));
+}
+
+#[test]
+fn an_entry_of_two_nodes_is_named(rt: HostRuntime) {
+    // A node of entries 3 to 9 and one of 5 to 8: together they have more entries than the table.
+    let entries = [
+        (3, FLAG, FLAG + 5),
+        (4, FLAG + 3, 9),
+        (9, FLAG + 3, 9),
+        (5, 3, FLAG),
+        (6, FLAG + 5, 8),
+        (8, FLAG + 5, 8),
+    ];
+    assert_eq!(rt; length_with(&entries, 3), broken(6));
+}
+
+#[test]
+fn two_free_nodes_that_name_each_other_are_broken(rt: HostRuntime) {
+    let mut bytes = [0; 116];
+    set_entry(&mut bytes, 0, 0, 2);
+    set_entry(&mut bytes, 2, 0, 6);
+    set_entry(&mut bytes, 6, 2, 2);
+    assert_eq!(rt; counts(&mut bytes).1, broken(2));
+    set_entry(&mut bytes, 0, 0, 10);
+    assert_eq!(rt; counts(&mut bytes).1, broken(0));
+    set_entry(&mut bytes, 0, FLAG + 7, FLAG);
+    assert_eq!(rt; counts(&mut bytes).1, Ok(0));
+}
+
+// How many blocks the runs of a chain have, from front to end, and how many runs there are. At most 1,000 are read.
+fn by_runs<S: Space>(chain: &mut Chain<S>, first: u32) -> Result<(u64, u32), ChainFault>
+    requires table { HasTable (below S.state chain.old).shape chain.old.info }
+    requires first { IsEntry chain.old.info.count first }
+{
+    let mut place = Cursor::of_chain(first);
+    for runs in 0..1000 {
+        if place.is_at_end() {
+            return Ok((place.passed(), runs));
+        }
+        let (_, behind) = chain.run_behind(place)?;
+        place = behind;
+    }
+    Ok((place.passed(), 1000))
+}
+
+#[test]
+fn a_chain_of_1000_nodes_is_read_by_runs(rt: HostRuntime) -> Result<(), Fail> {
+    let mut bytes = [0; 8008];
+    for entry in 1..1001usize {
+        let before = entry as u32 - 1;
+        let next = if entry == 1000 { 0 } else { entry as u32 + 1 };
+        let u = if before == 0 { FLAG } else { before };
+        set_entry(&mut bytes, entry, u, next);
+    }
+    let mut space = MemSpace::new(&mut bytes, 16);
+    let mut chain = Chain::new(&mut space, THOUSAND);
+    assert_eq!(rt; chain.length(1)?, 1000);
+    assert_eq!(rt;
+        run_of(&mut chain, 1, 999)?,
+        Some(Run { block: 999, len: 1 })
+    );
+    assert_eq!(rt; by_runs(&mut chain, 1)?, (1000, 1000));
+    Ok(())
+}
+
+// How many bytes a chain of the table of 9 entries shows, and these bytes.
+fn shown_bytes(bytes: &mut [u8], out: &mut [u8]) -> Result<u64, Bad>
+    requires bytes { length bytes.old ≡ 116 }
+    requires out { length out.old ≤ 16 }
+{
+    let mut memory = MemSpace::new(bytes, 16);
+    let mut base = Untold { base: &mut memory };
+    let mut space = ChainSpace::new(&mut base, NINE, 3, 4);
+    space_copy(&mut space, 116, out)?;
+    Ok(space.len())
+}
+
+// Puts bytes into a space that shows the chain.
+fn put_shown_bytes(bytes: &mut [u8], at: u64, put: &[u8]) -> Result<(), Bad>
+    requires bytes { length bytes.old ≡ 116 }
+    requires inside { at + length put.now ≤ 132 }
+    ensures len { length bytes.new ≡ 116 }
+{
+    let mut memory = MemSpace::new(bytes, 16);
+    let mut base = Untold { base: &mut memory };
+    let mut space = ChainSpace::new(&mut base, NINE, 3, 4);
+    space.ready(at, put.len() as u64)?;
+    space.put(at, put)
+}
+
+#[test]
+fn the_blocks_of_a_chain_lie_behind_their_space(rt: HostRuntime) -> Result<(), Fail> {
+    let mut bytes = two_nodes();
+    let mut out = [0; 16];
+    assert_eq!(rt; shown_bytes(&mut bytes, &mut out).ok().unwrap_or(0), 132);
+    assert_eq!(rt; out, [2, 2, 2, 2, 3, 3, 3, 3, 4, 4, 4, 4, 8, 8, 8, 8]);
+    Ok(())
+}
+
+#[test]
+fn a_byte_put_at_one_place_shows_at_its_twin(rt: HostRuntime) -> Result<(), Fail> {
+    let mut bytes = two_nodes();
+    let mut out = [0; 16];
+    // The last two bytes of block 4 and the first two of block 8, behind the space.
+    assert!(rt; put_shown_bytes(&mut bytes, 126, &[91, 92, 93, 94]).is_ok());
+    assert_eq!(rt; &bytes[96..100], [4, 4, 91, 92].as_slice());
+    assert_eq!(rt; &bytes[112..116], [93, 94, 8, 8].as_slice());
+    // The first byte of block 2, in the space.
+    assert!(rt; put_shown_bytes(&mut bytes, 88, &[90]).is_ok());
+    assert!(rt; shown_bytes(&mut bytes, &mut out).is_ok());
+    assert_eq!(rt; out, [90, 2, 2, 2, 3, 3, 3, 3, 4, 4, 91, 92, 93, 94, 8, 8]);
+    Ok(())
+}
+
+#[test]
+fn nothing_is_put_where_the_chain_is_broken(rt: HostRuntime) -> Result<(), Fail> {
+    let mut bytes = two_nodes();
+    set_entry(&mut bytes, 9, 4, 0);
+    let before = bytes;
+    let mut out = [0; 16];
+    assert!(rt; put_shown_bytes(&mut bytes, 126, &[91, 92, 93, 94]).is_ok());
+    assert_eq!(rt; bytes, before);
+    assert!(rt; shown_bytes(&mut bytes, &mut out).is_ok());
+    Ok(())
+}
