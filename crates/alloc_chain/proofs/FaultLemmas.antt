@@ -1,11 +1,9 @@
 -- Faults of one call as faults of another.
 use Rattle.std.proofs.Common.{ℕ, IsTrue, Option, Some, None, sym, subst}
-use Rattle.save_bytes.specs.declared.space.Bad.{Bad}
-use Rattle.save_bytes.specs.declared.space.Bad.TheVariants.{Disk, Damaged}
 use Rattle.save_bytes.specs.Cells.{Cell}
 use Rattle.save_bytes.specs.State.{State, Shape}
-use Rattle.save_bytes.specs.Refusals.{IfDamaged}
 use Rattle.save_bytes.specs.Stays.{Stays}
+use Rattle.save_bytes.proofs.SpaceLemmas.{IfDamaged-map}
 use Rattle.alloc_chain.specs.declared.info.ChainInfo.{ChainInfo}
 use Rattle.alloc_chain.specs.declared.fault.ChainFault.{ChainFault}
 use Rattle.alloc_chain.specs.declared.fault.ChainFault.TheVariants.{Broken, Short}
@@ -13,11 +11,6 @@ use Rattle.alloc_chain.specs.declared.fault.ChainFault.TheVariants.{Bad as Refus
 use Rattle.alloc_chain.specs.Table.{HasFault, HasTable}
 use Rattle.alloc_chain.specs.Faults.{IfBroken, refusal_of, FaultsOnly}
 use Rattle.alloc_chain.proofs.TableLemmas.{table_stays}
-
-pub IfDamaged-map : (refusal : Option Bad) {P Q : ℕ → ℕ → ℕ → Type 0} → ((part level block : ℕ) → P part level block → Q part level block) → IfDamaged refusal P → IfDamaged refusal Q
-IfDamaged-map None f h = tt
-IfDamaged-map (Some Disk) f h = tt
-IfDamaged-map (Some (Damaged part level block)) f h = f part level block h
 
 pub IfBroken-map : (fault : Option ChainFault) {P Q : ℕ → Type 0} → ((entry : ℕ) → P entry → Q entry) → IfBroken fault P → IfBroken fault Q
 IfBroken-map None f h = tt

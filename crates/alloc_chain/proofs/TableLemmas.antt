@@ -1,26 +1,18 @@
 -- The words of the table, read in a space.
-use Rattle.std.proofs.Common.{◌≡◌, ℕ, zero, suc, ◌+◌, ◌-◌, ◌*◌, ◌<◌, ◌≤◌, min, IsTrue, refl, sym, ap, subst, arith, add-zero, ⊎_elim}
-use Rattle.std.proofs.Math.Nat.{add-suc, suc-add}
+use Rattle.std.proofs.Common.{◌≡◌, ℕ, ◌+◌, ◌-◌, ◌*◌, ◌<◌, ◌≤◌, min, IsTrue, sym, ap, subst, arith, ⊎_elim}
 use Rattle.std.proofs.lemmas.Bool.{cases_lt}
 use Rattle.save_bytes.specs.Fields.{number_at}
 use Rattle.save_bytes.specs.Cells.{Cell, IsByte}
-use Rattle.save_bytes.specs.CellNumbers.{bytes_in, number_in}
+use Rattle.save_bytes.specs.CellNumbers.{number_in}
 use Rattle.save_bytes.specs.State.{State, Shape}
 use Rattle.save_bytes.specs.Answers.{IsFirstFault}
 use Rattle.save_bytes.specs.Stays.{Stays}
+use Rattle.save_bytes.proofs.CellLemmas.{bytes_in-same}
 use Rattle.std.proofs.Common.{None}
 use Rattle.alloc_chain.specs.declared.info.ChainInfo.{ChainInfo}
 use Rattle.alloc_chain.specs.Table.{table_in, word_u, word_v, HasWords, HasFault, HasTable}
 
 -- numbers in cells that are the same
-pub bytes_in-same : (f g : ℕ → Cell) (i j n : ℕ) → ((k : ℕ) → k < n → f (i + k) ≡ g (j + k)) → bytes_in f i n ≡ bytes_in g j n
-unfolding bytes_in
-bytes_in-same f g i j zero same = refl
-bytes_in-same f g i j (suc n) same =
-    let first : f i ≡ g j = simp add-zero at (same 0 (omega arith)) in
-    let rest : bytes_in f (suc i) n ≡ bytes_in g (suc j) n = bytes_in-same f g (suc i) (suc j) n (λ k h. simp (add-suc, ← suc-add) at (same (suc k) (omega arith))) in
-    rw (first, rest) refl
-
 pub number_in-same : (n : ℕ) (f g : ℕ → Cell) (i j : ℕ) → ((k : ℕ) → k < n → f (i + k) ≡ g (j + k)) → number_in n f i ≡ number_in n g j
 number_in-same n f g i j same = ap (λ l. number_at n l 0) (bytes_in-same f g i j n same)
 

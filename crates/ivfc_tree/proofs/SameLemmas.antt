@@ -14,7 +14,7 @@ use Rattle.ivfc_tree.proofs.LevelLemmas.{parent_there}
 
 module _ (base : Shape) (difi : Difi) (levels : HasLevels base difi) (one other : ℕ → Cell) (same : (x : ℕ) → x < base.size → one x ≡ other x) where
   level-same : (level : ℕ) → IsLevel level → ivfc_level one difi level ≡ ivfc_level other difi level
-  level-same level here = bytes_in-same one other (level_of difi level).at (level_of difi level).size (λ k h. same _ (omega (arith, h, levels.inside level here)))
+  level-same level here = bytes_in-same one other (level_of difi level).at (level_of difi level).at (level_of difi level).size (λ k h. same _ (omega (arith, h, levels.inside level here)))
 
   pub block-same : (level block : ℕ) → IsLevel level → padded_block one difi level block ≡ padded_block other difi level block
   unfolding padded_block

@@ -13,7 +13,7 @@ use Rattle.name_buckets.specs.Tables.{table_in, entry_place}
 use Rattle.name_buckets.specs.Used.{used_entries}
 use Rattle.name_buckets.specs.Layout.{IsNeeded, OfZero, OfUsed, BlamesNeeded, IsReadAt, AtZero, AtPlace, BlamesRead}
 use Rattle.name_buckets.specs.Replies.{HasCause}
-use Rattle.name_buckets.proofs.StayLemmas.{IfDamaged-map}
+use Rattle.save_bytes.proofs.SpaceLemmas.{IfDamaged-map}
 
 -- a refusal of the space is passed on
 pub passed_on : {A : Type 0} (result : Result A EntryFault) (bad : Bad) → IsErrAnd result (λ found. found ≡ fault.Bad bad) → result ≡ Err (fault.Bad bad)

@@ -1,13 +1,9 @@
 -- A table stays where the cells of its space do.
-use Rattle.std.proofs.Common.{◌≡◌, ℕ, zero, suc, ◌+◌, ◌<◌, ◌≤◌, List, IsTrue, Option, Some, None, refl, sym, ◌∙◌, ap, subst, arith, add-zero}
-use Rattle.std.proofs.Math.Nat.{add-suc, suc-add}
-use Rattle.save_bytes.specs.declared.space.Bad.{Bad}
-use Rattle.save_bytes.specs.declared.space.Bad.TheVariants.{Disk, Damaged}
+use Rattle.std.proofs.Common.{◌≡◌, ℕ, ◌+◌, ◌<◌, ◌≤◌, List, IsTrue, None, sym, ◌∙◌, ap, subst, arith}
 use Rattle.save_bytes.specs.Fields.{number_at}
 use Rattle.save_bytes.specs.Cells.{Cell, Blames}
 use Rattle.save_bytes.specs.CellNumbers.{bytes_in, number_in}
 use Rattle.save_bytes.specs.State.{Shape, State}
-use Rattle.save_bytes.specs.Refusals.{IfDamaged}
 use Rattle.save_bytes.specs.Answers.{IsFirstFault}
 use Rattle.save_bytes.specs.Stays.{Stays}
 use Rattle.name_buckets.specs.declared.table.EntryKind.{EntryKind}
@@ -15,15 +11,8 @@ use Rattle.name_buckets.specs.declared.table.TableInfo.{TableInfo}
 use Rattle.name_buckets.specs.Kinds.{entry_size, link_offset}
 use Rattle.name_buckets.specs.Tables.{Table, table_in, entry_place, bucket_place}
 use Rattle.name_buckets.specs.Layout.{IsWithin, HasCounts, HasTable, IsNeeded, OfZero, BlamesNeeded, IsReadAt, AtZero, AtPlace, BlamesRead}
+use Rattle.save_bytes.proofs.CellLemmas.{bytes_in-same}
 use Rattle.name_buckets.proofs.EntryLemmas.{link_last, entry_long}
-
-pub bytes_in-same : (n : ℕ) (new old : ℕ → Cell) (at : ℕ) → ((k : ℕ) → k < n → new (at + k) ≡ old (at + k)) → bytes_in new at n ≡ bytes_in old at n
-unfolding bytes_in
-bytes_in-same zero new old at same = refl
-bytes_in-same (suc n) new old at same =
-    let first : new at ≡ old at = simp add-zero at (same 0 (omega arith)) in
-    let rest : bytes_in new (suc at) n ≡ bytes_in old (suc at) n = bytes_in-same n new old (suc at) (λ k h. simp (add-suc, ← suc-add) at (same (suc k) (omega arith))) in
-    rw (first, rest) refl
 
 -- two tables have the same entry
 pub record SameEntry (old new : Table) (e : ℕ) : Type 0 where
@@ -44,10 +33,10 @@ module _ (old new : State) (stays : Stays old new None) where
   -- numbers and bytes of the space
   pub number_stays : (n at : ℕ) → IsTrue old.told → at + n ≤ old.shape.size → number_in n new.cells at ≡ number_in n old.cells at
   number_stays n at told fits =
-      ap (λ (bytes : List ℕ). number_at n bytes 0) (bytes_in-same n new.cells old.cells at (λ k h. stays.cells told (at + k) (omega (arith, fits, h))))
+      ap (λ (bytes : List ℕ). number_at n bytes 0) (bytes_in-same new.cells old.cells at at n (λ k h. stays.cells told (at + k) (omega (arith, fits, h))))
 
   bytes_stay : (n at : ℕ) → IsTrue old.told → at + n ≤ old.shape.size → bytes_in new.cells at n ≡ bytes_in old.cells at n
-  bytes_stay n at told fits = bytes_in-same n new.cells old.cells at (λ k h. stays.cells told (at + k) (omega (arith, fits, h)))
+  bytes_stay n at told fits = bytes_in-same new.cells old.cells at at n (λ k h. stays.cells told (at + k) (omega (arith, fits, h)))
 
   module _ (kind : EntryKind) (info : TableInfo) (table : HasTable old kind info) where
     pub had_counts : HasCounts new info → HasCounts old info
@@ -117,9 +106,3 @@ fault_read kind info cells from n part level block first = record {
   read = AtPlace (record { from = omega arith; before = omega (arith, first.within) });
   blames = first.fault;
 }
-
--- facts of a damaged cell's numbers
-pub IfDamaged-map : (refusal : Option Bad) {P Q : ℕ → ℕ → ℕ → Type 0} → ((part level block : ℕ) → P part level block → Q part level block) → IfDamaged refusal P → IfDamaged refusal Q
-IfDamaged-map None f p = tt
-IfDamaged-map (Some Disk) f p = tt
-IfDamaged-map (Some (Damaged part level block)) f p = f part level block p

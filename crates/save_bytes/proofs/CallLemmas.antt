@@ -1,10 +1,10 @@
 -- One reading call on a space after another.
-use Rattle.std.proofs.Common.{ℕ, Option, None, Result, Ok, Err, IfOk, refl, arith}
+use Rattle.std.proofs.Common.{ℕ, Option, None, Result, Ok, Err, IfOk}
 use Rattle.save_bytes.specs.declared.space.Bad.{Bad}
 use Rattle.save_bytes.specs.State.{State}
 use Rattle.save_bytes.specs.Spots.{Spot, Frame}
 use Rattle.save_bytes.specs.Reads.{Reads}
-use Rattle.save_bytes.proofs.SpaceLemmas.{Stays-join, Unmoved-join}
+use Rattle.save_bytes.proofs.SpaceLemmas.{Stays-same, Stays-join, Unmoved-join}
 
 module _ {A : Type 0} (states : A → State) (keeps : Spot → A → A → Type 0) (lands : A → ℕ → Spot → Type 0) (join : (spot : Spot) (s t u : A) → keeps spot s t → keeps spot t u → keeps spot s u) where
   pub Reads-join : (s t u : A) (refusal : Option Bad) → Reads states keeps lands s t None → Reads states keeps lands t u refusal → Reads states keeps lands s u refusal
@@ -16,10 +16,7 @@ module _ {A : Type 0} (states : A → State) (keeps : Spot → A → A → Type 
 -- before the first call
 pub Reads-same : {A : Type 0} (states : A → State) (keeps : Spot → A → A → Type 0) (lands : A → ℕ → Spot → Type 0) → ((spot : Spot) (s : A) → keeps spot s s) → (s : A) → Reads states keeps lands s s None
 Reads-same states keeps lands same s = record {
-  stays = record {
-    space = record { shape = refl; faults = omega arith; cause = tt; told = refl; twins = λ told. record { bottom = λ x below. refl; is_fixed = λ x below. refl } };
-    cells = λ told x below. refl;
-  };
+  stays = Stays-same (states s);
   unmoved = record { frame = same Frame s; spots = λ told spot. same spot s; reach = λ told x below spot lands. lands };
 }
 

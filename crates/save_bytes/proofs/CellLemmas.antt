@@ -52,12 +52,12 @@ length-bytes_in cells at zero = refl
 length-bytes_in cells at (suc n) = ap suc (length-bytes_in cells (suc at) n)
 
 -- the same values where the cells are the same
-pub bytes_in-same : (one other : ℕ → Cell) (at n : ℕ) → ((k : ℕ) → k < n → one (at + k) ≡ other (at + k)) → bytes_in one at n ≡ bytes_in other at n
+pub bytes_in-same : (one other : ℕ → Cell) (i j n : ℕ) → ((k : ℕ) → k < n → one (i + k) ≡ other (j + k)) → bytes_in one i n ≡ bytes_in other j n
 unfolding bytes_in
-bytes_in-same one other at zero same = refl
-bytes_in-same one other at (suc n) same =
-    let first : one at ≡ other at = simp add-zero at (same 0 (omega arith)) in
-    rw (first, bytes_in-same one other (suc at) n (λ k h. simp (add-suc, ← suc-add) at (same (suc k) (omega (arith, h))))) refl
+bytes_in-same one other i j zero same = refl
+bytes_in-same one other i j (suc n) same =
+    let first : one i ≡ other j = simp add-zero at (same 0 (omega arith)) in
+    rw (first, bytes_in-same one other (suc i) (suc j) n (λ k h. simp (add-suc, ← suc-add) at (same (suc k) (omega (arith, h))))) refl
 
 -- the values of cells and those of the cells behind them
 pub bytes_in-append : (cells : ℕ → Cell) (at m n : ℕ) → bytes_in cells at (m + n) ≡ bytes_in cells at m ++ bytes_in cells (at + m) n

@@ -1,9 +1,9 @@
 -- One call of a space after another.
-use Rattle.std.proofs.Common.{◌≡◌, ℕ, ◌+◌, ◌≤◌, Option, Some, None, ◌∙◌, ap, arith}
+use Rattle.std.proofs.Common.{◌≡◌, ℕ, ◌+◌, ◌≤◌, Option, Some, None, refl, ◌∙◌, ap, arith}
 use Rattle.save_bytes.specs.declared.space.Bad.{Bad}
 use Rattle.save_bytes.specs.declared.space.Bad.TheVariants.{Disk, Damaged}
 use Rattle.save_bytes.specs.State.{Shape, State}
-use Rattle.save_bytes.specs.Refusals.{Rose, OnDisk, UnlessDisk}
+use Rattle.save_bytes.specs.Refusals.{Rose, OnDisk, UnlessDisk, IfDamaged}
 use Rattle.save_bytes.specs.Stays.{SameTwins, SameSpace, SameCells, Stays}
 use Rattle.save_bytes.specs.Spots.{Spot, Frame, Misses, LandsAsBefore, Unmoved}
 
@@ -17,6 +17,12 @@ pub OnDisk-map : (refusal : Option Bad) {P Q : Type 0} → (P → Q) → OnDisk 
 OnDisk-map None f p = tt
 OnDisk-map (Some Disk) f p = f p
 OnDisk-map (Some (Damaged part level block)) f p = tt
+
+-- facts of a damaged cell's numbers
+pub IfDamaged-map : (refusal : Option Bad) {P Q : ℕ → ℕ → ℕ → Type 0} → ((part level block : ℕ) → P part level block → Q part level block) → IfDamaged refusal P → IfDamaged refusal Q
+IfDamaged-map None f p = tt
+IfDamaged-map (Some Disk) f p = tt
+IfDamaged-map (Some (Damaged part level block)) f p = f part level block p
 
 -- a count that rose later rose
 pub Rose-later : (a b c : ℕ) → a ≤ b → Rose b c → Rose a c
@@ -37,6 +43,13 @@ SameSpace-join s t u refusal h k = record {
   cause = OnDisk-map refusal (Rose-later s.faults t.faults u.faults h.faults) k.cause;
   told = UnlessDisk-map refusal (λ told. told ∙ h.told) k.told;
   twins = λ told. UnlessDisk-map refusal (SameTwins-join s t u h.shape (h.twins told)) (k.twins (rw h.told told));
+}
+
+-- before the first call
+pub Stays-same : (s : State) → Stays s s None
+Stays-same s = record {
+  space = record { shape = refl; faults = omega arith; cause = tt; told = refl; twins = λ told. record { bottom = λ x below. refl; is_fixed = λ x below. refl } };
+  cells = λ told x below. refl;
 }
 
 pub Stays-join : (s t u : State) (refusal : Option Bad) → Stays s t None → Stays t u refusal → Stays s u refusal

@@ -2,7 +2,7 @@ use Rattle.std.proofs.Common.{ℕ, ◌+◌, ◌*◌, Some, sym, ◌∙◌, ap, s
 use Rattle.save_bytes.specs.Cells.{Cell, IsByte}
 use Rattle.alloc_chain.specs.Table.{HasFault, word_v}
 use Rattle.alloc_chain.proofs.TableLemmas.{table_stays, word_u-is, word_v-is, has_words, fault_in_u, fault_in_v}
-use Rattle.alloc_chain.proofs.FaultLemmas.{IfDamaged-map}
+use Rattle.save_bytes.proofs.SpaceLemmas.{IfDamaged-map}
 use Rattle.alloc_chain.proofs.node.read_entry.Goals as goal
 
 pub returns-in-Err-clause-damaged : goal.returns-in-Err-clause-damaged

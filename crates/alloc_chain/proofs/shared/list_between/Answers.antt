@@ -7,7 +7,7 @@ use Rattle.alloc_chain.specs.Faults.{refusal_of}
 use Rattle.alloc_chain.specs.Between.{count_between}
 use Rattle.alloc_chain.proofs.TableLemmas.{table_stays}
 use Rattle.alloc_chain.proofs.ListLemmas.{list_faults}
-use Rattle.alloc_chain.proofs.ReadLemmas.{Reads-same}
+use Rattle.save_bytes.proofs.CallLemmas.{Reads-same}
 use Rattle.alloc_chain.proofs.SharedLemmas.{step_within, same_entries, counted_start, counted_more}
 use Rattle.alloc_chain.proofs.shared.list_between.Goals as goal
 

@@ -10,7 +10,7 @@ use Rattle.alloc_chain.specs.Runs.{IsReached}
 use Rattle.alloc_chain.specs.Between.{count_between}
 use Rattle.alloc_chain.proofs.TableLemmas.{table_stays}
 use Rattle.alloc_chain.proofs.ListLemmas.{list_faults_later}
-use Rattle.alloc_chain.proofs.ReadLemmas.{Reads-same}
+use Rattle.save_bytes.proofs.CallLemmas.{Reads-same}
 use Rattle.alloc_chain.proofs.SharedLemmas.{crowded_all, crowded_back}
 use Rattle.alloc_chain.proofs.shared.shared_entry.Goals as goal
 

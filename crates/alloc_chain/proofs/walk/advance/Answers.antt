@@ -1,7 +1,7 @@
 use Rattle.std.proofs.Common.{Some, refl}
 use Rattle.save_bytes.proofs.CallLemmas.{Reads-join}
 use Rattle.alloc_chain.specs.Faults.{refusal_of}
-use Rattle.alloc_chain.proofs.ReadLemmas.{Stays-same}
+use Rattle.save_bytes.proofs.SpaceLemmas.{Stays-same}
 use Rattle.alloc_chain.proofs.ListLemmas.{list_faults, list_faults_later, reached_step, reached_later}
 use Rattle.alloc_chain.proofs.walk.advance.Goals as goal
 

@@ -4,7 +4,8 @@ use Rattle.name_buckets.specs.Kinds.{table_number, link_offset}
 use Rattle.name_buckets.specs.Tables.{table_in, entry_place}
 use Rattle.name_buckets.specs.Rules.{CanBeFreed}
 use Rattle.name_buckets.proofs.EntryLemmas.{least_some, link_last}
-use Rattle.name_buckets.proofs.StayLemmas.{now_told, count_stays, HasTable-stays, entry_fits, last_word, needed_read, IfDamaged-map}
+use Rattle.name_buckets.proofs.StayLemmas.{now_told, count_stays, HasTable-stays, entry_fits, last_word, needed_read}
+use Rattle.save_bytes.proofs.SpaceLemmas.{IfDamaged-map}
 use Rattle.name_buckets.proofs.CauseLemmas.{passed_on, bad_cause, broken_cause, plain_stays}
 use Rattle.name_buckets.proofs.FreeLemmas.{HasFollowed-more, followed_below, followed_needed, room_counted, wrong_number, named_before}
 use Rattle.name_buckets.proofs.free.free_in.Goals.{then-next-least_freed-via-then-next-least_freed, then-next-least_freed-via-else-next-least_freed+then-next-counts}
