@@ -18,7 +18,7 @@ use Rattle.page_image.specs.Layout.{IsEndOf}
 use Rattle.page_image.specs.Images.{byte_of, is_changed, image_state, Mirrors}
 use Rattle.page_image.specs.Spots.{SameImage, HoldsAt, Leaves, ImageLands}
 use Rattle.page_image.specs.Held.{shown, SameView, ImageKeeps}
-use Rattle.page_image.specs.Puts.{IsPut}
+use Rattle.page_image.specs.Puts.{IsPut, IsPending}
 use Rattle.page_image.proofs.SectorLemmas.{rising}
 
 -- marks on the sectors from the first that a range meets up to the end of those
@@ -99,3 +99,9 @@ module _ {D : Type 0} (states : D → disks.State) where
     damaged = λ told. tt;
     reach = λ told x below spot lands. rw put.grain at lands;
   }
+
+-- what was put is pending
+pub image_pending : (d : disks.State) (i j : ImageState) (at : ℕ) (piece : List ℕ) → IsPut at piece i j → IsPending at (length piece) d d j
+image_pending d i j at piece put k below clean =
+    let met : is_changed j ((at + k) / j.grain) ≡ true = rw put.grain (put.marks.met k below) in
+    absurd (cc)

@@ -4,6 +4,6 @@ pub mod Images
 pub mod Spots
 pub mod Held
 pub mod Laws
-pub mod Puts
 pub mod WriteOuts
+pub mod Puts
 pub mod Allowed

@@ -1,15 +1,20 @@
 //! A view of an image and its disk.
 
-ghost use Rattle.std.specs.Prelude.{refl, ◌≡◌, ℕ, true, IsTrue, OnOk, OnErr};
+ghost use Rattle.std.specs.Prelude.{refl, ◌≡◌, ℕ, true, length, IsTrue, OnOk, OnErr};
+ghost use Rattle.std.specs.Result.{result_err};
 ghost use Rattle.save_bytes.specs.Cells.{AreBytesAt};
+ghost use Rattle.save_bytes.specs.State.{IsWritable};
+ghost use Rattle.save_bytes.specs.Answers.{IsReady};
 ghost use Rattle.save_bytes.specs.Stays.{SameCells};
-ghost use Rattle.save_bytes.specs.Spots.{Spot, Frame};
+ghost use Rattle.save_bytes.specs.Puts.{Puts};
+ghost use Rattle.save_bytes.specs.Spots.{Spot, Frame, MovesOnly};
 ghost use Rattle.save_disk.specs.Trace.{Sync};
 ghost use Rattle.save_disk.specs.State.{GoesOn, Happens, IsQuiet, IsSteady, HasCause};
 ghost use Rattle.save_disk.specs.Writes.{GrewBy};
 ghost use Rattle.page_image.specs.Images.{IsDiskOf, Mirrors, IsStored};
 ghost use Rattle.page_image.specs.Spots.{ImageLands};
 ghost use Rattle.page_image.specs.Held.{shown, IsViewOf, SameView, ImageKeeps};
+ghost use Rattle.page_image.specs.Puts.{IsPending};
 ghost use Rattle.page_image.specs.WriteOuts.{WritesEach, WritesSome, IsClean};
 ghost use Rattle.page_image.specs.Laws.{image_size_fits, ImageKeeps-same, ImageKeeps-join, SameImage-shape};
 
@@ -116,7 +121,14 @@ impl<D: Disk> Space for Image<'_, D> {
         Ok(())
     }
 
-    fn put(&mut self, at: u64, bytes: &[u8]) -> Result<(), Bad> {
+    // The trait's clauses, and that what was put comes to the disk with the next flush, whatever its value.
+    fn put(&mut self, at: u64, bytes: &[u8]) -> Result<(), Bad>
+        requires { IsWritable (shown D.state self.old) at (length bytes.now) }
+        ensures ready { IsReady (shown D.state self.old) at (length bytes.now) (result_err result) }
+        ensures puts { Puts (shown D.state self.old) at bytes.now (shown D.state self.new) (result_err result) }
+        ensures moves { MovesOnly (ImageKeeps D.state) (λ view. ImageLands view.image.now.grain) (shown D.state self.old) self.old at (length bytes.now) self.new (result_err result) }
+        ensures pending { OnOk result (IsPending at (length bytes.now) (D.state self.old.disk.now) (D.state self.new.disk.now) self.new.image.now) }
+    {
         self.image.put(at, bytes);
         Ok(())
     }

@@ -1,5 +1,5 @@
 use Rattle.std.proofs.Common.{refl}
-use Rattle.page_image.proofs.PutLemmas.{image_put, image_moved}
+use Rattle.page_image.proofs.PutLemmas.{image_put, image_moved, image_pending}
 use Rattle.page_image.proofs.image.ImageSpace.put.Goals as goal
 
 pub returns-clause-puts : goal.returns-clause-puts
@@ -9,3 +9,6 @@ returns-clause-puts g c =
 pub returns-clause-moves : goal.returns-clause-moves
 returns-clause-moves g c =
     image_moved g.D.Disk.state c.args.self.now _ c.args.at c.args.bytes.now (record { same_image = refl; same_disk = refl }) refl c.put.ensures c.requires.inside.inside
+
+pub returns-clause-pending : goal.returns-clause-pending
+returns-clause-pending g c = image_pending (g.D.Disk.state c.args.self.now.disk.now) c.args.self.now.image.now c.put.new.self c.args.at c.args.bytes.now c.put.ensures
