@@ -1,18 +1,12 @@
 -- The writes of a sector behind those of the sectors before it.
-use Rattle.std.proofs.Common.{◌≡◌, ◌≢◌, ℕ, ◌+◌, ◌*◌, ◌<◌, ◌≤◌, Bool, true, false, ◌&&◌, eqb, ltb, List, [], ◌∷◌, ◌++◌, refl, sym, ◌∙◌, ap, arith, ⊎_elim, add_assoc, zero-add}
+use Rattle.std.proofs.Common.{◌≡◌, ◌≢◌, ℕ, ◌+◌, ◌*◌, ◌<◌, ◌≤◌, Bool, true, false, ◌&&◌, eqb, ltb, List, ◌++◌, refl, sym, ◌∙◌, ap, arith, ⊎_elim}
 use Rattle.std.proofs.lemmas.Bool.{cases_lt, cases_eq, lt-ltb, le-ltb, eq-eqb, eqb-true}
-use Rattle.save_disk.specs.Trace.{Event, Write, Sync, Said}
-use Rattle.save_disk.specs.Writes.{OnlyWrites}
-use Rattle.save_disk.proofs.Growth.{OnlyWrites-append, OnlyWrites-map}
+use Rattle.save_disk.specs.Trace.{Event}
+use Rattle.save_disk.specs.Writes.{OnlyWrites, one_if, writes_to}
+use Rattle.save_disk.proofs.Growth.{OnlyWrites-append, OnlyWrites-map, writes_to-append}
 use Rattle.page_image.specs.declared.state.ImageState.{ImageState}
 use Rattle.page_image.specs.Images.{byte_of, is_changed}
-use Rattle.page_image.specs.WriteOuts.{IsOwnWrite, one_if, writes_to, WritesEach, WritesSome}
-
-pub writes_to-append : (sector : ℕ) (xs ys : List Event) → writes_to sector (xs ++ ys) ≡ writes_to sector xs + writes_to sector ys
-writes_to-append sector [] ys = sym (zero-add (writes_to sector ys))
-writes_to-append sector (Write number bytes ∷ xs) ys = ap (λ (n : ℕ). one_if (eqb number sector) + n) (writes_to-append sector xs ys) ∙ sym (add_assoc (one_if (eqb number sector)) (writes_to sector xs) (writes_to sector ys))
-writes_to-append sector (Sync ∷ xs) ys = writes_to-append sector xs ys
-writes_to-append sector (Said bytes ∷ xs) ys = writes_to-append sector xs ys
+use Rattle.page_image.specs.WriteOuts.{IsOwnWrite, WritesEach, WritesSome}
 
 -- an own write of the same bytes, where the sector is as much changed
 own_same : (i j : ImageState) (sector : ℕ) (written : List ℕ) → j.grain ≡ i.grain → ((x : ℕ) → byte_of j x ≡ byte_of i x) → is_changed j sector ≡ is_changed i sector → IsOwnWrite j sector written → IsOwnWrite i sector written

@@ -82,7 +82,7 @@ module _ (d : disks.State) (i j : ImageState) (at : ℕ) (piece : List ℕ) (put
       before told is x inside clean_before ∙ sym (outside x (λ k within same. missed k within (ap (λ (y : ℕ). y / i.grain) (sym same))))
 
   same_image : SameImage d i d j
-  same_image = record { len = put.len; grain = put.grain; steady = steady_start d; writes = WritesOnly-quiet (λ sector bytes. ⊤) d d refl; mirrors = mirrors }
+  same_image = record { len = put.len; grain = put.grain; steady = steady_start d; writes = WritesOnly-quiet (λ sector bytes. ⊤) d d refl; mirrors = mirrors; pending = λ sector changed clean. absurd (let same = put.marks.others sector (unmet sector clean) in cc) }
 
   -- a spot that the put misses is left alone
   pub put_leaves : (spot : Spot) → Misses (ImageLands i.grain) at (length piece) spot → Leaves spot d i d j

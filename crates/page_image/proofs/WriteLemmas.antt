@@ -1,13 +1,13 @@
 -- What a write of a changed sector leaves.
-use Rattle.std.proofs.Common.{◌≡◌, ◌≢◌, ◌⊎◌, ℕ, ◌+◌, ◌-◌, ◌*◌, ◌/◌, ◌%◌, ◌<◌, ◌≤◌, false, List, [], ◌∷◌, ◌++◌, length, get_or, Some, refl, sym, ◌∙◌, ap, arith, inl, inr, ⊎_elim}
+use Rattle.std.proofs.Common.{◌≡◌, ◌≢◌, ◌⊎◌, ℕ, ◌+◌, ◌-◌, ◌*◌, ◌/◌, ◌%◌, ◌<◌, ◌≤◌, true, false, List, [], ◌∷◌, ◌++◌, length, get_or, Some, refl, sym, ◌∙◌, ap, arith, inl, inr, ⊎_elim}
 use Rattle.std.specs.Bool.{⊤}
 use Rattle.std.proofs.lemmas.List.{append-nil}
 use Rattle.std.proofs.lemmas.Nat.{div-add-mod', div-mul-add, mod_below}
-use Rattle.std.proofs.lemmas.Bool.{cases_lt, cases_eq}
+use Rattle.std.proofs.lemmas.Bool.{cases_lt, cases_eq, eq-eqb}
 use Rattle.save_bytes.specs.Spots.{Spot, Place, Sector, Frame}
 use Rattle.save_disk.specs.Trace.{Event, Write, Told, with_sector, image_now}
 use Rattle.save_disk.specs.State as disks
-use Rattle.save_disk.specs.Writes.{OnlyWrites, GrewBy}
+use Rattle.save_disk.specs.Writes.{OnlyWrites, GrewBy, writes_to, WritesTo}
 use Rattle.save_disk.proofs.SectorBytes.{with_sector-before, with_sector-behind, with_sector-inside}
 use Rattle.save_disk.proofs.Told.{told_grain, now_size}
 use Rattle.save_disk.proofs.Growth.{grew_happens, grew_failed, came_from, image_written, image_unchanged}
@@ -86,9 +86,16 @@ module _ (i : ImageState) (n : ℕ) (bytes : List ℕ) (own : IsOwnWrite i n byt
       ∙ sym (same x)
 
   -- what is left where the trace may have this write more
-  left_by : (d e : disks.State) (j : ImageState) → disks.IsSteady d e → j.len ≡ i.len → j.grain ≡ i.grain → ((x : ℕ) → byte_of j x ≡ byte_of i x) → ((sector : ℕ) → sector ≢ n → is_changed j sector ≡ is_changed i sector) → (Mirrors d i → Mirrors e j) → ((P : List Event → Type 0) → P [] → P (Write n bytes ∷ []) → disks.GoesOn (GrewBy P) d e) → (spot : Spot) → Leaves spot d i e j
-  left_by d e j steady len grain same others mirrors grow spot = (record { len = len; grain = grain; steady = steady; writes = grow (OnlyWrites (λ sector written. ⊤)) tt (tt, tt); mirrors = mirrors }, left_spot spot)
+  left_by : (d e : disks.State) (j : ImageState) → disks.IsSteady d e → j.len ≡ i.len → j.grain ≡ i.grain → ((x : ℕ) → byte_of j x ≡ byte_of i x) → ((sector : ℕ) → sector ≢ n → is_changed j sector ≡ is_changed i sector) → (Mirrors d i → Mirrors e j) → (is_changed j n ≡ false → WritesTo n d e) → ((P : List Event → Type 0) → P [] → P (Write n bytes ∷ []) → disks.GoesOn (GrewBy P) d e) → (spot : Spot) → Leaves spot d i e j
+  left_by d e j steady len grain same others mirrors pending grow spot = (record { len = len; grain = grain; steady = steady; writes = grow (OnlyWrites (λ sector written. ⊤)) tt (tt, tt); mirrors = mirrors; pending = still }, left_spot spot)
     where
+      still : (sector : ℕ) → is_changed i sector ≡ true → is_changed j sector ≡ false → WritesTo sector d e
+      still sector changed clean =
+          ⊎_elim
+          (λ (here : sector ≡ n). rw here (pending (rw here at clean)))
+          (λ (apart : sector ≢ n). let same = others sector apart in absurd (cc))
+          (cases_eq sector n)
+
       left_spot : (spot : Spot) → SameSpot spot d i e j
       left_spot (Place x) = (same x, grow (OnlyWrites (HoldsAt i.grain x (byte_of i x))) tt (λ from below. own_byte x from below, tt))
       left_spot (Sector number) = λ clean. (let apart = other_sector number clean in (others number apart ∙ clean, grow (OnlyWrites (λ sector written. sector ≢ number)) tt (λ is. apart (sym is), tt)))
@@ -101,6 +108,7 @@ module _ (i : ImageState) (n : ℕ) (bytes : List ℕ) (own : IsOwnWrite i n byt
       (λ before now here x below clean.
       let from = came_from (GrewBy (λ events. events ≡ Write n bytes ∷ [])) d e now (grew_happens (λ events. events ≡ Write n bytes ∷ []) (Write n bytes) d e happens refl) here in
       mirrors_written d e j sound disk_of begins len grain same (λ sector apart clean_j. sym (others sector apart) ∙ clean_j) now from.0 from.1 from.2 before x below clean)
+      (λ clean. grew_happens (λ events. 1 ≤ writes_to n events) (Write n bytes) d e happens (rw (eq-eqb n n refl) (omega arith)))
       (λ P none such. grew_happens P (Write n bytes) d e happens such)
 
   -- the write failed, and the sector stays changed
@@ -118,4 +126,5 @@ module _ (i : ImageState) (n : ℕ) (bytes : List ℕ) (own : IsOwnWrite i n byt
       let grew : GrewBy (λ events. events ≡ Write n bytes ∷ []) from.0 now = record { start = bad.start; grain = bad.grain; left = bad.left; added = Write n bytes ∷ []; events = more; such = refl } in
       mirrors_written d e i sound disk_of begins refl refl (λ y. refl) (λ sector apart clean_i. clean_i) now from.0 from.1 grew before x below clean)
       bad.events)
+      (λ clean. let changed = own.changed in absurd (cc))
       (λ P none such. grew_failed P n bytes d e fails none such)

@@ -1,14 +1,14 @@
 -- The laws of a space, of an image.
-use Rattle.std.specs.Prelude.{◌≡◌, ◌≢◌, ◌^◌, ◌<◌, refl, ⊤}
-use Rattle.std.proofs.Common.{◌∙◌, arith}
+use Rattle.std.specs.Prelude.{◌≡◌, ◌≢◌, ◌⊎◌, ◌^◌, ◌<◌, Bool, true, false, refl, ⊤}
+use Rattle.std.proofs.Common.{◌∙◌, arith, inl, inr, ⊎_elim}
 use Rattle.save_bytes.specs.Spots.{Spot, Place, Sector, Frame}
 use Rattle.save_disk.specs.State as disks
 use Rattle.save_disk.specs.Writes.{WritesOnly}
 use Rattle.save_disk.proofs.Telling.{steady_start, steady_join}
-use Rattle.save_disk.proofs.Growth.{WritesOnly-quiet, WritesOnly-join}
+use Rattle.save_disk.proofs.Growth.{WritesOnly-quiet, WritesOnly-join, WritesTo-first, WritesTo-later}
 use Rattle.page_image.specs.declared.state.ImageState.{ImageState}
 use Rattle.page_image.specs.declared.image.Image.{Image}
-use Rattle.page_image.specs.Images.{byte_of, image_state}
+use Rattle.page_image.specs.Images.{byte_of, is_changed, image_state}
 use Rattle.page_image.specs.Spots.{SameImage, HoldsAt, SameSpot, Leaves}
 use Rattle.page_image.specs.Held.{ImageKeeps}
 
@@ -16,7 +16,7 @@ pub image_size_fits : (d : disks.State) (image : ImageState) → (image_state d 
 image_size_fits d image = omega (arith, image.layout.most)
 
 SameImage-same : (d : disks.State) (image : ImageState) → SameImage d image d image
-SameImage-same d image = record { len = refl; grain = refl; steady = steady_start d; writes = WritesOnly-quiet (λ sector bytes. ⊤) d d refl; mirrors = λ h. h }
+SameImage-same d image = record { len = refl; grain = refl; steady = steady_start d; writes = WritesOnly-quiet (λ sector bytes. ⊤) d d refl; mirrors = λ h. h; pending = λ sector changed clean. absurd (cc) }
 
 SameSpot-same : (spot : Spot) (d : disks.State) (image : ImageState) → SameSpot spot d image d image
 SameSpot-same (Place x) d image = (refl, WritesOnly-quiet (HoldsAt image.grain x (byte_of image x)) d d refl)
@@ -29,6 +29,10 @@ Leaves-same spot d image = (SameImage-same d image, SameSpot-same spot d image)
 pub ImageKeeps-same : {D : Type 0} (states : D → disks.State) (spot : Spot) (s : Image D) → ImageKeeps states spot s s
 ImageKeeps-same states spot s = (record { same_image = refl; same_disk = refl }, Leaves-same spot (states s.disk.now) s.image.now)
 
+either : (b : Bool) → (b ≡ true) ⊎ (b ≡ false)
+either true = inl refl
+either false = inr refl
+
 module _ (d e f : disks.State) (i j k : ImageState) where
   SameImage-join : SameImage d i e j → SameImage e j f k → SameImage d i f k
   SameImage-join h g = record {
@@ -37,6 +41,11 @@ module _ (d e f : disks.State) (i j k : ImageState) where
     steady = steady_join d e f h.steady g.steady;
     writes = WritesOnly-join (λ sector bytes. ⊤) d e f h.writes g.writes;
     mirrors = λ mirrors. g.mirrors (h.mirrors mirrors);
+    pending = λ sector changed clean.
+        ⊎_elim
+        (λ still. WritesTo-later sector (λ number bytes. ⊤) d e f h.writes (g.pending sector still clean))
+        (λ written. WritesTo-first sector (λ number bytes. ⊤) d e f (h.pending sector changed written) g.writes)
+        (either (is_changed j sector));
   }
 
   SameSpot-join : (spot : Spot) → j.grain ≡ i.grain → SameSpot spot d i e j → SameSpot spot e j f k → SameSpot spot d i f k

@@ -1,11 +1,10 @@
 -- What calls leave of what is held.
-use Rattle.std.specs.Prelude.{◌≡◌, ◌≢◌, ℕ, ◌+◌, ◌/◌, ◌<◌, ◌≤◌, true, false, List, length}
+use Rattle.std.specs.Prelude.{◌≡◌, ◌≢◌, ℕ, ◌+◌, ◌/◌, ◌<◌, true, false, List, length}
 use Rattle.save_bytes.specs.Fields.{with_bytes}
 use Rattle.page_image.specs.declared.state.ImageState.{ImageState}
 use Rattle.save_disk.specs.State as disks
-use Rattle.save_disk.specs.Writes.{GrewBy}
+use Rattle.save_disk.specs.Writes.{WritesTo}
 use Rattle.page_image.specs.Images.{is_changed}
-use Rattle.page_image.specs.WriteOuts.{writes_to}
 
 -- the sectors that have one of the n places from a place on are changed, and the others are as before
 pub record Marks (at n : ℕ) (old new : ImageState) : Type 0 where
@@ -31,4 +30,4 @@ pub record IsUnmarked (sector : ℕ) (old new : ImageState) : Type 0 where
 -- each of the n places from a place on lies in a sector that is changed, or that was written in the call
 abbrev pub IsPending : ℕ → ℕ → disks.State → disks.State → ImageState → Type 0
 IsPending at n disk disk_new new =
-    (k : ℕ) → k < n → is_changed new ((at + k) / new.grain) ≡ false → disks.GoesOn (GrewBy (λ events. 1 ≤ writes_to ((at + k) / new.grain) events)) disk disk_new
+    (k : ℕ) → k < n → is_changed new ((at + k) / new.grain) ≡ false → WritesTo ((at + k) / new.grain) disk disk_new

@@ -1,19 +1,20 @@
 -- Which bytes and sectors of the disk a call on an image leaves alone.
-use Rattle.std.specs.Prelude.{◌≡◌, ◌≢◌, ℕ, ◌-◌, ◌+◌, ◌*◌, ◌/◌, ◌<◌, ◌≤◌, false, List, slice_index, ⊤}
+use Rattle.std.specs.Prelude.{◌≡◌, ◌≢◌, ℕ, ◌-◌, ◌+◌, ◌*◌, ◌/◌, ◌<◌, ◌≤◌, true, false, List, slice_index, ⊤}
 use Rattle.save_bytes.specs.Spots.{Spot, Place, Sector, Frame}
 use Rattle.save_disk.specs.State as disks
-use Rattle.save_disk.specs.Writes.{WritesOnly}
+use Rattle.save_disk.specs.Writes.{WritesOnly, WritesTo}
 use Rattle.page_image.specs.declared.state.ImageState.{ImageState}
 use Rattle.page_image.specs.Images.{byte_of, is_changed, Mirrors}
 
--- What no call changes: the length and the grain. The disk's trace grows by writes alone, and what is not changed
--- stays on the disk.
+-- What no call changes: the length and the grain. The disk's trace grows by writes alone. What is not changed stays on
+-- the disk, and what is changed stays so until its sector is written.
 pub record SameImage (disk : disks.State) (image : ImageState) (disk_new : disks.State) (image_new : ImageState) : Type 0 where
   pub len : image_new.len ≡ image.len
   pub grain : image_new.grain ≡ image.grain
   pub steady : disks.IsSteady disk disk_new
   pub writes : WritesOnly (λ sector bytes. ⊤) disk disk_new
   pub mirrors : Mirrors disk image → Mirrors disk_new image_new
+  pub pending : (sector : ℕ) → is_changed image sector ≡ true → is_changed image_new sector ≡ false → WritesTo sector disk disk_new
 
 -- where the write covers the place, it holds this byte there
 abbrev pub HoldsAt : ℕ → ℕ → ℕ → ℕ → List ℕ → Type 0

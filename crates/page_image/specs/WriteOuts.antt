@@ -1,7 +1,7 @@
 -- How changed sectors come to the disk.
 use Rattle.std.specs.Prelude.{◌≡◌, ℕ, ◌+◌, ◌*◌, ◌<◌, ◌≤◌, Bool, true, false, ◌==◌, ◌&&◌, if◌then◌else◌, List, [], ◌∷◌, length, slice_index}
-use Rattle.save_disk.specs.Trace.{Event, Write, Sync, Said}
-use Rattle.save_disk.specs.Writes.{OnlyWrites}
+use Rattle.save_disk.specs.Trace.{Event}
+use Rattle.save_disk.specs.Writes.{OnlyWrites, one_if, writes_to}
 use Rattle.page_image.specs.declared.state.ImageState.{ImageState}
 use Rattle.page_image.specs.Images.{byte_of, is_changed}
 
@@ -14,17 +14,6 @@ pub record IsSectorOf (image : ImageState) (sector : ℕ) (bytes : List ℕ) : T
 pub record IsOwnWrite (image : ImageState) (sector : ℕ) (written : List ℕ) : Type 0 where
   pub changed : is_changed image sector ≡ true
   pub bytes : IsSectorOf image sector written
-
--- 1 for what holds, else 0
-abbrev pub one_if : Bool → ℕ
-one_if holds = if holds then 1 else 0
-
--- how many of the events write the sector
-abbrev pub writes_to : ℕ → List Event → ℕ
-writes_to sector [] = 0
-writes_to sector (Write number bytes ∷ events) = one_if (number == sector) + writes_to sector events
-writes_to sector (Sync ∷ events) = writes_to sector events
-writes_to sector (Said bytes ∷ events) = writes_to sector events
 
 -- of the chosen sectors each that is changed was written as it is, once, and no other
 pub record WritesEach (image : ImageState) (is_chosen : ℕ → Bool) (events : List Event) : Type 0 where

@@ -1,10 +1,10 @@
 -- How calls that add events add up.
-use Rattle.std.proofs.Common.{◌≡◌, ◌⊎◌, ℕ, Bool, List, [], ◌∷◌, ◌++◌, Option, Some, None, MatchOption, refl, sym, subst, ◌∙◌, ap, append_assoc, ⊎_elim}
+use Rattle.std.proofs.Common.{◌≡◌, ◌⊎◌, ℕ, ◌+◌, ◌≤◌, eqb, List, [], ◌∷◌, ◌++◌, Option, Some, None, MatchOption, refl, sym, subst, ◌∙◌, ap, append_assoc, ⊎_elim, add_assoc, zero-add, arith}
 use Rattle.std.specs.Option.{option_map}
 use Rattle.std.proofs.lemmas.List.{append-nil, append_cancel_left}
 use Rattle.save_disk.specs.Trace.{Event, Write, Sync, Said, Told, with_sector, image_after, image_now}
 use Rattle.save_disk.specs.State.{State, IsQuiet, Happens, GoesOn, WriteFails, then_event}
-use Rattle.save_disk.specs.Writes.{OnlyWrites, GrewBy, WritesOnly}
+use Rattle.save_disk.specs.Writes.{OnlyWrites, GrewBy, WritesOnly, one_if, writes_to, WritesTo}
 use Rattle.save_disk.proofs.Events.{image_after-push}
 
 pub OnlyWrites-append : (Q : ℕ → List ℕ → Type 0) (xs ys : List Event) → OnlyWrites Q xs → OnlyWrites Q ys → OnlyWrites Q (xs ++ ys)
@@ -18,6 +18,20 @@ OnlyWrites-map P Q [] f h = tt
 OnlyWrites-map P Q (Write sector bytes ∷ events) f h = (f sector bytes h.0, OnlyWrites-map P Q events f h.1)
 OnlyWrites-map P Q (Sync ∷ events) f h = absurd h
 OnlyWrites-map P Q (Said bytes ∷ events) f h = absurd h
+
+-- writes behind writes
+pub writes_to-append : (sector : ℕ) (xs ys : List Event) → writes_to sector (xs ++ ys) ≡ writes_to sector xs + writes_to sector ys
+writes_to-append sector [] ys = sym (zero-add (writes_to sector ys))
+writes_to-append sector (Write number bytes ∷ xs) ys = ap (λ (n : ℕ). one_if (eqb number sector) + n) (writes_to-append sector xs ys) ∙ sym (add_assoc (one_if (eqb number sector)) (writes_to sector xs) (writes_to sector ys))
+writes_to-append sector (Sync ∷ xs) ys = writes_to-append sector xs ys
+writes_to-append sector (Said bytes ∷ xs) ys = writes_to-append sector xs ys
+
+-- a sector that is written by a front of the events or by the rest
+pub written_first : (sector : ℕ) (xs ys : List Event) → 1 ≤ writes_to sector xs → 1 ≤ writes_to sector (xs ++ ys)
+written_first sector xs ys some = omega (arith, writes_to-append sector xs ys)
+
+pub written_later : (sector : ℕ) (xs ys : List Event) → 1 ≤ writes_to sector ys → 1 ≤ writes_to sector (xs ++ ys)
+written_later sector xs ys some = omega (arith, writes_to-append sector xs ys)
 
 module _ (P Q R : List Event → Type 0) (append : (xs ys : List Event) → P xs → Q ys → R (xs ++ ys)) where
   grew_then : (a b c : Told) → GrewBy P a b → GrewBy Q b c → GrewBy R a c
@@ -140,3 +154,10 @@ module _ {T : Type 0} (Q : T → ℕ → List ℕ → Type 0) where
   -- a call whose writes each of the relations allows
   pub WritesOnly-all : (P : ℕ → List ℕ → Type 0) (one two : State) → WritesOnly P one two → ((t : T) → WritesOnly (Q t) one two) → WritesOnly (λ sector bytes. (t : T) → Q t sector bytes) one two
   WritesOnly-all P one two base each = went_all P one.told two.told base each
+
+-- a sector that is written stays so, and so does one that was
+pub WritesTo-first : (sector : ℕ) (P : ℕ → List ℕ → Type 0) (one two three : State) → WritesTo sector one two → WritesOnly P two three → WritesTo sector one three
+WritesTo-first sector P = GoesOn-then (λ events. 1 ≤ writes_to sector events) (OnlyWrites P) (λ events. 1 ≤ writes_to sector events) (λ xs ys some rest. written_first sector xs ys some)
+
+pub WritesTo-later : (sector : ℕ) (P : ℕ → List ℕ → Type 0) (one two three : State) → WritesOnly P one two → WritesTo sector two three → WritesTo sector one three
+WritesTo-later sector P = GoesOn-then (OnlyWrites P) (λ events. 1 ≤ writes_to sector events) (λ events. 1 ≤ writes_to sector events) (λ xs ys front some. written_later sector xs ys some)
