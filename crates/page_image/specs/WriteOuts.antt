@@ -1,5 +1,5 @@
 -- How changed sectors come to the disk.
-use Rattle.std.specs.Prelude.{◌≡◌, ℕ, ◌+◌, ◌*◌, ◌<◌, ◌≤◌, Bool, true, false, ◌==◌, ◌&&◌, if◌then◌else◌, List, [], ◌∷◌, length, slice_index}
+use Rattle.std.specs.Prelude.{◌≡◌, ℕ, ◌+◌, ◌*◌, ◌<◌, ◌≤◌, Bool, true, false, ◌&&◌, List, length, slice_index}
 use Rattle.save_disk.specs.Trace.{Event}
 use Rattle.save_disk.specs.Writes.{OnlyWrites, one_if, writes_to}
 use Rattle.page_image.specs.declared.state.ImageState.{ImageState}

@@ -1,8 +1,8 @@
 -- How calls that add events add up.
-use Rattle.std.proofs.Common.{◌≡◌, ◌⊎◌, ℕ, ◌+◌, ◌≤◌, eqb, List, [], ◌∷◌, ◌++◌, Option, Some, None, MatchOption, refl, sym, subst, ◌∙◌, ap, append_assoc, ⊎_elim, add_assoc, zero-add, arith}
+use Rattle.std.proofs.Common.{◌≡◌, ℕ, ◌+◌, ◌≤◌, eqb, List, [], ◌∷◌, ◌++◌, Option, Some, None, MatchOption, refl, sym, subst, ◌∙◌, ap, append_assoc, ⊎_elim, add_assoc, zero-add, arith}
 use Rattle.std.specs.Option.{option_map}
 use Rattle.std.proofs.lemmas.List.{append-nil, append_cancel_left}
-use Rattle.save_disk.specs.Trace.{Event, Write, Sync, Said, Told, with_sector, image_after, image_now}
+use Rattle.save_disk.specs.Trace.{Event, Write, Sync, Said, Told, with_sector, image_now}
 use Rattle.save_disk.specs.State.{State, IsQuiet, Happens, GoesOn, WriteFails, then_event}
 use Rattle.save_disk.specs.Writes.{OnlyWrites, GrewBy, WritesOnly, one_if, writes_to, WritesTo}
 use Rattle.save_disk.proofs.Events.{image_after-push}

@@ -1,7 +1,6 @@
 -- Pieces of an image as its sectors give them.
-use Rattle.std.proofs.Common.{◌≡◌, ℕ, ◌+◌, ◌-◌, ◌*◌, ◌/◌, ◌%◌, ◌<◌, ◌≤◌, List, [], ◌∷◌, ◌++◌, length, take, drop, replicate, min, Option, Some, IsTrue, IfSome, refl, sym, ◌∙◌, ap, subst, arith}
+use Rattle.std.proofs.Common.{◌≡◌, ℕ, ◌+◌, ◌-◌, ◌*◌, ◌≤◌, List, ◌++◌, length, take, drop, replicate, min, Option, Some, IsTrue, IfSome, ◌∙◌, ap, subst, arith}
 use Rattle.std.proofs.lemmas.List.{length-take, length-drop, take-append-le, drop-append-le, drop-take, take-take, drop-drop}
-use Rattle.std.proofs.lemmas.Nat.{div-add-mod'}
 use Rattle.save_disk.specs.Trace.{Told, IsFresh, sector_cut, sector_of, image_after, image_now}
 use Rattle.save_disk.specs.State.{State, IsRead, IsSound}
 

@@ -1,6 +1,6 @@
 -- The bytes of a sector, and of an image with other bytes in a sector.
-use Rattle.std.proofs.Common.{◌≡◌, ◌⊎◌, ℕ, ◌+◌, ◌-◌, ◌*◌, ◌<◌, ◌≤◌, min, List, ◌++◌, length, get_or, take, drop, replicate, refl, sym, ◌∙◌, ap, arith, ⊎_elim, rules, get_or-take, get_or-drop}
-use Rattle.std.proofs.lemmas.List.{places, get_or_past, get_or_append_left, get_or-append_right, get_or-replicate, length-replicate, length-take, length-drop}
+use Rattle.std.proofs.Common.{◌≡◌, ℕ, ◌+◌, ◌-◌, ◌*◌, ◌<◌, ◌≤◌, List, ◌++◌, length, get_or, drop, replicate, refl, sym, ◌∙◌, arith, ⊎_elim, rules, get_or-take, get_or-drop}
+use Rattle.std.proofs.lemmas.List.{places, get_or_past, get_or_append_left, get_or-append_right, get_or-replicate, length-replicate}
 use Rattle.std.proofs.lemmas.Bool.{cases_lt}
 use Rattle.save_disk.specs.Trace.{sector_cut, sector_of, with_sector}
 

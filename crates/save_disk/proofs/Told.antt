@@ -1,10 +1,9 @@
 -- What it means that a disk tells its trace and each read.
-use Rattle.std.proofs.Common.{◌≡◌, ◌⊎◌, ℕ, zero, suc, ◌/◌, ◌<◌, ◌≤◌, Bool, true, false, ◌&&◌, IsTrue, List, length, Option, Some, None, IfSome, refl, sym, ap, subst, arith, ⊎_elim, ◌∙◌}
-use Rattle.std.proofs.Math.Facts.{and_yes, yes_and}
-use Rattle.std.proofs.lemmas.Bool.{cases_lt, cases_eq}
+use Rattle.std.proofs.Common.{◌≡◌, ℕ, zero, suc, ◌/◌, ◌<◌, ◌≤◌, Bool, true, false, ◌&&◌, IsTrue, List, length, Option, Some, None, IfSome, refl, ap, subst, arith, ⊎_elim, ◌∙◌}
+use Rattle.std.proofs.lemmas.Bool.{cases_lt}
 use Rattle.save_disk.specs.Trace.{Told, IsFresh, sector_of, image_now}
 use Rattle.save_disk.specs.State.{State, IsSound, IsRead}
-use Rattle.save_disk.specs.Tells.{all_below, is_sure, tells, image_of, image_told}
+use Rattle.save_disk.specs.Tells.{all_below, is_sure, tells}
 
 -- a number below the bound passes
 pub all_below-at : (test : ℕ → Bool) (n x : ℕ) → IsTrue (all_below test n) → x < n → IsTrue (test x)

@@ -1,4 +1,4 @@
-use Rattle.std.proofs.Common.{◌≡◌, ◌<◌, length, get_or, sym, ◌∙◌, arith, rules, add-zero}
+use Rattle.std.proofs.Common.{◌≡◌, ◌<◌, length, get_or, sym, arith, rules, add-zero}
 use Rattle.save_bytes.specs.Cells.{Byte}
 use Rattle.save_disk.specs.Trace.{image_now}
 use Rattle.page_image.specs.Images.{byte_of}

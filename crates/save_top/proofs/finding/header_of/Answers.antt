@@ -1,4 +1,4 @@
-use Rattle.std.proofs.Common.{◌≡◌, ◌+◌, ◌*◌, ◌<◌, ◌≤◌, length, take, ◌∙◌, sym, ap, subst, arith}
+use Rattle.std.proofs.Common.{◌∙◌, sym, arith}
 use Rattle.save_disk.proofs.Pieces.{read_fresh, start_size}
 use Rattle.save_top.proofs.Findings.{reading_short, front_of_sector}
 use Rattle.save_top.proofs.finding.header_of.Goals as goal

@@ -1,4 +1,4 @@
-use Rattle.std.proofs.Common.{◌≡◌, ◌≤◌, ◌-◌, take, drop}
+use Rattle.std.proofs.Common.{◌≤◌, ◌-◌, take, drop}
 use Rattle.sha2.specs.Hashers.{Holds256}
 use Rattle.save_disk.specs.State.{IsQuiet, IsSteady}
 use Rattle.save_disk.specs.Tells.{WhenFresh}

@@ -1,5 +1,4 @@
-use Rattle.std.proofs.Common.{◌≡◌, ap, sym, subst}
-use Rattle.save_disk.specs.Trace.{Event}
+use Rattle.std.proofs.Common.{subst}
 use Rattle.save_disk.specs.Stops.{AtEachMoment}
 use Rattle.save_top.specs.Output.{SaysFront}
 use Rattle.save_top.specs.Finding.{Reply}
