@@ -1,7 +1,8 @@
 //! A space, and behind it the bytes of a chain's blocks once more.
 
 ghost use Rattle.std.specs.Prelude.{◌≡◌, ℕ, IsTrue, List, refl};
-ghost use Rattle.std.proofs.Common.{◌∙◌};
+ghost use Rattle.std.proofs.Common.{◌∙◌, sym};
+ghost use Rattle.std.proofs.lemmas.Bool.{false≢true};
 ghost use Rattle.save_bytes.specs.State.{State};
 ghost use Rattle.save_bytes.specs.Spots.{Frame};
 ghost use Rattle.alloc_chain.specs.declared.node.Lead.TheVariants.{Opens};
@@ -63,6 +64,8 @@ impl<S: Space> Space for ChainSpace<'_, S> {
 
     ghost keeps_shape = { λ s t h. shown_shape s.shown t.shown (S.state s.base.now) (S.state t.base.now) h.1
         (S.keeps_shape s.base.now t.base.now h.2) };
+
+    ghost keeps_cells = { λ s t sound single told still kept. absurd (false≢true (sym single)) };
 
     fn len(&self) -> u64 {
         self.base.len().saturating_add(shown_len(self.shown))

@@ -64,6 +64,8 @@ impl<F: Floor> Space for Untold<'_, F> {
 
     ghost keeps_shape = { λ s t h. F.keeps_shape s.base.now t.base.now h.1 };
 
+    ghost keeps_cells = { λ s t sound single told. absurd (false≢true told) };
+
     fn len(&self) -> u64 {
         self.base.len()
     }

@@ -8,7 +8,8 @@ use Rattle.difi.specs.declared.descriptor.Difi.{Difi}
 use Rattle.difi.specs.Places.{blocks_of, bitmap_size}
 use Rattle.dpfs_tree.specs.Picks.{bytes_of, word_of, bit_of, pick1, pick2}
 use Rattle.difi.proofs.PlaceLemmas.{block_below}
-use Rattle.dpfs_tree.proofs.PickLemmas.{bit_of-same, word_in_block, word_inside}
+use Rattle.dpfs_tree.specs.SameLaws.{bit_of-same, word_inside}
+use Rattle.dpfs_tree.proofs.PickLemmas.{word_in_block}
 
 -- the number in four cells is their word
 pub number_in-word : (cells : ℕ → Cell) (from n : ℕ) → number_in 4 cells (from + 4 * n) ≡ word_of (λ x. bytes_of cells (from + x)) n
@@ -38,10 +39,6 @@ bit_of-pick2 bytes part_at difi selector from copy k least is chosen =
 pub word_block_below : (difi : Difi) (block : ℕ) → block < blocks_of difi.dpfs3 → bitmap_size difi.dpfs3 ≤ difi.dpfs2.size → 4 * (block / 32) / 2 ^ difi.dpfs2.log < blocks_of difi.dpfs2
 word_block_below difi block h enough =
     block_below (4 * (block / 32)) difi.dpfs2.size difi.dpfs2.log (omega (arith, word_inside block (blocks_of difi.dpfs3) h, enough))
-
--- a place of a copy lies in the base
-pub in_copy : (start size copy x base : ℕ) → copy < 2 → x ≤ size → start + 2 * size ≤ base → start + copy * size + x ≤ base
-in_copy start size copy x base h inside fits = omega (arith, row_fits copy size 2 size h (omega arith))
 
 -- bits stay where the cells do
 pub bit_of-stays : (old new : ℕ → Cell) (size from k : ℕ) → ((x : ℕ) → x < size → new x ≡ old x) → from + (4 * (k / 32) + 4) ≤ size → bit_of (λ x. bytes_of new (from + x)) k ≡ bit_of (λ x. bytes_of old (from + x)) k

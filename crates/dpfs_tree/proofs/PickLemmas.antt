@@ -28,13 +28,6 @@ unfolding place_of copy_of chosen pick3
 place_of-chosen bytes part_at difi state x unmarked =
     cond_out bytes (ltb x difi.dpfs3.size) _ _ ∙ rw (unmarked (x / 2 ^ difi.dpfs3.log)) refl
 
--- two lists with the same bytes in a word have the same bit there
-pub bit_of-same : (one other : ℕ → ℕ) (k : ℕ) → ((i : ℕ) → i < 4 → one (4 * (k / 32) + i) ≡ other (4 * (k / 32) + i)) → bit_of one k ≡ bit_of other k
-unfolding bit_of word_of
-bit_of-same one other k same =
-    let first : one (4 * (k / 32)) ≡ other (4 * (k / 32)) = simp add-zero at (same 0 (omega arith)) in
-    rw (first, same 1 (omega arith), same 2 (omega arith), same 3 (omega arith)) refl
-
 -- places of one block
 pub same_block : (at k size : ℕ) → 0 < size → k < size - at % size → (at + k) / size ≡ at / size
 same_block at k size some h =
@@ -55,10 +48,6 @@ word_in_block m i log least h =
     let split = div-add-mod' (4 * m) (2 ^ log) in
     let inside = mod_below (4 * m) (2 ^ log) some in
     same_block (4 * m) i (2 ^ log) some (rw four (four_in m i c (4 * m / (4 * c) * c) (4 * m % (4 * c)) (omega (arith, rw four at split)) (omega (arith, rw four at inside)) h))
-
--- the word of a block's bit lies in the bits of all blocks
-pub word_inside : (k blocks : ℕ) → k < blocks → 4 * (k / 32) + 4 ≤ 4 * div_ceil blocks 32
-word_inside k blocks h = omega arith
 
 -- a run lies in one piece
 pub place_of-run : (bytes : ℕ → ℕ) (part_at : ℕ) (difi : Difi) (state : DpfsState) (at k : ℕ) → k < run_of difi at → place_of bytes part_at difi state (at + k) ≡ place_of bytes part_at difi state at + k
@@ -99,11 +88,3 @@ run_of-is difi at inside =
     rw (lt-ltb at difi.dpfs3.size below) (record { some = omega (arith, rest, below); in_view = omega (arith, below); in_level3 = λ _. omega arith }))
     (λ (behind : difi.dpfs3.size ≤ at). rw (le-ltb at difi.dpfs3.size behind) (record { some = omega (arith, inside); in_view = omega (arith, inside); in_level3 = λ below. absurd (omega (arith, behind, below)) }))
     (cases_lt at difi.dpfs3.size)
-
--- behind level 3 there is external level four alone
-external_there : (difi : Difi) (external : Bool) → difi.external ≡ external → (at : ℕ) → difi.dpfs3.size ≤ at → at < view_size difi → (difi.external ≡ true) × (view_size difi ≡ difi.dpfs3.size + difi.ivfc4.size)
-external_there difi true is at behind inside = (is, rw is refl)
-external_there difi false is at behind inside = absurd (let none = rw is at inside in omega (arith, none, behind))
-
-pub behind_level3 : (difi : Difi) (at : ℕ) → difi.dpfs3.size ≤ at → at < view_size difi → (difi.external ≡ true) × (view_size difi ≡ difi.dpfs3.size + difi.ivfc4.size)
-behind_level3 difi at behind inside = external_there difi difi.external refl at behind inside

@@ -2,6 +2,7 @@
 use Rattle.std.proofs.Common.{◌≡◌, ℕ, ◌+◌, ◌-◌, ◌^◌, ◌<◌, ◌≤◌, Bool, true, false, not, IsTrue, Result, Ok, Err, is_ok, refl, ◌∙◌, ap, arith, ⊎_elim}
 use Rattle.std.proofs.lemmas.Bool.{and_parts, and_from, cases_lt, lt-ltb, le-leb, eq-eqb, ltb-true, leb-true, eqb-true}
 use Rattle.save_bytes.specs.State.{Shape, State}
+use Rattle.save_bytes.specs.Stays.{SameCells, SameTwins}
 use Rattle.difi.specs.declared.places.Extent2.{Extent2}
 use Rattle.difi.specs.declared.descriptor.Difi.{Difi}
 use Rattle.difi.specs.declared.fault.DifiFault.{DifiFault}
@@ -15,6 +16,7 @@ use Rattle.difi.specs.Contents.{view_size}
 use Rattle.dpfs_tree.specs.declared.view.DpfsView.{DpfsView}
 use Rattle.dpfs_tree.specs.View.{CanView, can_view, HasTree, view_state}
 use Rattle.dpfs_tree.specs.Held.{shown, SameView}
+use Rattle.dpfs_tree.specs.SameLaws.{view_cells}
 
 -- levels that are sound in a partition are so in a longer one
 module _ (difi : Difi) (n m : ℕ) (le : n ≤ m) (h : HasSoundLevels difi n) where
@@ -166,3 +168,10 @@ SameView-join s t u h k = record {
 
 pub shown_shape : {S : Type 0} (states : S → State) (s t : DpfsView S) → SameView s t → (states t.base.now).shape ≡ (states s.base.now).shape → (shown states t).shape ≡ (shown states s).shape
 shown_shape states s t same shape = rw (same.same_place, same.same_difi, same.state_now, shape) refl
+
+-- where the view is the same and its base has the same cells, the view has
+pub shown_cells : {S : Type 0} (states : S → State) (s t : DpfsView S) → SameView s t → HasTree (states s.base.now).shape s.part_at s.difi.now s.state.now.selector
+    → SameCells (states s.base.now) (states t.base.now) → SameCells (shown states s) (shown states t) × SameTwins (shown states s) (shown states t)
+shown_cells states s t same tree cells =
+    let there : SameCells (shown states s) (view_state (states t.base.now) s.part_at s.difi.now s.state.now) = view_cells (states s.base.now) (states t.base.now) s.part_at s.difi.now s.state.now tree cells in
+    (rw (same.same_place, same.same_difi, same.state_now) there, record { bottom = λ x h. refl; is_fixed = λ x h. refl })

@@ -9,7 +9,8 @@ ghost use Rattle.dpfs_tree.specs.View.{CanView, IsLocated};
 ghost use Rattle.dpfs_tree.specs.Picks.{bytes_of};
 ghost use Rattle.dpfs_tree.specs.Marks.{place_of};
 ghost use Rattle.dpfs_tree.specs.Held.{shown, IsViewOf, SameView};
-ghost use Rattle.dpfs_tree.specs.ViewLaws.{view_size_fits, SameView-same, SameView-join, shown_shape};
+ghost use Rattle.save_bytes.specs.Spots.{Frame};
+ghost use Rattle.dpfs_tree.specs.ViewLaws.{true-can_view, view_tree, shown_cells, view_size_fits, SameView-same, SameView-join, shown_shape};
 
 use crate::places::{locate, view_len};
 use crate::state::DpfsState;
@@ -80,6 +81,12 @@ impl<S: Space> Space for DpfsView<'_, S> {
     ghost keeps_join = { λ spot s t u h k. (SameView-join s t u h.0 k.0, S.keeps_join spot s.base.now t.base.now u.base.now h.1 k.1) };
 
     ghost keeps_shape = { λ s t h. shown_shape S.state s t h.0 (S.keeps_shape s.base.now t.base.now h.1) };
+
+    ghost keeps_cells = { λ s t sound single told still kept.
+        (let view = true-can_view (S.state s.base.now).shape s.part_at s.difi.now s.state.now sound in
+        let tree = view_tree (S.state s.base.now).shape s.part_at s.difi.now s.state.now (S.size_fits s.base.now) sound in
+        let below = S.keeps_cells s.base.now t.base.now view.sound view.single told still (λ spot. (kept spot).1) in
+        shown_cells S.state s t (kept Frame).0 tree below.0) };
 
     fn len(&self) -> u64 {
         view_len(self.difi)

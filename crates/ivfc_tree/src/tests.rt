@@ -1,5 +1,6 @@
 ghost use Rattle.std.specs.Prelude.{refl, ◌≡◌, ◌+◌, ◌-◌, ◌%◌, ◌<◌, ◌≤◌, false, length, vec_len, IsTrue, IfOk};
 ghost use Rattle.std.proofs.Common.{◌∙◌, ap};
+ghost use Rattle.std.proofs.lemmas.Bool.{false≢true};
 ghost use Rattle.std.specs.Result.{result_err};
 ghost use Rattle.save_bytes.specs.Memory.{bytes_state, memory_shape};
 ghost use Rattle.save_bytes.specs.MemoryLaws.{memory_size_fits};
@@ -303,6 +304,8 @@ impl Space for Silent<'_> {
     ghost keeps_join = { λ spot s t u h k. k ∙ h };
 
     ghost keeps_shape = { λ s t kept. ap (λ n. memory_shape n 4096) kept };
+
+    ghost keeps_cells = { λ s t sound single told. absurd (false≢true told) };
 
     fn len(&self) -> u64 {
         self.bytes.len() as u64

@@ -376,6 +376,8 @@ impl Space for Untold {
 
     ghost keeps_shape = { λ _ _ _. refl };
 
+    ghost keeps_cells = { λ _ _ _ _ told. absurd (false≢true told) };
+
     fn len(&self) -> u64 {
         4096
     }

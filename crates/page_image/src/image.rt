@@ -2,12 +2,13 @@
 
 ghost use Rattle.std.specs.Prelude.{refl, ◌≡◌, ℕ, true, length, IsTrue, OnOk, OnErr};
 ghost use Rattle.std.specs.Result.{result_err};
-ghost use Rattle.save_bytes.specs.Cells.{AreBytesAt};
+ghost use Rattle.std.proofs.Common.{ap};
+ghost use Rattle.save_bytes.specs.Cells.{Byte, AreBytesAt};
 ghost use Rattle.save_bytes.specs.State.{IsWritable};
 ghost use Rattle.save_bytes.specs.Answers.{IsReady};
 ghost use Rattle.save_bytes.specs.Stays.{SameCells};
 ghost use Rattle.save_bytes.specs.Puts.{Puts};
-ghost use Rattle.save_bytes.specs.Spots.{Spot, Frame, MovesOnly};
+ghost use Rattle.save_bytes.specs.Spots.{Spot, Place, Frame, MovesOnly};
 ghost use Rattle.save_disk.specs.Trace.{Sync};
 ghost use Rattle.save_disk.specs.State.{GoesOn, Happens, IsQuiet, IsSteady, HasCause};
 ghost use Rattle.save_disk.specs.Writes.{GrewBy};
@@ -104,6 +105,8 @@ impl<D: Disk> Space for Image<'_, D> {
     ghost keeps_same = { ImageKeeps-same D.state };
 
     ghost keeps_join = { ImageKeeps-join D.state };
+
+    ghost keeps_cells = { λ s t sound single told still kept. (λ x inside. ap Byte (kept (Place x)).1.1.0, record { bottom = λ x inside. refl; is_fixed = λ x inside. refl }) };
 
     ghost keeps_shape = { λ s t kept. SameImage-shape (D.state s.disk.now) (D.state t.disk.now) s.image.now t.image.now kept.1.0 };
 

@@ -153,14 +153,17 @@ part_stays first last part table refusal small view shape stays =
       cells = hashed.cells;
     }
 
--- what stays in the base after a call on the partition stays in it
+-- what stays in the base stays in the partition
+pub part_from_base : (base last : State) (part : Part) (table : List ℕ) (refusal : Option Bad) → base.shape.size < 2 ^ 64 → CanView base.shape part (length table) → Stays base last refusal → Stays (part_state base part table) (part_state last part table) refusal
+part_from_base base last part table refusal small view stays =
+    let tree = contents_there base part (length table) small view in
+    part_stays base last part table refusal small view stays.space.shape (contents_stay base last part.at part.difi part.dpfs refusal tree stays)
+
+-- and after a call on the partition
 pub part_later : (first mid last : State) (part : Part) (table : List ℕ) (refusal : Option Bad) → first.shape.size < 2 ^ 64 → CanView first.shape part (length table) → mid.shape ≡ first.shape → Stays (part_state first part table) (part_state mid part table) None → Stays mid last refusal → Stays (part_state first part table) (part_state last part table) refusal
 part_later first mid last part table refusal small view shape before stays =
-    let tree : HasContents mid.shape part.at part.difi part.dpfs.selector = rw shape (contents_there first part (length table) small view) in
-    let contents = contents_stay mid last part.at part.difi part.dpfs refusal tree stays in
     let there : CanView mid.shape part (length table) = rw shape view in
-    let after = part_stays mid last part table refusal (rw shape small) there stays.space.shape contents in
-    Stays-join (part_state first part table) (part_state mid part table) (part_state last part table) refusal before after
+    Stays-join (part_state first part table) (part_state mid part table) (part_state last part table) refusal before (part_from_base mid last part table refusal (rw shape small) there stays)
 
 -- where bytes were found there is one
 pub found_inside : (s base : State) (at most place m : ℕ) → IsTrue base.shape.sound → IsFound s base at most (Ok (place, m)) → IsInside base.shape place 1

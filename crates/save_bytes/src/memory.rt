@@ -1,7 +1,10 @@
 //! A space over bytes in memory.
 
 ghost use Rattle.std.specs.Prelude.{refl, ◌≡◌, ◌+◌, ◌≤◌, length, replicate, slice_range, IsTrue};
+ghost use Rattle.std.proofs.Common.{ap};
+ghost use Rattle.save_bytes.specs.Cells.{Byte};
 ghost use Rattle.save_bytes.specs.Fields.{with_bytes};
+ghost use Rattle.save_bytes.specs.Spots.{Place};
 ghost use Rattle.save_bytes.specs.Memory.{memory_state, IsMemoryOf, MemoryKeeps, MemoryLands};
 ghost use Rattle.save_bytes.specs.MemoryLaws.{memory_size_fits, MemoryKeeps-same, MemoryKeeps-join, SameMemory-shape, memory_blocks};
 
@@ -43,6 +46,8 @@ impl Space for MemSpace<'_> {
     ghost keeps_join = { MemoryKeeps-join };
 
     ghost keeps_shape = { λ s t kept. SameMemory-shape s t kept.0 };
+
+    ghost keeps_cells = { λ s t sound single told still kept. (λ x inside. ap Byte (kept (Place x)).1, record { bottom = λ x inside. refl; is_fixed = λ x inside. refl }) };
 
     fn len(&self) -> u64 {
         self.bytes.len() as u64

@@ -8,7 +8,7 @@ ghost use Rattle.save_bytes.specs.Cells.{IsByte};
 ghost use Rattle.save_bytes.specs.State.{State, IsInside, IsWritable, HasNoTwins};
 ghost use Rattle.save_bytes.specs.Blocks.{IsGround, HasBlocks, HasAlikeBlocks};
 ghost use Rattle.save_bytes.specs.Answers.{IsPiece, IsReady, IsClearReady};
-ghost use Rattle.save_bytes.specs.Stays.{Stays};
+ghost use Rattle.save_bytes.specs.Stays.{Stays, SameCells, SameTwins};
 ghost use Rattle.save_bytes.specs.Puts.{Puts};
 ghost use Rattle.save_bytes.specs.Spots.{Spot, Frame, Unmoved, MovesOnly};
 
@@ -72,6 +72,9 @@ pub trait Space {
     ghost keeps_join: { (spot : Spot) (s t u : Self) → keeps spot s t → keeps spot t u → keeps spot s u };
 
     ghost keeps_shape: { (s t : Self) → keeps Frame s t → (state t).shape ≡ (state s).shape };
+
+    ghost keeps_cells: { (s t : Self) → IsTrue (state s).shape.sound → IsFalse (state s).shape.doubled → IsTrue (state s).told → IsTrue (state t).told
+        → ((spot : Spot) → keeps spot s t) → SameCells (state s) (state t) × SameTwins (state s) (state t) };
 }
 
 /// A space whose damage spreads in blocks that can be cleared.

@@ -71,6 +71,8 @@ impl<S: Space> Space for Narrow<'_, S> {
 
     ghost keeps_shape = { λ s t h. S.keeps_shape s.base.now t.base.now h.1 };
 
+    ghost keeps_cells = { λ s t sound single told still kept. S.keeps_cells s.base.now t.base.now sound single told still (λ spot. (kept spot).1) };
+
     fn len(&self) -> u64 {
         self.base.len()
     }

@@ -2,8 +2,8 @@ use Rattle.std.proofs.Common.{◌≡◌, ℕ, ◌+◌, ◌*◌, ◌/◌, IsTrue,
 use Rattle.std.specs.Result.{result_err}
 use Rattle.difi.specs.Places.{blocks_of}
 use Rattle.dpfs_tree.specs.Picks.{bytes_of}
-use Rattle.dpfs_tree.proofs.PickLemmas.{word_inside}
-use Rattle.dpfs_tree.proofs.BitLemmas.{bit_of-pick2, bit_of-stays, in_copy, word_block_below}
+use Rattle.dpfs_tree.specs.SameLaws.{word_inside, in_copy}
+use Rattle.dpfs_tree.proofs.BitLemmas.{bit_of-pick2, bit_of-stays, word_block_below}
 use Rattle.save_bytes.proofs.CallLemmas.{Reads-join}
 use Rattle.dpfs_tree.proofs.bits.level3_copy.Goals as goal
 

@@ -2,7 +2,7 @@ use Rattle.std.proofs.Common.{◌+◌, arith}
 use Rattle.dpfs_tree.specs.Picks.{bytes_of}
 use Rattle.difi.proofs.PlaceLemmas.{block_below}
 use Rattle.dpfs_tree.proofs.PickLemmas.{place_of-copy}
-use Rattle.dpfs_tree.proofs.BitLemmas.{in_copy}
+use Rattle.dpfs_tree.specs.SameLaws.{in_copy}
 use Rattle.dpfs_tree.proofs.places.level3_place.Goals as goal
 
 pub level3_copy-requires-clause-block : goal.level3_copy-requires-clause-block

@@ -1,6 +1,7 @@
 use Rattle.std.proofs.Common.{ℕ, ◌+◌, ◌-◌, ◌≤◌, arith}
 use Rattle.dpfs_tree.specs.Picks.{bytes_of}
-use Rattle.dpfs_tree.proofs.PickLemmas.{place_of-external, run_of-is, behind_level3}
+use Rattle.dpfs_tree.specs.SameLaws.{behind_level3}
+use Rattle.dpfs_tree.proofs.PickLemmas.{place_of-external, run_of-is}
 use Rattle.save_bytes.proofs.CallLemmas.{IfOk-map}
 use Rattle.dpfs_tree.proofs.places.place_at.Goals as goal
 

@@ -1,0 +1,99 @@
+-- The cells of a view are the same where those of its base are.
+use Rattle.std.proofs.Common.{◌≡◌, ℕ, ◌+◌, ◌*◌, ◌/◌, ◌^◌, ◌<◌, ◌≤◌, Bool, true, false, add-zero, refl, arith, ⊎_elim}
+use Rattle.std.specs.Int.{div_ceil}
+use Rattle.std.proofs.lemmas.Bool.{cases_lt, lt-ltb, le-ltb}
+use Rattle.std.proofs.lemmas.Nat.{mod_below, row_fits}
+use Rattle.save_bytes.specs.State.{State, Shape}
+use Rattle.save_bytes.specs.Stays.{SameCells}
+use Rattle.difi.specs.declared.descriptor.Difi.{Difi}
+use Rattle.difi.specs.Places.{blocks_of}
+use Rattle.difi.specs.Contents.{view_size}
+use Rattle.difi.proofs.PlaceLemmas.{block_below}
+use Rattle.dpfs_tree.specs.declared.state.DpfsState.{DpfsState}
+use Rattle.dpfs_tree.specs.Picks.{bytes_of, word_of, bit_of, pick1, pick2}
+use Rattle.dpfs_tree.specs.Marks.{is_marked, copy_read, copy_of, place_of}
+use Rattle.dpfs_tree.specs.View.{view_state, HasTree}
+
+-- two lists with the same bytes in a word have the same bit there
+pub bit_of-same : (one other : ℕ → ℕ) (k : ℕ) → ((i : ℕ) → i < 4 → one (4 * (k / 32) + i) ≡ other (4 * (k / 32) + i)) → bit_of one k ≡ bit_of other k
+unfolding bit_of word_of
+bit_of-same one other k same =
+    let first : one (4 * (k / 32)) ≡ other (4 * (k / 32)) = simp add-zero at (same 0 (omega arith)) in
+    rw (first, same 1 (omega arith), same 2 (omega arith), same 3 (omega arith)) refl
+
+-- the word of a block's bit lies in the bits of all blocks
+pub word_inside : (k blocks : ℕ) → k < blocks → 4 * (k / 32) + 4 ≤ 4 * div_ceil blocks 32
+word_inside k blocks h = omega arith
+
+-- behind level 3 there is external level four alone
+external_there : (difi : Difi) (external : Bool) → difi.external ≡ external → (at : ℕ) → difi.dpfs3.size ≤ at → at < view_size difi → (difi.external ≡ true) × (view_size difi ≡ difi.dpfs3.size + difi.ivfc4.size)
+external_there difi true is at behind inside = (is, rw is refl)
+external_there difi false is at behind inside = absurd (let none = rw is at inside in omega (arith, none, behind))
+
+pub behind_level3 : (difi : Difi) (at : ℕ) → difi.dpfs3.size ≤ at → at < view_size difi → (difi.external ≡ true) × (view_size difi ≡ difi.dpfs3.size + difi.ivfc4.size)
+behind_level3 difi at behind inside = external_there difi difi.external refl at behind inside
+
+-- a place of a copy lies in the base
+pub in_copy : (start size copy x base : ℕ) → copy < 2 → x ≤ size → start + 2 * size ≤ base → start + copy * size + x ≤ base
+in_copy start size copy x base h inside fits = omega (arith, row_fits copy size 2 size h (omega arith))
+
+bit_of-lt : (bytes : ℕ → ℕ) (k : ℕ) → bit_of bytes k < 2
+unfolding bit_of
+bit_of-lt bytes k = mod_below _ 2 (omega arith)
+
+copy_read-lt : (marked : Bool) (bit : ℕ) → bit < 2 → copy_read marked bit < 2
+copy_read-lt true bit h = omega arith
+copy_read-lt false bit h = h
+
+module _ (base : Shape) (part_at : ℕ) (difi : Difi) (state : DpfsState) (tree : HasTree base part_at difi state.selector) where
+  module _ (old new : ℕ → ℕ) (same : (x : ℕ) → x < base.size → new x ≡ old x) where
+    pick1-same : (x : ℕ) → x < difi.dpfs1.size → pick1 new part_at difi state.selector x ≡ pick1 old part_at difi state.selector x
+    unfolding pick1
+    pick1-same x h = same _ (omega (arith, in_copy (part_at + difi.dpfs1.at) difi.dpfs1.size state.selector (x + 1) base.size tree.one_of_two (omega (arith, h)) tree.level1))
+
+    bit1-same : (block : ℕ) → block < blocks_of difi.dpfs2 → bit_of (pick1 new part_at difi state.selector) block ≡ bit_of (pick1 old part_at difi state.selector) block
+    bit1-same block h =
+        bit_of-same _ _ block (λ i small. pick1-same (4 * (block / 32) + i) (omega (arith, word_inside block (blocks_of difi.dpfs2) h, tree.bits1, small)))
+
+    pick2-same : (x : ℕ) → x < difi.dpfs2.size → pick2 new part_at difi state.selector x ≡ pick2 old part_at difi state.selector x
+    unfolding pick2
+    pick2-same x h =
+        let block = x / 2 ^ difi.dpfs2.log in
+        let bit = bit_of (pick1 old part_at difi state.selector) block in
+        let inside = in_copy (part_at + difi.dpfs2.at) difi.dpfs2.size bit (x + 1) base.size (bit_of-lt (pick1 old part_at difi state.selector) block) (omega (arith, h)) tree.level2 in
+        rw (bit1-same block (block_below x difi.dpfs2.size difi.dpfs2.log h)) (same _ (omega (arith, inside)))
+
+    bit2-same : (block : ℕ) → block < blocks_of difi.dpfs3 → bit_of (pick2 new part_at difi state.selector) block ≡ bit_of (pick2 old part_at difi state.selector) block
+    bit2-same block h =
+        bit_of-same _ _ block (λ i small. pick2-same (4 * (block / 32) + i) (omega (arith, word_inside block (blocks_of difi.dpfs3) h, tree.bits2, small)))
+
+    -- the same place where the bytes of the base are the same
+    pub place_of-same : (x : ℕ) → place_of new part_at difi state x ≡ place_of old part_at difi state x
+    unfolding place_of copy_of
+    place_of-same x =
+        ⊎_elim
+        (λ (below : x < difi.dpfs3.size). rw (lt-ltb x difi.dpfs3.size below, bit2-same (x / 2 ^ difi.dpfs3.log) (block_below x difi.dpfs3.size difi.dpfs3.log below)) refl)
+        (λ (behind : difi.dpfs3.size ≤ x). rw (le-ltb x difi.dpfs3.size behind) refl)
+        (cases_lt x difi.dpfs3.size)
+
+  -- and that place lies in the base
+  pub place_of-inside : (bytes : ℕ → ℕ) (x : ℕ) → x < view_size difi → place_of bytes part_at difi state x < base.size
+  unfolding place_of copy_of
+  place_of-inside bytes x inside =
+      ⊎_elim
+      (λ (below : x < difi.dpfs3.size).
+      let block = x / 2 ^ difi.dpfs3.log in
+      let bit = bit_of (pick2 bytes part_at difi state.selector) block in
+      let copy = copy_read (is_marked state.touched.items block) bit in
+      let one = copy_read-lt (is_marked state.touched.items block) bit (bit_of-lt (pick2 bytes part_at difi state.selector) block) in
+      rw (lt-ltb x difi.dpfs3.size below) (omega (arith, in_copy (part_at + difi.dpfs3.at) difi.dpfs3.size copy (x + 1) base.size one (omega (arith, below)) tree.level3)))
+      (λ (behind : difi.dpfs3.size ≤ x).
+      let external = behind_level3 difi x behind inside in
+      rw (le-ltb x difi.dpfs3.size behind) (omega (arith, inside, external.1, tree.external external.0)))
+      (cases_lt x difi.dpfs3.size)
+
+-- the same cells where the base's are the same
+pub view_cells : (base new : State) (part_at : ℕ) (difi : Difi) (state : DpfsState) → HasTree base.shape part_at difi state.selector → SameCells base new → SameCells (view_state base part_at difi state) (view_state new part_at difi state)
+view_cells base new part_at difi state tree same = λ x inside.
+    (let there = place_of-same base.shape part_at difi state tree (bytes_of base.cells) (bytes_of new.cells) (λ y h. rw (same y h) refl) x in
+    rw there (same _ (place_of-inside base.shape part_at difi state tree (bytes_of base.cells) x inside)))
