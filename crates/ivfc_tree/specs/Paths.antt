@@ -51,7 +51,14 @@ after Holds own = own
 after (NeverWritten level block) own = NeverWritten level block
 after (Fails level block) own = Fails level block
 
--- the same as a value, where blocks that were put or cleared count as good
+-- the same as a value
+unfoldable pub path_state : (ℕ → Cell) → List ℕ → Difi → ℕ → ℕ → BlockState
+path_state cells master difi zero block = Holds
+path_state cells master difi (suc level) block =
+    after (path_state cells master difi level (parent_of difi level block))
+    (judged (suc level) block (hash_entry cells master difi (suc level) block) (sha256 (padded_block cells difi (suc level) block)))
+
+-- and where blocks that were put or cleared count as good
 unfoldable pub block_state : (ℕ → Cell) → List ℕ → Difi → IvfcState → ℕ → ℕ → BlockState
 block_state cells master difi state zero block = Holds
 block_state cells master difi state (suc level) block =

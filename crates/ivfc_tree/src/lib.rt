@@ -2,11 +2,13 @@
 #![tactic(auto)]
 
 mod hashing;
+mod laws;
 mod levels;
 mod path;
 mod state;
 mod view;
 
+pub use laws::paths_come_to;
 pub use state::IvfcState;
 pub use view::{IvfcView, Status};
 
