@@ -13,10 +13,14 @@ use Rattle.std.proofs.lemmas.List.{length-take-le, length-drop}
 use Rattle.save_bytes.specs.declared.space.Bad.TheVariants.{Disk, Damaged}
 use Rattle.save_bytes.specs.Refusals.{NeverDamaged}
 use Rattle.save_bytes.specs.Answers.{IsPiece}
-use Rattle.save_bytes.specs.Stays.{Stays}
+use Rattle.save_bytes.specs.Stays.{SameCells, SameTwins, Stays}
 use Rattle.save_bytes.proofs.SpaceLemmas.{UnlessDisk-map, Stays-join}
 use Rattle.difi.proofs.TestLemmas.{apart, overlap-apart}
 use Rattle.difi.specs.Contents.{view_size}
+use Rattle.save_bytes.specs.Reads.{Reads}
+use Rattle.save_bytes.specs.Spots.{Spot, Frame}
+use Rattle.dpfs_tree.specs.declared.view.DpfsView.{DpfsView}
+use Rattle.dpfs_tree.specs.Held.{shown, SameView}
 use Rattle.dpfs_tree.specs.View.{HasTree as HasContents, IsLocated}
 use Rattle.dpfs_tree.specs.ViewLaws.{can_view-true as contents_pass, true-can_view as contents_hold, tree_of as contents_of_base}
 use Rattle.dpfs_tree.proofs.SameLemmas.{view_stays as contents_stay}
@@ -138,11 +142,30 @@ found_piece s base at most place m plain same_told found (Err (Damaged part leve
 pub refused_piece : (s base : State) (at most : ℕ) (bad : Bad) → IsFalse s.shape.plain → IsFound s base at most (Err bad) → IsPiece s at most (Err bad)
 refused_piece s base at most bad worn found = record { some = tt; bounded = tt; inside = tt; bytes = λ told. tt; damaged = found.damaged; plain = λ plain. absurd (let no = worn in cc) }
 
--- what stays in the base stays in the contents
-pub contents_later : (first mid last : State) (part : Part) (n : ℕ) (refusal : Option Bad) → first.shape.size < 2 ^ 64 → CanView first.shape part n → mid.shape ≡ first.shape → Stays (contents_of first part) (contents_of mid part) None → Stays mid last refusal → Stays (contents_of first part) (contents_of last part) refusal
-contents_later first mid last part n refusal small view shape before stays =
-    let tree : HasContents mid.shape part.at part.difi part.dpfs.selector = rw shape (contents_there first part n small view) in
-    Stays-join (contents_of first part) (contents_of mid part) (contents_of last part) refusal before (contents_stay mid last part.at part.difi part.dpfs refusal tree stays)
+-- what is known of a base from its contents: its shape and, where nothing of it moved, its cells
+pub base_stays : (base new contents contents_new : State) (refusal : Option Bad) → contents.faults ≡ base.faults → contents_new.faults ≡ new.faults → contents.told ≡ base.told → contents_new.told ≡ new.told → new.shape ≡ base.shape → Stays contents contents_new refusal
+    → (IsTrue base.told → IsTrue new.told → SameCells base new × SameTwins base new) → Stays base new refusal
+base_stays base new contents contents_new refusal faults faults_new told told_new shape stays same = record {
+  space = record {
+    shape = shape;
+    faults = rw (faults, faults_new) at stays.space.faults;
+    cause = rw (faults, faults_new) at stays.space.cause;
+    told = rw (told, told_new) at stays.space.told;
+    twins = λ is_told. UnlessDisk-map refusal (λ (still : contents_new.told ≡ contents.told). (same is_told (told_later is_told still)).1) stays.space.told;
+  };
+  cells = λ is_told. UnlessDisk-map refusal (λ (still : contents_new.told ≡ contents.told). (same is_told (told_later is_told still)).0) stays.space.told;
+} where
+  told_later : IsTrue base.told → contents_new.told ≡ contents.told → IsTrue new.told
+  told_later is_told still = sym told_new ∙ still ∙ told ∙ is_told
+
+module _ {S : Type 0} (states : S → State) (keeps : Spot → S → S → Type 0) (keeps_shape : (s t : S) → keeps Frame s t → (states t).shape ≡ (states s).shape)
+    (keeps_cells : (s t : S) → IsTrue (states s).shape.sound → IsFalse (states s).shape.doubled → IsTrue (states s).told → IsTrue (states t).told → ((spot : Spot) → keeps spot s t) → SameCells (states s) (states t) × SameTwins (states s) (states t)) where
+  -- a call that reads the contents leaves their base as it is
+  pub base_reads : (old new : DpfsView S) (refusal : Option Bad) → IsTrue (states old.base.now).shape.sound → IsFalse (states old.base.now).shape.doubled
+      → Reads (shown states) (λ spot s t. SameView s t × keeps spot s.base.now t.base.now) (λ s x spot. ⊥) old new refusal → Stays (states old.base.now) (states new.base.now) refusal
+  base_reads old new refusal sound single reads =
+      base_stays (states old.base.now) (states new.base.now) (shown states old) (shown states new) refusal refl refl refl refl (keeps_shape old.base.now new.base.now reads.unmoved.frame.1) reads.stays
+      (λ told still. keeps_cells old.base.now new.base.now sound single told still (λ spot. (reads.unmoved.spots told spot).1))
 
 -- what stays in the contents stays in the partition
 pub part_stays : (first last : State) (part : Part) (table : List ℕ) (refusal : Option Bad) → first.shape.size < 2 ^ 64 → CanView first.shape part (length table) → last.shape ≡ first.shape → Stays (contents_of first part) (contents_of last part) refusal → Stays (part_state first part table) (part_state last part table) refusal

@@ -77,7 +77,7 @@ pub(crate) fn verify<S: Space>(
     requires inside { at + 1 ≤ part.old.difi.ivfc4.size }
     requires some { 1 ≤ most }
     ensures verified { IsVerified (part_state (S.state base.old) part.old table.old) at most result }
-    ensures stays { Stays (contents_of (S.state base.old) part.old) (contents_of (S.state base.new) part.old) (result_err result) }
+    ensures stays { Stays (S.state base.old) (S.state base.new) (result_err result) }
     ensures frame { S.keeps Frame base.old base.new }
     ensures spots { IsTrue (S.state base.old).told → (spot : Spot) → S.keeps spot base.old base.new }
     ensures part { part.new ≡ part.old }
@@ -108,7 +108,7 @@ pub(crate) fn status<S: Space>(
     ensures status { IsTrue (S.state base.old).told → IfOk result (λ status. status
         ≡ status_of (block_state (contents_of (S.state base.old) part.old).cells (master_of table.old part.old.difi) part.old.difi part.old.ivfc level block)) }
     ensures plain { NeverDamaged (result_err result) }
-    ensures stays { Stays (contents_of (S.state base.old) part.old) (contents_of (S.state base.new) part.old) (result_err result) }
+    ensures stays { Stays (S.state base.old) (S.state base.new) (result_err result) }
     ensures frame { S.keeps Frame base.old base.new }
     ensures spots { IsTrue (S.state base.old).told → (spot : Spot) → S.keeps spot base.old base.new }
     ensures part { part.new ≡ part.old }
@@ -171,7 +171,7 @@ pub(crate) fn find<S: Space>(
     requires inside { at + 1 ≤ part.old.difi.ivfc4.size }
     requires some { 1 ≤ most }
     ensures found { IsFound (part_state (S.state base.old) part.old table.old) (S.state base.new) at most result }
-    ensures stays { Stays (contents_of (S.state base.old) part.old) (contents_of (S.state base.new) part.old) (result_err result) }
+    ensures stays { Stays (S.state base.old) (S.state base.new) (result_err result) }
     ensures frame { S.keeps Frame base.old base.new }
     ensures spots { IsTrue (S.state base.old).told → (spot : Spot) → S.keeps spot base.old base.new }
     ensures part { part.new ≡ part.old }

@@ -54,6 +54,7 @@ impl<'a, S: Space> PartView<'a, S> {
         requires some { 1 ≤ most }
         ensures found { IsFound (shown S.state self.old) (S.state self.new.base.now) at most result }
         ensures stays { Stays (shown S.state self.old) (shown S.state self.new) (result_err result) }
+        ensures base { Stays (S.state self.old.base.now) (S.state self.new.base.now) (result_err result) }
         ensures frame { S.keeps Frame self.old.base.now self.new.base.now }
         ensures spots { IsTrue (S.state self.old.base.now).told → (spot : Spot) → S.keeps spot self.old.base.now self.new.base.now }
         ensures same { SameView self.old self.new }
@@ -72,6 +73,7 @@ impl<'a, S: Space> PartView<'a, S> {
         ensures piece { IsPiece (shown S.state self.old) at most result }
         ensures* after { sem 𝓛 (Rests (the_row (record { mir = named 0; lft = [] }) S.row) self.entry (λ new.
             Stays (shown S.state self.old) (shown S.state new) (result_err result)
+            × Stays (S.state self.old.base.now) (S.state new.base.now) (result_err result)
             × S.keeps Frame self.old.base.now new.base.now
             × (IsTrue (S.state self.old.base.now).told → (spot : Spot) → S.keeps spot self.old.base.now new.base.now)
             × SameView self.old new)) }
@@ -107,6 +109,7 @@ impl<'a, S: Space> PartView<'a, S> {
             ≡ status_of (block_state (contents_of (S.state self.old.base.now) self.old.part.now).cells (master_of self.old.table.now self.old.part.now.difi) self.old.part.now.difi self.old.part.now.ivfc level block)) }
         ensures plain { NeverDamaged (result_err result) }
         ensures stays { Stays (shown S.state self.old) (shown S.state self.new) (result_err result) }
+        ensures base { Stays (S.state self.old.base.now) (S.state self.new.base.now) (result_err result) }
         ensures frame { S.keeps Frame self.old.base.now self.new.base.now }
         ensures spots { IsTrue (S.state self.old.base.now).told → (spot : Spot) → S.keeps spot self.old.base.now self.new.base.now }
         ensures same { SameView self.old self.new }

@@ -1,6 +1,6 @@
 use Rattle.std.proofs.Common.{length}
 use Rattle.std.specs.Result.{result_err}
-use Rattle.part_store.proofs.PartLemmas.{true-can_view, part_stays}
+use Rattle.part_store.proofs.PartLemmas.{true-can_view, part_from_base}
 use Rattle.part_store.proofs.view.PartView.locate.Goals as goal
 
 pub find-requires-clause-view : goal.find-requires-clause-view
@@ -14,4 +14,4 @@ returns-clause-stays g c =
     let states = g.S.Space.state in
     let can = true-can_view (states view.base.now).shape view.part.now (length view.table.now) c.requires.inside.sound in
     let small = g.met.S.Space.size_fits view.base.now can.contents.sound in
-    rw (c.find.ensures.part, c.find.ensures.table) (part_stays (states view.base.now) (states c.find.new.base) view.part.now view.table.now (result_err c.find.result) small can (g.met.S.Space.keeps_shape view.base.now c.find.new.base c.find.ensures.frame) c.find.ensures.stays)
+    rw (c.find.ensures.part, c.find.ensures.table) (part_from_base (states view.base.now) (states c.find.new.base) view.part.now view.table.now (result_err c.find.result) small can c.find.ensures.stays)

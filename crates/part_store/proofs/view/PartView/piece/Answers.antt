@@ -2,6 +2,7 @@ use Rattle.std.proofs.Common.{refl, length, sym, subst, IsTrue}
 use Rattle.std.specs.Result.{result_err}
 use Rattle.save_bytes.specs.State.{Shape}
 use Rattle.save_bytes.specs.Spots.{Frame}
+use Rattle.save_bytes.proofs.SpaceLemmas.{Stays-join}
 use Rattle.part_store.proofs.PartLemmas.{true-can_view, part_later, found_inside, found_piece}
 use Rattle.part_store.proofs.view.PartView.piece.Goals as goal
 
@@ -35,6 +36,7 @@ returns g c =
         λ _. tt,
         (
           rw (same.part_now, same.table_now) (part_later (space.state first) (space.state mid) (space.state last) view.part.now view.table.now refusal small can shape stays after.0),
+          Stays-join (space.state first) (space.state mid) (space.state last) refusal before.base after.0,
           g.met.S.Space.keeps_join Frame first mid last before.frame after.1.frame,
           λ is_told spot. g.met.S.Space.keeps_join spot first mid last (before.spots is_told spot) (after.1.spots (subst IsTrue (sym told) is_told) spot),
           record { same_base = same.same_base; same_part = same.same_part; part_now = same.part_now; same_table = same.same_table; table_now = same.table_now },
