@@ -3,6 +3,8 @@ pub mod SectorLemmas
 pub mod SameLemmas
 pub mod PieceLemmas
 pub mod PutLemmas
+pub mod SureLemmas
 pub mod WriteLemmas
 pub mod CountLemmas
 pub mod AllowedLemmas
+pub mod QuietLemmas

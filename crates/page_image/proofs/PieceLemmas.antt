@@ -10,7 +10,7 @@ use Rattle.save_bytes.specs.Spots.{Frame, Unmoved}
 use Rattle.save_disk.specs.State as disks
 use Rattle.page_image.specs.declared.state.ImageState.{ImageState}
 use Rattle.page_image.specs.declared.image.Image.{Image}
-use Rattle.page_image.specs.Images.{image_state}
+use Rattle.page_image.specs.Images.{IsHeldPiece, image_state}
 use Rattle.page_image.specs.Spots.{ImageLands}
 use Rattle.page_image.specs.Held.{shown, ImageKeeps}
 use Rattle.page_image.specs.Laws.{ImageKeeps-same}
@@ -32,15 +32,24 @@ length-range : (xs : List ℕ) (at n : ℕ) → at + n ≤ length xs → length 
 length-range xs at n fits = grind (arith, places)
 
 -- the bytes of a range, as many as are asked for and there are
-pub image_piece : (d : disks.State) (i : ImageState) (at most n : ℕ) (piece : Bor (List ℕ)) → at + 1 ≤ i.len → 1 ≤ most → n ≡ min most (i.len - at) → piece.now ≡ slice_range i.bytes.items at (at + n) → IsPiece (image_state d i) at most (Ok piece)
-image_piece d i at most n piece inside some count is =
+pub range_piece : (i : ImageState) (at most n : ℕ) (piece : List ℕ) → at + 1 ≤ i.len → 1 ≤ most → n ≡ min most (i.len - at) → piece ≡ slice_range i.bytes.items at (at + n) → IsHeldPiece i at most piece
+range_piece i at most n piece inside some count is =
     let fits : at + n ≤ length i.bytes.items = omega (arith, i.layout.covers) in
-    let long : length piece.now ≡ n = ap length is ∙ length-range i.bytes.items at n fits in
+    let long : length piece ≡ n = ap length is ∙ length-range i.bytes.items at n fits in
     record {
       some = omega arith;
       bounded = omega arith;
       inside = omega arith;
-      bytes = λ told k within. ap Byte (sym (range_byte i.bytes.items at n k fits (omega arith)) ∙ ap (λ (l : List ℕ). get_or l k 0) (sym is));
-      damaged = λ told. tt;
-      plain = λ plain. tt;
+      bytes = λ k within. ap (λ (l : List ℕ). get_or l k 0) is ∙ range_byte i.bytes.items at n k fits (omega arith);
     }
+
+-- are a piece of the space
+pub image_piece : (d : disks.State) (i : ImageState) (at most : ℕ) (piece : Bor (List ℕ)) → IsHeldPiece i at most piece.now → IsPiece (image_state d i) at most (Ok piece)
+image_piece d i at most piece held = record {
+  some = held.some;
+  bounded = held.bounded;
+  inside = held.inside;
+  bytes = λ told k within. ap Byte (sym (held.bytes k within));
+  damaged = λ told. tt;
+  plain = λ plain. tt;
+}

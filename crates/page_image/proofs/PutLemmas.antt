@@ -18,6 +18,7 @@ use Rattle.page_image.specs.Layout.{IsEndOf}
 use Rattle.page_image.specs.Images.{byte_of, is_changed, image_state, Mirrors}
 use Rattle.page_image.specs.Spots.{SameImage, HoldsAt, Leaves, ImageLands}
 use Rattle.page_image.specs.Held.{shown, SameView, ImageKeeps}
+use Rattle.page_image.specs.Laws.{SureAsBefore-same}
 use Rattle.page_image.specs.Puts.{IsPut, IsPending}
 use Rattle.page_image.proofs.SectorLemmas.{rising}
 
@@ -87,7 +88,7 @@ module _ (d : disks.State) (i j : ImageState) (at : ℕ) (piece : List ℕ) (put
   -- a spot that the put misses is left alone
   pub put_leaves : (spot : Spot) → Misses (ImageLands i.grain) at (length piece) spot → Leaves spot d i d j
   put_leaves (Place x) misses = (same_image, (outside x (λ k within same. misses k within (sym same)), WritesOnly-quiet (HoldsAt i.grain x (byte_of i x)) d d refl))
-  put_leaves (Sector number) misses = (same_image, λ clean. (put.marks.others number misses ∙ clean, WritesOnly-quiet (λ sector bytes. sector ≢ number) d d refl))
+  put_leaves (Sector number) misses = (same_image, λ clean. (put.marks.others number misses ∙ clean, WritesOnly-quiet (λ sector bytes. sector ≢ number) d d refl, SureAsBefore-same number d))
   put_leaves Frame misses = (same_image, tt)
 
 module _ {D : Type 0} (states : D → disks.State) where

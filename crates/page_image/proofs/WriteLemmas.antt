@@ -13,9 +13,10 @@ use Rattle.save_disk.proofs.Told.{told_grain, now_size}
 use Rattle.save_disk.proofs.Growth.{grew_happens, grew_failed, came_from, image_written, image_unchanged}
 use Rattle.page_image.specs.declared.state.ImageState.{ImageState}
 use Rattle.page_image.specs.Images.{byte_of, is_changed, IsDiskOf, Mirrors}
-use Rattle.page_image.specs.Spots.{HoldsAt, SameSpot, Leaves}
+use Rattle.page_image.specs.Spots.{HoldsAt, SureAsBefore, SameSpot, Leaves}
 use Rattle.page_image.specs.WriteOuts.{IsOwnWrite}
 use Rattle.page_image.proofs.SectorLemmas.{some_grain}
+use Rattle.page_image.proofs.SureLemmas.{sure_written, sure_failed}
 
 -- a place lies in its sector
 in_sector : (x n grain : ℕ) → 1 ≤ grain → x / grain ≡ n → (n * grain ≤ x) × (x < n * grain + grain)
@@ -86,8 +87,8 @@ module _ (i : ImageState) (n : ℕ) (bytes : List ℕ) (own : IsOwnWrite i n byt
       ∙ sym (same x)
 
   -- what is left where the trace may have this write more
-  left_by : (d e : disks.State) (j : ImageState) → disks.IsSteady d e → j.len ≡ i.len → j.grain ≡ i.grain → ((x : ℕ) → byte_of j x ≡ byte_of i x) → ((sector : ℕ) → sector ≢ n → is_changed j sector ≡ is_changed i sector) → (Mirrors d i → Mirrors e j) → (is_changed j n ≡ false → WritesTo n d e) → ((P : List Event → Type 0) → P [] → P (Write n bytes ∷ []) → disks.GoesOn (GrewBy P) d e) → (spot : Spot) → Leaves spot d i e j
-  left_by d e j steady len grain same others mirrors pending grow spot = (record { len = len; grain = grain; steady = steady; writes = grow (OnlyWrites (λ sector written. ⊤)) tt (tt, tt); mirrors = mirrors; pending = still }, left_spot spot)
+  left_by : (d e : disks.State) (j : ImageState) → disks.IsSteady d e → j.len ≡ i.len → j.grain ≡ i.grain → ((x : ℕ) → byte_of j x ≡ byte_of i x) → ((sector : ℕ) → sector ≢ n → is_changed j sector ≡ is_changed i sector) → (Mirrors d i → Mirrors e j) → (is_changed j n ≡ false → WritesTo n d e) → ((P : List Event → Type 0) → P [] → P (Write n bytes ∷ []) → disks.GoesOn (GrewBy P) d e) → ((sector : ℕ) → sector ≢ n → SureAsBefore sector d e) → (spot : Spot) → Leaves spot d i e j
+  left_by d e j steady len grain same others mirrors pending grow sure spot = (record { len = len; grain = grain; steady = steady; writes = grow (OnlyWrites (λ sector written. ⊤)) tt (tt, tt); mirrors = mirrors; pending = still }, left_spot spot)
     where
       still : (sector : ℕ) → is_changed i sector ≡ true → is_changed j sector ≡ false → WritesTo sector d e
       still sector changed clean =
@@ -98,7 +99,7 @@ module _ (i : ImageState) (n : ℕ) (bytes : List ℕ) (own : IsOwnWrite i n byt
 
       left_spot : (spot : Spot) → SameSpot spot d i e j
       left_spot (Place x) = (same x, grow (OnlyWrites (HoldsAt i.grain x (byte_of i x))) tt (λ from below. own_byte x from below, tt))
-      left_spot (Sector number) = λ clean. (let apart = other_sector number clean in (others number apart ∙ clean, grow (OnlyWrites (λ sector written. sector ≢ number)) tt (λ is. apart (sym is), tt)))
+      left_spot (Sector number) = λ clean. (let apart = other_sector number clean in (others number apart ∙ clean, grow (OnlyWrites (λ sector written. sector ≢ number)) tt (λ is. apart (sym is), tt), sure number apart))
       left_spot Frame = tt
 
   -- the sector was written
@@ -110,6 +111,7 @@ module _ (i : ImageState) (n : ℕ) (bytes : List ℕ) (own : IsOwnWrite i n byt
       mirrors_written d e j sound disk_of begins len grain same (λ sector apart clean_j. sym (others sector apart) ∙ clean_j) now from.0 from.1 from.2 before x below clean)
       (λ clean. grew_happens (λ events. 1 ≤ writes_to n events) (Write n bytes) d e happens (rw (eq-eqb n n refl) (omega arith)))
       (λ P none such. grew_happens P (Write n bytes) d e happens such)
+      (λ sector apart. sure_written n bytes sector d e happens)
 
   -- the write failed, and the sector stays changed
   pub leaves_failed : (d e : disks.State) → disks.IsSound d → IsDiskOf d i → n * i.grain < i.len → disks.IsSteady d e → disks.GoesOn (disks.WriteFails n bytes) d e → (spot : Spot) → Leaves spot d i e i
@@ -128,3 +130,4 @@ module _ (i : ImageState) (n : ℕ) (bytes : List ℕ) (own : IsOwnWrite i n byt
       bad.events)
       (λ clean. let changed = own.changed in absurd (cc))
       (λ P none such. grew_failed P n bytes d e fails none such)
+      (λ sector apart. sure_failed n bytes sector d e apart fails)

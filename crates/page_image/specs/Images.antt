@@ -1,5 +1,5 @@
 -- What a contract sees of an image over its disk.
-use Rattle.std.specs.Prelude.{◌≡◌, ℕ, ◌/◌, ◌<◌, Bool, true, false, ◌==◌, ◌&&◌, IsTrue, Some, slice_index, get_or}
+use Rattle.std.specs.Prelude.{◌≡◌, ℕ, ◌+◌, ◌/◌, ◌<◌, ◌≤◌, Bool, true, false, ◌==◌, ◌&&◌, IsTrue, List, length, Some, slice_index, get_or}
 use Rattle.save_bytes.specs.Cells.{Byte}
 use Rattle.save_bytes.specs.State.{State}
 use Rattle.save_disk.specs.Trace.{Told, image_now}
@@ -14,6 +14,13 @@ byte_of image x = slice_index image.bytes.items x
 -- the sector has a byte that was put and is not on the disk yet
 abbrev pub is_changed : ImageState → ℕ → Bool
 is_changed image sector = get_or image.changed.items sector false
+
+-- at least one and at most so many of the image's bytes from a place on
+pub record IsHeldPiece (image : ImageState) (at most : ℕ) (piece : List ℕ) : Type 0 where
+  pub some : 1 ≤ length piece
+  pub bounded : length piece ≤ most
+  pub inside : at + length piece ≤ image.len
+  pub bytes : (k : ℕ) → k < length piece → slice_index piece k ≡ byte_of image (at + k)
 
 -- the disk has the length and the grain of the one that was opened
 pub record IsDiskOf (disk : disks.State) (image : ImageState) : Type 0 where

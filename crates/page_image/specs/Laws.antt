@@ -1,7 +1,8 @@
 -- The laws of a space, of an image.
-use Rattle.std.specs.Prelude.{◌≡◌, ◌≢◌, ◌⊎◌, ◌^◌, ◌<◌, Bool, true, false, refl, ⊤}
+use Rattle.std.specs.Prelude.{◌≡◌, ◌≢◌, ◌⊎◌, ℕ, ◌^◌, ◌<◌, Bool, true, false, Option, Some, None, MatchOption, refl, ⊤}
 use Rattle.std.proofs.Common.{◌∙◌, arith, inl, inr, ⊎_elim}
 use Rattle.save_bytes.specs.Spots.{Spot, Place, Sector, Frame}
+use Rattle.save_disk.specs.Trace.{Told}
 use Rattle.save_disk.specs.State as disks
 use Rattle.save_disk.specs.Writes.{WritesOnly}
 use Rattle.save_disk.proofs.Telling.{steady_start, steady_join}
@@ -9,7 +10,7 @@ use Rattle.save_disk.proofs.Growth.{WritesOnly-quiet, WritesOnly-join, WritesTo-
 use Rattle.page_image.specs.declared.state.ImageState.{ImageState}
 use Rattle.page_image.specs.declared.image.Image.{Image}
 use Rattle.page_image.specs.Images.{byte_of, is_changed, image_state}
-use Rattle.page_image.specs.Spots.{SameImage, HoldsAt, SameSpot, Leaves}
+use Rattle.page_image.specs.Spots.{SameImage, HoldsAt, SureAsBefore, SameSpot, Leaves}
 use Rattle.page_image.specs.Held.{ImageKeeps}
 
 pub image_size_fits : (d : disks.State) (image : ImageState) → (image_state d image).shape.size < 2 ^ 64
@@ -18,9 +19,28 @@ image_size_fits d image = omega (arith, image.layout.most)
 SameImage-same : (d : disks.State) (image : ImageState) → SameImage d image d image
 SameImage-same d image = record { len = refl; grain = refl; steady = steady_start d; writes = WritesOnly-quiet (λ sector bytes. ⊤) d d refl; mirrors = λ h. h; pending = λ sector changed clean. absurd (cc) }
 
+module _ (number : ℕ) where
+  -- a trace that stays
+  sure_start : (o : Option Told) → MatchOption o (o ≡ None) (λ told. (next : Told) × (o ≡ Some next) × (next.sure number ≡ told.sure number))
+  sure_start None = refl
+  sure_start (Some told) = (told, refl, refl)
+
+  -- a disk that stays
+  pub SureAsBefore-same : (d : disks.State) → SureAsBefore number d d
+  SureAsBefore-same d = sure_start d.told
+
+  -- a trace behind a trace
+  sure_then : (o p q : Option Told) → MatchOption o (p ≡ None) (λ told. (next : Told) × (p ≡ Some next) × (next.sure number ≡ told.sure number)) → MatchOption p (q ≡ None) (λ told. (next : Told) × (q ≡ Some next) × (next.sure number ≡ told.sure number)) → MatchOption o (q ≡ None) (λ told. (next : Told) × (q ≡ Some next) × (next.sure number ≡ told.sure number))
+  sure_then None p q h k = rw h at k
+  sure_then (Some told) p q (next, is, same) k = let later = rw is at k in (later.0, later.1, later.2 ∙ same)
+
+  -- a call behind a call
+  SureAsBefore-join : (d e f : disks.State) → SureAsBefore number d e → SureAsBefore number e f → SureAsBefore number d f
+  SureAsBefore-join d e f h g = sure_then d.told e.told f.told h g
+
 SameSpot-same : (spot : Spot) (d : disks.State) (image : ImageState) → SameSpot spot d image d image
 SameSpot-same (Place x) d image = (refl, WritesOnly-quiet (HoldsAt image.grain x (byte_of image x)) d d refl)
-SameSpot-same (Sector number) d image = λ clean. (clean, WritesOnly-quiet (λ sector bytes. sector ≢ number) d d refl)
+SameSpot-same (Sector number) d image = λ clean. (clean, WritesOnly-quiet (λ sector bytes. sector ≢ number) d d refl, SureAsBefore-same number d)
 SameSpot-same Frame d image = tt
 
 pub Leaves-same : (spot : Spot) (d : disks.State) (image : ImageState) → Leaves spot d image d image
@@ -55,7 +75,7 @@ module _ (d e f : disks.State) (i j k : ImageState) where
   SameSpot-join (Sector number) grain h g = λ clean.
       let first = h clean in
       let second = g first.0 in
-      (second.0, WritesOnly-join (λ sector bytes. sector ≢ number) d e f first.1 second.1)
+      (second.0, WritesOnly-join (λ sector bytes. sector ≢ number) d e f first.1 second.1, SureAsBefore-join number d e f first.2 second.2)
   SameSpot-join Frame grain h g = tt
 
   pub Leaves-join : (spot : Spot) → Leaves spot d i e j → Leaves spot e j f k → Leaves spot d i f k

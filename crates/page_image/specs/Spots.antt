@@ -20,13 +20,17 @@ pub record SameImage (disk : disks.State) (image : ImageState) (disk_new : disks
 abbrev pub HoldsAt : ℕ → ℕ → ℕ → ℕ → List ℕ → Type 0
 HoldsAt grain x byte sector bytes = sector * grain ≤ x → x < sector * grain + grain → slice_index bytes (x - sector * grain) ≡ byte
 
--- A place is left alone where its byte is as before and each write holds it, a sector where it is not changed and was
--- not written if it was not changed before.
+-- reads of the sector are told as before
+abbrev pub SureAsBefore : ℕ → disks.State → disks.State → Type 0
+SureAsBefore number = disks.GoesOn (λ told next. next.sure number ≡ told.sure number)
+
+-- A place is left alone where its byte is as before and each write holds it. A sector is left alone where, if it was not
+-- changed before, it is not changed, was not written, and its reads are told as before.
 abbrev pub SameSpot : Spot → disks.State → ImageState → disks.State → ImageState → Type 0
 SameSpot (Place x) disk image disk_new image_new =
     (byte_of image_new x ≡ byte_of image x) × WritesOnly (HoldsAt image.grain x (byte_of image x)) disk disk_new
 SameSpot (Sector number) disk image disk_new image_new =
-    is_changed image number ≡ false → (is_changed image_new number ≡ false) × WritesOnly (λ sector bytes. sector ≢ number) disk disk_new
+    is_changed image number ≡ false → (is_changed image_new number ≡ false) × WritesOnly (λ sector bytes. sector ≢ number) disk disk_new × SureAsBefore number disk disk_new
 SameSpot Frame disk image disk_new image_new = ⊤
 
 abbrev pub Leaves : Spot → disks.State → ImageState → disks.State → ImageState → Type 0

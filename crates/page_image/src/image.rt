@@ -115,9 +115,7 @@ impl<D: Disk> Space for Image<'_, D> {
     }
 
     fn piece(&mut self, at: u64, most: usize) -> Result<&[u8], Bad> {
-        let start = at as usize;
-        let end = start + most.min(self.image.len() as usize - start);
-        Ok(self.image.part(start, end))
+        Ok(self.image.held(at, most))
     }
 
     fn ready(&mut self, _at: u64, _n: u64) -> Result<(), Bad> {

@@ -1,9 +1,12 @@
-//! What the calls on an image write, as a law over the spots that they leave alone.
+//! What the calls on an image write, as laws over the spots that they leave alone.
 
 ghost use Rattle.std.specs.Prelude.{ℕ};
-ghost use Rattle.save_disk.specs.State.{State};
+ghost use Rattle.save_bytes.specs.Spots.{Spot};
+ghost use Rattle.save_disk.specs.State.{State, IsQuiet};
 ghost use Rattle.save_disk.specs.Writes.{WritesOnly};
 ghost use Rattle.page_image.specs.declared.state.ImageState.{ImageState};
+ghost use Rattle.page_image.specs.Spots.{Leaves};
+ghost use Rattle.page_image.specs.WriteOuts.{IsClean};
 ghost use Rattle.page_image.specs.Allowed.{IsAllowedWrite, LeavesMissed};
 
 /// A call that leaves alone each spot that a put would miss adds nothing to the trace but writes, each of a sector that
@@ -11,4 +14,13 @@ ghost use Rattle.page_image.specs.Allowed.{IsAllowedWrite, LeavesMissed};
 pub fn writes_of_calls()
     ensures { (disk disk_new : State) (image image_new : ImageState) (at n : ℕ) → LeavesMissed at n disk image disk_new image_new
         → WritesOnly (IsAllowedWrite image at n) disk disk_new }
+{}
+
+/// Where nothing of an image is changed, a call that leaves alone each spot leaves the disk's trace as it is, with all
+/// that it tells of reads, and nothing of the image is changed then.
+pub fn quiet_calls()
+    ensures quiet { (disk disk_new : State) (image image_new : ImageState) → IsClean image → ((spot : Spot) → Leaves spot disk image disk_new image_new)
+        → IsQuiet disk disk_new }
+    ensures clean { (disk disk_new : State) (image image_new : ImageState) → IsClean image → ((spot : Spot) → Leaves spot disk image disk_new image_new)
+        → IsClean image_new }
 {}

@@ -8,7 +8,7 @@ mod state;
 mod writing;
 
 pub use image::Image;
-pub use laws::writes_of_calls;
+pub use laws::{quiet_calls, writes_of_calls};
 pub use state::{ImageFault, ImageState};
 
 #[cfg(test)]

@@ -25,7 +25,7 @@ pub struct ImageState {
 }
 
 impl ImageState {
-    ghost use Rattle.page_image.specs.Images.{is_changed};
+    ghost use Rattle.page_image.specs.Images.{is_changed, IsHeldPiece};
     ghost use Rattle.page_image.specs.Puts.{IsPut, IsUnmarked};
     ghost use Rattle.page_image.specs.WriteOuts.{IsSectorOf};
 
@@ -66,6 +66,17 @@ impl ImageState {
         ensures { result.now ≡ slice_range self.now.bytes.items start end }
     {
         &self.bytes[start..end]
+    }
+
+    /// Lends 1 to `most` bytes of the image from `at` on, as they are held.
+    pub fn held(&self, at: u64, most: usize) -> &[u8]
+        requires inside { at + 1 ≤ self.now.len }
+        requires some { 1 ≤ most }
+        ensures { IsHeldPiece self.now at most result.now }
+    {
+        let start = at as usize;
+        let end = start + most.min(self.len as usize - start);
+        self.part(start, end)
     }
 
     // How many sectors there are, the short last one among them.

@@ -1,0 +1,60 @@
+-- What calls leave of a disk of whose image nothing is changed.
+use Rattle.std.proofs.Common.{◌≡◌, ◌≢◌, ℕ, List, [], ◌∷◌, ◌++◌, Option, Some, None, MatchOption, refl, sym, ◌∙◌, ap, subst}
+use Rattle.std.specs.Bool.{⊤}
+use Rattle.std.proofs.Math.Path.{fun_ext}
+use Rattle.std.proofs.lemmas.List.{append-nil}
+use Rattle.save_bytes.specs.Spots.{Spot, Sector, Frame}
+use Rattle.save_disk.specs.Trace.{Event, Write, Sync, Said, Told}
+use Rattle.save_disk.specs.State as disks
+use Rattle.save_disk.specs.Writes.{OnlyWrites, GrewBy, WritesOnly}
+use Rattle.save_disk.proofs.Growth.{WritesOnly-all}
+use Rattle.page_image.specs.declared.state.ImageState.{ImageState}
+use Rattle.page_image.specs.Spots.{SureAsBefore, Leaves}
+use Rattle.page_image.specs.WriteOuts.{IsClean}
+
+-- a write of no sector
+abbrev OfNone : ℕ → List ℕ → Type 0
+OfNone sector bytes = (number : ℕ) → sector ≢ number
+
+-- then there are no events
+no_writes : (events : List Event) → OnlyWrites OfNone events → events ≡ []
+no_writes [] none = refl
+no_writes (Write sector bytes ∷ events) none = absurd (none.0 sector refl)
+no_writes (Sync ∷ events) none = absurd none
+no_writes (Said bytes ∷ events) none = absurd none
+
+-- a trace to which nothing was added, and of which each read is told as before
+same_told : (a b : Told) → GrewBy (OnlyWrites OfNone) a b → ((number : ℕ) → b.sure number ≡ a.sure number) → b ≡ a
+same_told a b grew sure =
+    let events : b.events ≡ a.events = grew.events ∙ ap (λ (more : List Event). a.events ++ more) (no_writes grew.added grew.such) ∙ append-nil a.events in
+    λ t. record { start = grew.start t; grain = grew.grain t; events = events t; left = grew.left t; sure = fun_ext sure t }
+
+-- the same of what a disk tells of its trace
+went_same : (o p : Option Told) → MatchOption o (p ≡ None) (λ told. (next : Told) × (p ≡ Some next) × GrewBy (OnlyWrites OfNone) told next) → ((number : ℕ) → MatchOption o (p ≡ None) (λ told. (next : Told) × (p ≡ Some next) × (next.sure number ≡ told.sure number))) → p ≡ o
+went_same None p grew sure = grew
+went_same (Some told) p (next, is, grew) sure =
+    is
+    ∙ ap {B = Option Told} Some
+    (same_told told next grew (λ number.
+    (let mine = sure number in
+    let same : mine.0 ≡ next = some_same mine.0 next (sym mine.1 ∙ is) in
+    subst (λ (t : Told). t.sure number ≡ told.sure number) same mine.2)))
+  where
+    some_same : (x y : Told) → Some x ≡ Some y → x ≡ y
+    some_same x y same = cc
+
+-- a call that wrote no sector and told each read as before
+pub quiet_where_same : (d e : disks.State) → WritesOnly OfNone d e → ((number : ℕ) → SureAsBefore number d e) → disks.IsQuiet d e
+quiet_where_same d e grew sure = went_same d.told e.told grew sure
+
+module _ (disk : disks.State) (image : ImageState) (disk_new : disks.State) (image_new : ImageState) (clean : IsClean image) (leaves : (spot : Spot) → Leaves spot disk image disk_new image_new) where
+  -- a call that leaves alone each spot of an image of which nothing is changed leaves the disk's trace as it is
+  pub quiet_where_clean : disks.IsQuiet disk disk_new
+  quiet_where_clean =
+      quiet_where_same disk disk_new
+      (WritesOnly-all (λ (number sector : ℕ) (bytes : List ℕ). sector ≢ number) (λ sector bytes. ⊤) disk disk_new (leaves Frame).0.writes (λ number. ((leaves (Sector number)).1 (clean number)).1))
+      (λ number. ((leaves (Sector number)).1 (clean number)).2)
+
+  -- such a call changes nothing of the image
+  pub clean_where_clean : IsClean image_new
+  clean_where_clean = λ number. ((leaves (Sector number)).1 (clean number)).0
