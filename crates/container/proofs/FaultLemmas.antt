@@ -17,6 +17,15 @@ caused_by expected (Tag want found) is = is
 caused_by expected TableHash is = is
 caused_by expected (Difi part fault) is = is
 
+-- a fault that is caused where none is expected is one of memory or of the disk
+pub caused_none : (expected : Option OpenFault) (fault : OpenFault) → IsCaused None fault → IsCaused expected fault
+caused_none expected Memory is = tt
+caused_none expected Disk is = tt
+caused_none expected (Header fault) is = absurd (cc)
+caused_none expected (Tag want found) is = absurd (cc)
+caused_none expected TableHash is = absurd (cc)
+caused_none expected (Difi part fault) is = absurd (cc)
+
 -- where the first of two is there, it is the fault
 pub caused_first : (one other : Option OpenFault) (fault : OpenFault) → IsCaused one fault → IsCaused (first_of one other) fault
 caused_first one other Memory h = tt

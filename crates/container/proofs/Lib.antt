@@ -1,3 +1,6 @@
-mod ReadLemmas
-mod FaultLemmas
-mod PartLemmas
+pub mod ReadLemmas
+pub mod FaultLemmas
+pub mod PartLemmas
+pub mod StoreLemmas
+pub mod ImageLemmas
+pub mod HeldLemmas

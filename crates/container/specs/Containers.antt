@@ -1,11 +1,11 @@
 -- What an open container holds.
-use Rattle.std.specs.Prelude.{◌≡◌, ℕ, Bool, List, slice_get, None, Some, Ok}
+use Rattle.std.specs.Prelude.{◌≡◌, ℕ, Bool, List, None, Some, Ok}
 use Rattle.container_header.specs.Conditions.{reading as header_reading}
 use Rattle.difi.specs.declared.descriptor.Difi.{Difi}
 use Rattle.part_store.specs.declared.part.Part.{Part}
 use Rattle.container.specs.declared.open.Container.{Container}
 use Rattle.container.specs.Openings.{active_table, fault_of}
-use Rattle.container.specs.Parts.{IsPartRead}
+use Rattle.container.specs.Parts.{part_at, AreRead, IsWhole}
 
 -- What a container holds that was opened over a disk which tells its trace: the image's header and active table, on which
 -- no fault was found, and the parts by the descriptors in that table, of which nothing was changed.
@@ -13,8 +13,12 @@ pub record IsOpenOf (tag_of : List ℕ → List ℕ) (demands : Bool) (image : L
   pub no_fault : fault_of tag_of demands image ≡ None
   pub header : header_reading image ≡ Ok container.header
   pub table : container.table.items ≡ active_table image container.header
-  pub each : (number : ℕ) (part : Part) → slice_get container.parts.items number ≡ Some part → IsPartRead container.table.items container.header number part
+  pub parts : AreRead container.table.items container.header container.parts
+
+-- what holds of each container from its opening on
+abbrev pub IsWholeContainer : Container → Type 0
+IsWholeContainer container = IsWhole container.header container.image.len container.table.items container.parts
 
 -- the container has a part of this number, and this holds of its descriptor
 abbrev pub OfPart : Container → ℕ → (Difi → Type 0) → Type 0
-OfPart container number P = (part : Part) × (slice_get container.parts.items number ≡ Some part) × P part.difi
+OfPart container number P = (part : Part) × (part_at container.parts number ≡ Some part) × P part.difi

@@ -43,11 +43,13 @@ abbrev pub first_of : Option OpenFault → Option OpenFault → Option OpenFault
 first_of (Some fault) other = Some fault
 first_of None other = other
 
+-- the fault of part 1's descriptor, where there is a part 1
+abbrev pub second_fault : List ℕ → Header → Option OpenFault
+second_fault table header = if header.parts == 2 then descriptor_fault 1 (part_reading table header 1) else None
+
 -- the first fault of the descriptors in a table, part 0's before part 1's
 abbrev pub parts_fault : List ℕ → Header → Option OpenFault
-parts_fault table header =
-    first_of (descriptor_fault 0 (part_reading table header 0))
-    (if header.parts == 2 then descriptor_fault 1 (part_reading table header 1) else None)
+parts_fault table header = first_of (descriptor_fault 0 (part_reading table header 0)) (second_fault table header)
 
 -- the active table has the digest that the header says
 abbrev pub digest_fault : List ℕ → Header → Option OpenFault

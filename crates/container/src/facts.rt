@@ -1,6 +1,6 @@
 //! What an open container says of its image.
 
-ghost use Rattle.std.specs.Prelude.{◌≡◌, ◌==◌, ◌<◌, ◌≤◌, Some, None, if◌then◌else◌};
+ghost use Rattle.std.specs.Prelude.{◌≡◌, ◌<◌, ◌≤◌};
 ghost use Rattle.container.specs.Levels.{hash_level};
 
 use crate::open::Container;
@@ -21,6 +21,7 @@ fn hash_level(difi: &Difi, level: u8) -> LevelPlace
 
 impl Container {
     ghost use Rattle.container.specs.Containers.{OfPart};
+    ghost use Rattle.container.specs.Parts.{part_count, split_of};
 
     /// The image's header.
     pub fn header(&self) -> &Header
@@ -31,32 +32,36 @@ impl Container {
 
     /// How many parts there are: 1 or 2.
     pub fn parts(&self) -> u8
-        ensures count { result ≡ self.now.header.parts }
-        ensures some { 1 ≤ result }
-        ensures most { result ≤ 2 }
+        ensures { result ≡ part_count self.now.parts.second }
     {
-        self.header.parts
+        self.parts.count()
     }
 
     // The descriptor of a part.
     fn difi(&self, part: u8) -> &Difi
-        requires { part < self.now.header.parts }
+        requires { part < part_count self.now.parts.second }
         ensures { OfPart self.now part (λ difi. result.now ≡ difi) }
     {
-        self.parts[part as usize].difi()
+        if part == 0 {
+            return self.parts.first.difi();
+        }
+        match &self.parts.second {
+            Some(second) => second.difi(),
+            None => unreachable!(),
+        }
     }
 
     /// Whether part 0's level four is external: it has no second copy, so that a write changes bytes in their place.
     pub fn loose(&self) -> bool
-        ensures { OfPart self.now 0 (λ difi. result ≡ difi.external) }
+        ensures { result ≡ self.now.parts.first.difi.external }
     {
-        self.difi(0).external
+        self.parts.first.difi().external
     }
 
     /// Where a part's hash level lies, in bytes, as its descriptor says: level 1 to 4. Of an external level four only
     /// the size and the logarithm count.
     pub fn level(&self, part: u8, level: u8) -> LevelPlace
-        requires part { part < self.now.header.parts }
+        requires part { part < part_count self.now.parts.second }
         requires some { 1 ≤ level }
         requires most { level ≤ 4 }
         ensures { OfPart self.now part (λ difi. result ≡ hash_level difi level) }
@@ -66,13 +71,11 @@ impl Container {
 
     /// The length of part 0's level four, in bytes, where there is a part 1.
     pub fn split(&self) -> Option<u64>
-        ensures { OfPart self.now 0 (λ difi. result ≡ (if self.now.header.parts == 2 then Some difi.ivfc4.size else None)) }
+        ensures { result ≡ split_of self.now.parts }
     {
-        let size = self.difi(0).ivfc4.size;
-        if self.header.parts == 2 {
-            Some(size)
-        } else {
-            None
+        match &self.parts.second {
+            Some(_) => Some(self.parts.first.difi().ivfc4.size),
+            None => None,
         }
     }
 }

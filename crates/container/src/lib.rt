@@ -1,15 +1,22 @@
 //! An open image: its header, its parts, and a store of the cells of their level fours.
 #![tactic(auto)]
 
+mod copying;
 mod facts;
 mod fault;
 mod front;
 mod open;
+mod parts;
 mod reading;
+mod store;
 mod table;
+mod within;
 
 pub use fault::OpenFault;
 pub use open::Container;
+pub use store::Store;
 
+#[cfg(test)]
+mod store_tests;
 #[cfg(test)]
 mod tests;

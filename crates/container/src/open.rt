@@ -5,14 +5,13 @@ ghost use Rattle.save_disk.specs.State.{IsQuiet, IsSteady, Rose};
 ghost use Rattle.save_disk.specs.Tells.{tells, image_told};
 ghost use Rattle.page_image.specs.Images.{IsOpened};
 ghost use Rattle.container.specs.Openings.{IsCaused, digest_fault, fault_of};
-ghost use Rattle.container.specs.Parts.{IsWhole};
 
 use crate::fault::OpenFault;
 use crate::front::read_header;
+use crate::parts::Parts;
 use crate::table::{open_parts, read_table};
 use container_header::Header;
 use page_image::{ImageFault, ImageState};
-use part_store::Part;
 use save_disk::{Disk, Signer};
 use sha2::{Digest, Sha256};
 use std::alloc::Global;
@@ -23,8 +22,7 @@ pub struct Container {
     pub(crate) header: Header,
     pub(crate) image: ImageState,
     pub(crate) table: Vec<u8>,
-    pub(crate) parts: Vec<Part>,
-    ghost whole: { IsWhole header image.len table.items parts.items },
+    pub(crate) parts: Parts,
 }
 
 // Compares the table's digest with the header's.
@@ -59,7 +57,7 @@ fn open_image<D: Disk>(alloc: Global, disk: &mut D, len: u64) -> Result<ImageSta
 }
 
 impl Container {
-    ghost use Rattle.container.specs.Containers.{IsOpenOf};
+    ghost use Rattle.container.specs.Containers.{IsOpenOf, IsWholeContainer};
 
     /// Opens the image of a disk: its header and the signer's tag, the digest of the active table, and the
     /// descriptors in that table. The inactive table is not looked at, and nothing is written.
@@ -76,6 +74,7 @@ impl Container {
         ensures opened { IfOk result (λ container. IsTrue (tells (D.state disk.old))
             → IsOpenOf (G.tag_of signer.now) (G.is_demanding signer.now) (image_told (D.state disk.old)) container) }
         ensures image { IfOk result (λ container. IsOpened (D.state disk.new) container.image) }
+        ensures whole { IfOk result IsWholeContainer }
         ensures caused { IfErr result (λ fault. IsTrue (tells (D.state disk.old))
             → IsCaused (fault_of (G.tag_of signer.now) (G.is_demanding signer.now) (image_told (D.state disk.old))) fault) }
         ensures disk { IfErr result (λ fault. fault ≡ OpenFault.Disk → Rose (D.state disk.old).counts.disk (D.state disk.new).counts.disk) }

@@ -1,13 +1,14 @@
 //! The active table, and the parts that its descriptors describe.
 
-ghost use Rattle.std.specs.Prelude.{◌≡◌, ◌≢◌, ℕ, ◌+◌, ◌<◌, ◌≤◌, length, IsTrue, IfOk, IfErr, OnOk, Some, None, slice_get};
+ghost use Rattle.std.specs.Prelude.{◌≡◌, ◌≢◌, ◌+◌, ◌≤◌, length, IsTrue, IfOk, IfErr, IfSome, OnOk, None};
 ghost use Rattle.save_disk.specs.State.{IsQuiet, IsSteady, Rose};
 ghost use Rattle.save_disk.specs.Tells.{tells, image_told};
 ghost use Rattle.container_header.specs.Sound.{active_at, IsDescriptor};
-ghost use Rattle.container.specs.Openings.{active_table, IsCaused, part_reading, parts_fault, descriptor_of, partition_of, descriptor_fault};
-ghost use Rattle.container.specs.Parts.{HasDescriptors, IsPartOf, IsPartRead, IsUntouched};
+ghost use Rattle.container.specs.Openings.{active_table, IsCaused, part_reading, second_fault, parts_fault, descriptor_of, partition_of, descriptor_fault};
+ghost use Rattle.container.specs.Parts.{part_count, HasDescriptors, IsPartRead, AreRead};
 
 use crate::fault::OpenFault;
+use crate::parts::Parts;
 use crate::reading::read_part;
 use container_header::{Extent, Header};
 use difi::Difi;
@@ -85,25 +86,31 @@ fn open_part(alloc: Global, header: &Header, table: &[u8], number: u8) -> Result
     }
 }
 
-/// The parts of a table, one for each partition.
-pub(crate) fn open_parts(
-    alloc: Global,
-    header: &Header,
-    table: &[u8],
-) -> Result<Vec<Part>, OpenFault>
+// Part 1, where there are two partitions.
+fn open_second(alloc: Global, header: &Header, table: &[u8]) -> Result<Option<Part>, OpenFault>
     requires { HasDescriptors header.now (length table.now) }
-    ensures count { IfOk result (λ parts. length parts.items ≡ header.now.parts) }
-    ensures each { IfOk result (λ parts. (number : ℕ) (part : Part) → slice_get parts.items number ≡ Some part → IsPartRead table.now header.now number part) }
+    ensures count { IfOk result (λ second. part_count second ≡ header.now.parts) }
+    ensures part { IfOk result (λ second. IfSome second (IsPartRead table.now header.now 1)) }
+    ensures none { OnOk result (second_fault table.now header.now ≡ None) }
+    ensures caused { IfErr result (IsCaused (second_fault table.now header.now)) }
+    ensures not_disk { IfErr result (λ fault. fault ≢ OpenFault.Disk) }
+{
+    if header.parts != 2 {
+        return Ok(None);
+    }
+    let part = open_part(alloc, header, table, 1)?;
+    Ok(Some(part))
+}
+
+/// The parts of a table, one for each partition.
+pub(crate) fn open_parts(alloc: Global, header: &Header, table: &[u8]) -> Result<Parts, OpenFault>
+    requires { HasDescriptors header.now (length table.now) }
+    ensures parts { IfOk result (AreRead table.now header.now) }
     ensures none { OnOk result (parts_fault table.now header.now ≡ None) }
     ensures caused { IfErr result (IsCaused (parts_fault table.now header.now)) }
     ensures not_disk { IfErr result (λ fault. fault ≢ OpenFault.Disk) }
 {
-    let mut parts = Vec::new(alloc);
-    for number in 0..header.parts {
-        let part = open_part(alloc, header, table, number)?;
-        let Ok(()) = parts.push(part) else {
-            return Err(OpenFault::Memory);
-        };
-    }
-    Ok(parts)
+    let first = open_part(alloc, header, table, 0)?;
+    let second = open_second(alloc, header, table)?;
+    Ok(Parts { first, second })
 }
