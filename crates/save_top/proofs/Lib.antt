@@ -1,2 +1,8 @@
 pub mod Telling
-pub mod Findings
+pub mod Numbers
+pub mod Orders
+pub mod Blocks
+pub mod FillLemmas
+pub mod PlaceLemmas
+pub mod PeekLemmas
+pub mod RunLemmas

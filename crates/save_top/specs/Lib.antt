@@ -1,4 +1,6 @@
 pub mod Words
 pub mod Texts
 pub mod Output
-pub mod Finding
+pub mod Replies
+pub mod Peeks
+pub mod Failures

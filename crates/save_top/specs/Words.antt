@@ -1,18 +1,49 @@
 -- The forms of the words after the program's name.
-use Rattle.std.specs.Prelude.{ℕ, Bool, false, ◌==◌, bytes_eq, List, [], ◌∷◌, length, Option, Some, None, codes, if◌then◌else◌}
+use Rattle.std.specs.Prelude.{ℕ, ◌^◌, Bool, true, false, nat_lt, ◌==◌, ◌&&◌, bytes_eq, List, [], ◌∷◌, length, Option, Some, None, codes, if◌then◌else◌}
+use Rattle.std.specs.Fmt.{decimal}
+use Rattle.std.specs.Str.Parse.{digits_value}
 use Rattle.save_top.specs.declared.order.Order.{Order}
 use Rattle.save_top.specs.declared.order.Act.{Act}
-use Rattle.save_top.specs.declared.order.Act.TheVariants.{Info}
+use Rattle.save_top.specs.declared.order.Act.TheVariants.{Info, Peek}
 
--- what a command without further words asks for
-abbrev pub act_of : List ℕ → Option Act
-act_of command = if bytes_eq command (codes "info") then Some Info else None
+-- a number is the word that it is printed as, and is below 2 ^ 64
+unfoldable pub number_of : List ℕ → Option ℕ
+number_of word = let n = digits_value 10 word in if nat_lt n (2 ^ 64) && bytes_eq word (decimal n) then Some n else None
 
-abbrev pub order_to : Option Act → Option Order
-order_to None = None
-order_to (Some act) = Some (record { sealed = false; act = act })
+-- info
+abbrev pub info_of : List (List ℕ) → Option Act
+info_of [] = Some Info
+info_of (word ∷ rest) = None
 
--- FILE COMMAND, where FILE is not empty
+-- peek, where both words are numbers
+abbrev pub peek_at : Option ℕ → Option ℕ → Option Act
+peek_at None block = None
+peek_at (Some part) None = None
+peek_at (Some part) (Some block) = Some (Peek part block)
+
+-- peek PART BLOCK
+abbrev pub peek_of : List (List ℕ) → Option Act
+peek_of (part ∷ block ∷ []) = peek_at (number_of part) (number_of block)
+peek_of words = None
+
+-- a command and its words: info | peek PART BLOCK
+abbrev pub act_of : List (List ℕ) → Option Act
+act_of [] = None
+act_of (command ∷ rest) =
+    if bytes_eq command (codes "info") then info_of rest
+    else if bytes_eq command (codes "peek") then peek_of rest
+    else None
+
+abbrev pub order_to : Bool → Option Act → Option Order
+order_to sealed None = None
+order_to sealed (Some act) = Some (record { sealed = sealed; act = act })
+
+-- a command, or `sealed` and a command
+abbrev pub order_after : List (List ℕ) → Option Order
+order_after [] = None
+order_after (word ∷ rest) = if bytes_eq word (codes "sealed") then order_to true (act_of rest) else order_to false (act_of (word ∷ rest))
+
+-- FILE, which is not empty, then `sealed` or not, then a command
 abbrev pub order_of : List (List ℕ) → Option Order
-order_of (file ∷ command ∷ []) = if length file == 0 then None else order_to (act_of command)
-order_of words = None
+order_of [] = None
+order_of (file ∷ rest) = if length file == 0 then None else order_after rest

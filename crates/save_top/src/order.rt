@@ -1,13 +1,19 @@
 //! The words of a call.
 
-ghost use Rattle.std.specs.Prelude.{◌≡◌};
+ghost use Rattle.std.specs.Prelude.{◌≡◌, ◌≤◌, ◌↔◌, IsTrue, slice_get, drop, length, codes};
+ghost use Rattle.save_top.specs.Words.{number_of, info_of, peek_of, act_of};
 
+use itoa::Buffer;
 use save_bytes::Words;
+use std::str;
 
 /// What a command asks for.
 #[derive(Clone, Copy, Debug, PartialEq, Eq)]
 pub enum Act {
+    /// What the header and the active table show.
     Info,
+    /// The bytes of a block of a part, both counted from 0: the part's number, then the block's.
+    Peek(u64, u64),
 }
 
 /// The words of a call, read.
@@ -21,20 +27,82 @@ pub struct Order {
 impl Order {
     ghost use Rattle.save_top.specs.Words.{order_of};
 
-    /// Reads the words after the program's name: `FILE info`, where FILE is not empty. Nothing else
-    /// is a form.
+    /// Reads the words after the program's name: FILE, which is not empty, then `sealed` or not, then
+    /// `info` or `peek PART BLOCK`, whose two numbers stand as they are printed. Nothing else is a form.
     pub fn read(words: &Words) -> Option<Order>
         ensures { result ≡ order_of words.now }
     {
-        if words.count() != 2 || words.get(0).is_empty() {
+        if words.count() == 0 || words.get(0).is_empty() {
             return None;
         }
-        if words.get(1) != b"info".as_slice() {
-            return None;
-        }
-        Some(Order {
-            sealed: false,
-            act: Act::Info,
-        })
+        let sealed = is_sealed(words);
+        let act = read_act(words, if sealed { 2 } else { 1 })?;
+        Some(Order { sealed, act })
     }
+}
+
+// Whether the word after FILE is `sealed`.
+fn is_sealed(words: &Words) -> bool
+    ensures { IsTrue result ↔ (slice_get words.now 1 ≡ Some (codes "sealed")) }
+{
+    words.count() > 1 && words.get(1) == b"sealed".as_slice()
+}
+
+// The command at word `at`, with the words after it.
+fn read_act(words: &Words, at: usize) -> Option<Act>
+    ensures { result ≡ act_of (drop at words.now) }
+{
+    if words.count() <= at {
+        return None;
+    }
+    let command = words.get(at);
+    if command == b"info".as_slice() {
+        return read_info(words, at + 1);
+    }
+    if command == b"peek".as_slice() {
+        return read_peek(words, at + 1);
+    }
+    None
+}
+
+// No word stands after `info`.
+fn read_info(words: &Words, at: usize) -> Option<Act>
+    requires { at ≤ length words.now }
+    ensures { result ≡ info_of (drop at words.now) }
+{
+    if words.count() == at {
+        Some(Act::Info)
+    } else {
+        None
+    }
+}
+
+// Two numbers stand after `peek`.
+fn read_peek(words: &Words, at: usize) -> Option<Act>
+    requires { at ≤ length words.now }
+    ensures { result ≡ peek_of (drop at words.now) }
+{
+    if words.count() - at != 2 {
+        return None;
+    }
+    let part = read_number(words.get(at))?;
+    let block = read_number(words.get(at + 1))?;
+    Some(Act::Peek(part, block))
+}
+
+// The number that the word is printed from, if it is one below 2 ^ 64.
+fn read_number(word: &[u8]) -> Option<u64>
+    ensures { result ≡ number_of word.now }
+{
+    let Ok(text) = str::from_utf8(word) else {
+        return None;
+    };
+    let Ok(number) = text.parse::<u64>() else {
+        return None;
+    };
+    let mut digits = Buffer::new();
+    if digits.format(number).as_bytes() != word {
+        return None;
+    }
+    Some(number)
 }

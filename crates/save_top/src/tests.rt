@@ -1,33 +1,268 @@
 //! What the program says and answers, on desks in memory.
+//!
+//! The digests of tables and of texts are those of images that were made once in another language, from the format
+//! alone.
+
+ghost use Rattle.std.specs.Prelude.{◌≡◌, ◌+◌, ◌≤◌, length};
 
 use super::*;
 use save_bytes::{Words, set_u32, set_u64};
-use save_disk::{Call, MemDesk, PlainSigner, ZeroSigner};
+use save_disk::{Call, MemDesk, PlainSigner, Signer, ZeroSigner};
+use save_samples::{Sample, sample};
+use sha2::{Digest, Sha256};
 use std::alloc::{AllocError, Global};
+use std::process::Abort;
 use std::test::Fail;
 
-// The SHA-256 of 68 zero bytes, as sha256sum gives it.
-const ZEROS: [u8; 32] = [
-    0x17, 0x51, 0xac, 0x12, 0xe7, 0x0e, 0x15, 0xb4, 0xf7, 0x6c, 0x16, 0x77, 0x5c, 0xd3, 0x29, 0xae,
-    0x55, 0x97, 0x3b, 0x61, 0x25, 0x21, 0xda, 0xb2, 0xde, 0x82, 0x8a, 0x5c, 0xdb, 0x6c, 0x8a, 0xb3,
-];
+const SINGLE: &str =
+    "kind DISA\nactive primary\ntable 1024 300\npart A 4096 106496\nhash 18b7c5bd47916f21b79f8fa36183b4e91c4072e3f4a774d4cf69354a9cc07bed\n";
 
-// The SHA-256 of 136 zero bytes, as sha256sum gives it.
-const MORE_ZEROS: [u8; 32] = [
-    0xb7, 0x07, 0x24, 0x15, 0x45, 0xa3, 0x46, 0x26, 0x5a, 0xab, 0x1f, 0xfb, 0x32, 0xff, 0x64, 0xb5,
-    0x5b, 0xf8, 0xf8, 0xdc, 0x1b, 0x56, 0xa4, 0x6e, 0xf3, 0x3c, 0xe3, 0xd1, 0x5d, 0xb1, 0x1d, 0x33,
-];
+const DUAL: &str =
+    "kind DISA\nactive primary\ntable 1536 604\npart A 4096 40960\npart B 45056 65536\nhash 1f2f002023c9df27c3b5c618b2f236417038727a8aafcc4e92234e278e76ecf4\n";
 
-const DIFF_LINES: &str =
-    "kind DIFF\nactive primary\ntable 1024 68\npart A 1536 512\nunique 18446744073709551615\nhash 1751ac12e70e15b4f76c16775cd329ae55973b612521dab2de828a5cdb6c8ab3\n";
+const VSXE: &str =
+    "kind DIFF\nactive primary\ntable 1024 300\npart A 4096 106496\nunique 0\nhash ec91ab9b20d9fab02edf7eb4c3a586f429ef884268b1fd2798c377bc36e6e872\n";
 
-const DOUBLE_LINES: &str =
-    "kind DISA\nactive primary\ntable 1024 136\npart A 1536 256\npart B 1792 256\nhash b707241545a346265aab1ffb32ff64b55bf8f8dc1b56a46ef33ce3d15db11d33\n";
+/// The words of a line, one space apart.
+fn words_of(alloc: Global, line: &str) -> Result<Words, AllocError> {
+    let mut words = Words::new(alloc);
+    for word in line.split(' ') {
+        words.push(word)?;
+    }
+    Ok(words)
+}
 
-const LINES: &str =
-    "kind DISA\nactive primary\ntable 1024 68\npart A 1536 512\nhash 1751ac12e70e15b4f76c16775cd329ae55973b612521dab2de828a5cdb6c8ab3\n";
+/// That no call of the desk was a write or a sync, and that its image is this one.
+fn assert_unwritten(rt: &impl Abort, desk: &MemDesk, image: &[u8], line: &str) {
+    for i in 0..300 {
+        assert_ne!(rt; desk.call(i), Some(Call::Write), "{line}");
+        assert_ne!(rt; desk.call(i), Some(Call::Sync), "{line}");
+    }
+    assert_eq!(rt; desk.call(300), None, "{line}");
+    assert_eq!(rt; desk.image(), image, "{line}");
+}
 
-// A DISA with one partition, whose tables and partition are zeros.
+/// That the words have this status and this text on the image, in sectors of 512 bytes, and write nothing.
+fn assert_reply<G: Signer>(
+    rt: &impl Abort,
+    alloc: Global,
+    image: &[u8],
+    signer: &G,
+    line: &str,
+    want: (u8, &str),
+) -> Result<(), AllocError> {
+    let words = words_of(alloc, line)?;
+    let mut desk = MemDesk::new(alloc, image, &[])?;
+    assert_eq!(rt; run(alloc, &words, &mut desk, signer), want.0, "{line}");
+    assert_eq!(rt; desk.said(), want.1.as_bytes(), "{line}");
+    assert_unwritten(rt, &desk, image, line);
+    Ok(())
+}
+
+/// That a block is said, in sectors of 4,096 bytes: the text's front, its length and its digest.
+fn assert_block(
+    rt: &impl Abort,
+    alloc: Global,
+    image: &[u8],
+    line: &str,
+    front: &str,
+    len: usize,
+    digest: &[u8; 32],
+) -> Result<(), AllocError> {
+    let words = words_of(alloc, line)?;
+    let mut desk = MemDesk::wide(alloc, image, &[])?;
+    assert_eq!(rt; run(alloc, &words, &mut desk, &ZeroSigner), DONE, "{line}");
+    let said = desk.said();
+    assert!(rt; said.starts_with(front.as_bytes()), "{line}");
+    assert_eq!(rt; said.len(), len, "{line}");
+    assert_eq!(rt; &Sha256::digest(said), digest, "{line}");
+    assert_unwritten(rt, &desk, image, line);
+    Ok(())
+}
+
+/// Puts the digest of a table into a DISA's header.
+fn put_digest(image: &mut [u8], at: usize, size: usize)
+    requires image { length image.old ≡ 110592 }
+    requires inside { at + size ≤ 100000 }
+{
+    let digest = Sha256::digest(&image[at..at + size]);
+    image[0x16C..0x18C].copy_from_slice(&digest);
+}
+
+#[test]
+fn info_says_each_kind(rt: HostRuntime) -> Result<(), Fail> {
+    let alloc = rt.alloc();
+    let rows = [
+        (Sample::Single, SINGLE),
+        (Sample::Dual, DUAL),
+        (Sample::Vsxe, VSXE),
+    ];
+    for (which, text) in rows {
+        let image = sample(alloc, which)?;
+        assert_reply(&rt, alloc, &image, &ZeroSigner, "F info", (DONE, text))?;
+    }
+    Ok(())
+}
+
+// The primary table's copy is the active one, and the digest is its own.
+#[test]
+fn active_table_alone_decides(rt: HostRuntime) -> Result<(), Fail> {
+    let alloc = rt.alloc();
+    let mut image = sample(alloc, Sample::Single)?;
+    image.copy_within(1024..1324, 512);
+    image[1024] ^= 1;
+    let refused = (REFUSED, "refused TableHash\n");
+    assert_reply(&rt, alloc, &image, &ZeroSigner, "F info", refused)?;
+    assert_reply(&rt, alloc, &image, &ZeroSigner, "F peek 0 0", refused)?;
+    image[0x168] = 1;
+    let secondary =
+        "kind DISA\nactive secondary\ntable 512 300\npart A 4096 106496\nhash 18b7c5bd47916f21b79f8fa36183b4e91c4072e3f4a774d4cf69354a9cc07bed\n";
+    assert_reply(&rt, alloc, &image, &ZeroSigner, "F info", (DONE, secondary))?;
+    Ok(())
+}
+
+// 4,096 bytes have 128 lines of 65 bytes, and 1,560 bytes have 48 of them and one of 49.
+#[test]
+fn block_is_said_whole(rt: HostRuntime) -> Result<(), Fail> {
+    let alloc = rt.alloc();
+    let image = sample(alloc, Sample::Single)?;
+    let front =
+        "block 0 0 4096\n53415645000004002000000000000000d8000000000000000002000000000000\n";
+    let digest =
+        b"\x05\x2d\x67\x8a\xdd\xde\x07\x7b\xf5\x2a\x44\x2d\xf5\x6d\x9e\x1c\x4c\xb0\xe6\x85\x9b\xe8\x50\x23\x9e\x03\xa6\xc3\x49\x72\xcf\xe1";
+    assert_block(&rt, alloc, &image, "F peek 0 0", front, 8335, digest)?;
+    let image = sample(alloc, Sample::Vsxe)?;
+    let front =
+        "block 0 0 4096\n56535845000003003801000000000000d8000000000000000002000000000000\n";
+    let digest =
+        b"\x70\x79\xd1\x26\x7e\x75\x28\x4d\x4d\xd9\xc9\xd3\xde\x1f\xd2\x41\x78\xcb\xde\x20\xa7\x8f\xe8\xc1\x71\xc0\xee\xae\x21\x39\x23\x91";
+    assert_block(&rt, alloc, &image, "F peek 0 0", front, 8335, digest)?;
+    let image = sample(alloc, Sample::Dual)?;
+    let front =
+        "block 0 0 1560\n53415645000004002000000000000000d8000000000000000002000000000000\n";
+    let digest =
+        b"\x94\x76\xc7\x0c\xce\x9a\x5f\x7c\x82\xe3\xa8\xaf\x91\x94\xde\x88\xa2\xb3\x74\x6c\xdb\xe2\x55\x7d\xac\xd3\xf8\xde\x8d\x4f\x60\x15";
+    assert_block(&rt, alloc, &image, "F peek 0 0", front, 3184, digest)?;
+    Ok(())
+}
+
+// The two partitions change places in the header: the data region's external level four is then part 0's, and the
+// bytes of part 1 follow its 32,768 bytes.
+#[test]
+fn part_1_is_shown_behind_part_0(rt: HostRuntime) -> Result<(), Fail> {
+    let alloc = rt.alloc();
+    let mut image = sample(alloc, Sample::Dual)?;
+    set_u64(&mut image, 0x128, 304);
+    set_u64(&mut image, 0x138, 0);
+    set_u64(&mut image, 0x148, 45_056);
+    set_u64(&mut image, 0x150, 65_536);
+    set_u64(&mut image, 0x158, 4096);
+    set_u64(&mut image, 0x160, 40_960);
+    let info =
+        "kind DISA\nactive primary\ntable 1536 604\npart A 45056 65536\npart B 4096 40960\nhash 1f2f002023c9df27c3b5c618b2f236417038727a8aafcc4e92234e278e76ecf4\n";
+    let damaged = (REFUSED, "refused Damaged 0 1 0\n");
+    assert_reply(&rt, alloc, &image, &ZeroSigner, "F info", (DONE, info))?;
+    assert_reply(&rt, alloc, &image, &ZeroSigner, "F peek 0 0", damaged)?;
+    let front =
+        "block 1 0 1560\n53415645000004002000000000000000d8000000000000000002000000000000\n";
+    let digest =
+        b"\x5b\x51\x12\x92\xb1\xeb\xa6\xfe\x14\x36\xd3\xc4\x6b\x2a\xc4\x4a\x86\x4e\xf9\x00\xcb\x68\xde\x2a\x27\x47\x97\xf9\x77\x7c\xc9\x6a";
+    assert_block(&rt, alloc, &image, "F peek 1 0", front, 3184, digest)?;
+    Ok(())
+}
+
+// Level four of the lone partition has 34,816 bytes, of the two 1,560 and 32,768, all in blocks of 4,096. Block 0 of
+// each part 0 alone was written.
+#[test]
+fn other_blocks_are_refused(rt: HostRuntime) -> Result<(), Fail> {
+    let alloc = rt.alloc();
+    let rows = [
+        (Sample::Single, "F peek 0 1", "refused Damaged 0 4 1\n"),
+        (Sample::Single, "F peek 0 8", "refused Damaged 0 4 8\n"),
+        (Sample::Single, "F peek 0 9", "refused NoBlock 9\n"),
+        (Sample::Single, "F peek 1 0", "refused NoPart 1\n"),
+        (Sample::Single, "F peek 256 0", "refused NoPart 1\n"),
+        (Sample::Dual, "F peek 0 1", "refused NoBlock 1\n"),
+        (Sample::Dual, "F peek 1 0", "refused Damaged 1 1 0\n"),
+        (Sample::Dual, "F peek 1 8", "refused NoBlock 8\n"),
+        (Sample::Dual, "F peek 2 9", "refused NoPart 2\n"),
+        (
+            Sample::Dual,
+            "F peek 1 18446744073709551615",
+            "refused NoBlock 8\n",
+        ),
+    ];
+    for (which, line, text) in rows {
+        let image = sample(alloc, which)?;
+        assert_reply(&rt, alloc, &image, &ZeroSigner, line, (REFUSED, text))?;
+    }
+    Ok(())
+}
+
+// One bit is changed in the block of each level, from level four up to the top.
+#[test]
+fn topmost_failing_block_is_named(rt: HostRuntime) -> Result<(), Fail> {
+    let alloc = rt.alloc();
+    let mut image = sample(alloc, Sample::Single)?;
+    let rows = [
+        (24_576, "refused Damaged 0 4 0\n"),
+        (20_480, "refused Damaged 0 3 0\n"),
+        (16_384, "refused Damaged 0 2 0\n"),
+        (12_288, "refused Damaged 0 1 0\n"),
+    ];
+    for (at, text) in rows {
+        assert!(rt; at < image.len());
+        image[at] ^= 1;
+        let want = (REFUSED, text);
+        assert_reply(&rt, alloc, &image, &ZeroSigner, "F peek 0 0", want)?;
+        let mut lone = sample(alloc, Sample::Single)?;
+        lone[at] ^= 1;
+        assert_reply(&rt, alloc, &lone, &ZeroSigner, "F peek 0 0", want)?;
+        assert_reply(&rt, alloc, &lone, &ZeroSigner, "F info", (DONE, SINGLE))?;
+    }
+    Ok(())
+}
+
+// One byte of the image is changed.
+#[test]
+fn first_fault_is_said(rt: HostRuntime) -> Result<(), Fail> {
+    let alloc = rt.alloc();
+    let rows = [
+        (1024, 1, "refused TableHash\n"),
+        (1323, 1, "refused TableHash\n"),
+        (0x18B, 0xEC, "refused TableHash\n"),
+        (0x102, b'F', "refused NotImage\n"),
+        (0x103, b'X', "refused NotImage\n"),
+        (0x104, 1, "refused Version\n"),
+        (0x108, 3, "refused Layout 2\n"),
+        (0x108, 2, "refused Layout 8\n"),
+        (0x168, 2, "refused Layout 3\n"),
+        (0x11F, 0xFF, "refused Layout 5\n"),
+    ];
+    for (at, byte, text) in rows {
+        let mut image = sample(alloc, Sample::Single)?;
+        assert!(rt; at < 2048);
+        image[at] = byte;
+        assert_reply(&rt, alloc, &image, &ZeroSigner, "F info", (REFUSED, text))?;
+        assert_reply(
+            &rt,
+            alloc,
+            &image,
+            &ZeroSigner,
+            "F peek 9 9",
+            (REFUSED, text),
+        )?;
+    }
+    let image = sample(alloc, Sample::Single)?;
+    for len in [0, 1, 256, 511] {
+        assert!(rt; len < 2048);
+        let want = (REFUSED, "refused NotImage\n");
+        assert_reply(&rt, alloc, &image[..len], &ZeroSigner, "F info", want)?;
+    }
+    Ok(())
+}
+
+// The table and the partition of a DISA are zeros: its SHA-256 is that of 68 zero bytes, as sha256sum gives it.
 fn smallest() -> [u8; 2048] {
     let mut image = [0; 2048];
     image[0x100..0x104].copy_from_slice(b"DISA");
@@ -39,186 +274,158 @@ fn smallest() -> [u8; 2048] {
     set_u64(&mut image, 0x130, 68);
     set_u64(&mut image, 0x148, 1536);
     set_u64(&mut image, 0x150, 512);
-    image[0x16C..0x18C].copy_from_slice(&ZEROS);
+    image[0x16C..0x18C].copy_from_slice(
+        b"\x17\x51\xac\x12\xe7\x0e\x15\xb4\xf7\x6c\x16\x77\x5c\xd3\x29\xae\x55\x97\x3b\x61\x25\x21\xda\xb2\xde\x82\x8a\x5c\xdb\x6c\x8a\xb3",
+    );
     image
 }
 
-fn words_of(alloc: Global, all: &[&str]) -> Result<Words, AllocError> {
-    let mut words = Words::new(alloc);
-    for word in all {
-        words.push(word)?;
-    }
-    Ok(words)
-}
-
+// Part 1's selector is 2, and then part 0's version of IVFC is another one too.
 #[test]
-fn info_says_the_header_of_a_disa(rt: HostRuntime) -> Result<(), Fail> {
+fn first_fault_of_a_descriptor_is_said(rt: HostRuntime) -> Result<(), Fail> {
     let alloc = rt.alloc();
-    let words = words_of(alloc, &["F", "info"])?;
-    let mut desk = MemDesk::new(alloc, &smallest(), b"")?;
-    assert_eq!(rt; run(alloc, &words, &mut desk, &ZeroSigner), DONE);
-    assert_eq!(rt; desk.said(), LINES.as_bytes());
-    let mut wide = MemDesk::wide(alloc, &smallest(), b"")?;
-    assert_eq!(rt; run(alloc, &words, &mut wide, &PlainSigner), DONE);
-    assert_eq!(rt; wide.said(), LINES.as_bytes());
+    let magic = (REFUSED, "refused DifiMagic 0 1\n");
+    assert_reply(&rt, alloc, &smallest(), &ZeroSigner, "F info", magic)?;
+    let mut image = sample(alloc, Sample::Dual)?;
+    image[1840 + 0x39] = 2;
+    put_digest(&mut image, 1536, 604);
+    let layout = (REFUSED, "refused DifiLayout 1 5\n");
+    assert_reply(&rt, alloc, &image, &ZeroSigner, "F peek 0 0", layout)?;
+    image[1536 + 0x44 + 4] = 1;
+    put_digest(&mut image, 1536, 604);
+    let version = (REFUSED, "refused DifiVersion 0 2\n");
+    assert_reply(&rt, alloc, &image, &ZeroSigner, "F peek 0 0", version)?;
     Ok(())
 }
 
-// Each row: what is changed in the smallest image, as places and bytes, and what is said then.
+// The tag is the front of the SHA-256 of the header's 256 bytes. Whose signer it is decides, and not the word.
 #[test]
-fn first_fault_is_said(rt: HostRuntime) -> Result<(), Fail> {
+fn tag_is_demanded_where_sealed(rt: HostRuntime) -> Result<(), Fail> {
     let alloc = rt.alloc();
-    let words = words_of(alloc, &["F", "info"])?;
-    let rows = [
-        (1024, 1, "refused TableHash\n"),
-        (1091, 0x80, "refused TableHash\n"),
-        (0x18B, 0xB2, "refused TableHash\n"),
-        (0x102, b'F', "refused NotImage\n"),
-        (0x103, b'X', "refused NotImage\n"),
-        (0x104, 1, "refused Version\n"),
-        (0x108, 3, "refused Layout 2\n"),
-        (0x108, 2, "refused Layout 8\n"),
-        (0x168, 2, "refused Layout 3\n"),
-        (0x11F, 0xFF, "refused Layout 5\n"),
-    ];
-    for (at, byte, want) in rows {
-        let mut image = smallest();
-        assert!(rt; at < 2048);
-        image[at] = byte;
-        let mut desk = MemDesk::new(alloc, &image, b"")?;
-        assert_eq!(rt;
-            run(alloc, &words, &mut desk, &ZeroSigner),
-            REFUSED,
-            "at {at}"
-        );
-        assert_eq!(rt; desk.said(), want.as_bytes(), "at {at}");
-        assert_eq!(rt; desk.image(), image.as_slice());
-    }
-    Ok(())
-}
-
-// A DIFF whose table is the two kinds' shortest, and whose partition follows it.
-fn diff() -> [u8; 2048] {
-    let mut image = [0; 2048];
-    image[0x100..0x104].copy_from_slice(b"DIFF");
-    set_u32(&mut image, 0x104, 0x30000);
-    set_u64(&mut image, 0x108, 512);
-    set_u64(&mut image, 0x110, 1024);
-    set_u64(&mut image, 0x118, 68);
-    set_u64(&mut image, 0x120, 1536);
-    set_u64(&mut image, 0x128, 512);
-    image[0x134..0x154].copy_from_slice(&ZEROS);
-    set_u64(&mut image, 0x154, 0xFFFF_FFFF_FFFF_FFFF);
-    image
-}
-
-// The smallest DISA with a second partition, whose descriptor follows the first one's.
-fn double() -> [u8; 2048] {
-    let mut image = smallest();
-    set_u32(&mut image, 0x108, 2);
-    set_u64(&mut image, 0x120, 136);
-    set_u64(&mut image, 0x138, 68);
-    set_u64(&mut image, 0x140, 68);
-    set_u64(&mut image, 0x150, 256);
-    set_u64(&mut image, 0x158, 1792);
-    set_u64(&mut image, 0x160, 256);
-    image[0x16C..0x18C].copy_from_slice(&MORE_ZEROS);
-    image
-}
-
-#[test]
-fn info_says_a_diff_and_two_partitions(rt: HostRuntime) -> Result<(), Fail> {
-    let alloc = rt.alloc();
-    let words = words_of(alloc, &["F", "info"])?;
-    let mut desk = MemDesk::new(alloc, &diff(), b"")?;
-    assert_eq!(rt; run(alloc, &words, &mut desk, &ZeroSigner), DONE);
-    assert_eq!(rt; desk.said(), DIFF_LINES.as_bytes());
-    let mut desk = MemDesk::new(alloc, &double(), b"")?;
-    assert_eq!(rt; run(alloc, &words, &mut desk, &ZeroSigner), DONE);
-    assert_eq!(rt; desk.said(), DOUBLE_LINES.as_bytes());
-    Ok(())
-}
-
-#[test]
-fn secondary_table_is_hashed_where_it_is_active(rt: HostRuntime) -> Result<(), Fail> {
-    let alloc = rt.alloc();
-    let words = words_of(alloc, &["F", "info"])?;
-    let mut image = smallest();
-    image[0x168] = 1;
-    image[1024] = 7;
-    let mut desk = MemDesk::new(alloc, &image, b"")?;
-    assert_eq!(rt; run(alloc, &words, &mut desk, &ZeroSigner), DONE);
-    let said = desk.said();
-    assert!(rt; said.len() > 60);
-    assert_eq!(rt; &said[10..27], b"active secondary\n".as_slice());
-    assert_eq!(rt; &said[27..41], b"table 512 68\np".as_slice());
-    Ok(())
-}
-
-#[test]
-fn short_images_are_none(rt: HostRuntime) -> Result<(), Fail> {
-    let alloc = rt.alloc();
-    let words = words_of(alloc, &["F", "info"])?;
-    let whole = smallest();
-    for len in [0, 1, 256, 511] {
-        assert!(rt; len < 2048);
-        let mut desk = MemDesk::new(alloc, &whole[..len], b"")?;
-        assert_eq!(rt; run(alloc, &words, &mut desk, &ZeroSigner), REFUSED);
-        assert_eq!(rt; desk.said(), b"refused NotImage\n".as_slice());
-    }
+    let mut image = sample(alloc, Sample::Single)?;
+    let want = (
+        REFUSED,
+        "refused Tag ce2e3cf437cbbc8b57f5c8bc8d8b0b59 00000000000000000000000000000000\n",
+    );
+    let told = (DONE, SINGLE);
+    assert_reply(&rt, alloc, &image, &PlainSigner, "F sealed info", want)?;
+    assert_reply(&rt, alloc, &image, &PlainSigner, "F sealed peek 0 0", want)?;
+    assert_reply(&rt, alloc, &image, &ZeroSigner, "F sealed info", told)?;
+    image[..16].copy_from_slice(
+        b"\xce\x2e\x3c\xf4\x37\xcb\xbc\x8b\x57\xf5\xc8\xbc\x8d\x8b\x0b\x59",
+    );
+    assert_reply(&rt, alloc, &image, &PlainSigner, "F sealed info", told)?;
+    image[15] ^= 1;
+    let other = (
+        REFUSED,
+        "refused Tag ce2e3cf437cbbc8b57f5c8bc8d8b0b59 ce2e3cf437cbbc8b57f5c8bc8d8b0b58\n",
+    );
+    assert_reply(&rt, alloc, &image, &PlainSigner, "F sealed info", other)?;
     Ok(())
 }
 
 #[test]
 fn words_of_no_form_touch_no_desk(rt: HostRuntime) -> Result<(), Fail> {
     let alloc = rt.alloc();
-    let forms: [&[&str]; 6] = [
-        &[],
-        &["F"],
-        &["F", "lst"],
-        &["", "info"],
-        &["F", "info", "info"],
-        &["F", "INFO"],
+    let lines = [
+        "",
+        "F",
+        "F lst",
+        "F INFO",
+        " info",
+        "F info info",
+        "F sealed",
+        "F peek 0",
+        "F peek 0 01",
+        "F peek 0 -1",
+        "F peek 0 0 0",
+        "F sealed sealed info",
     ];
-    for form in forms {
-        let words = words_of(alloc, form)?;
-        let mut desk = MemDesk::new(alloc, &smallest(), b"")?;
-        assert_eq!(rt; run(alloc, &words, &mut desk, &ZeroSigner), USAGE);
-        assert_eq!(rt; desk.call(0), None);
-        assert_eq!(rt; desk.said(), b"".as_slice());
+    let image = sample(alloc, Sample::Single)?;
+    for line in lines {
+        let words = words_of(alloc, line)?;
+        let mut desk = MemDesk::new(alloc, &image, &[])?;
+        assert_eq!(rt; run(alloc, &words, &mut desk, &ZeroSigner), USAGE, "{line}");
+        assert_eq!(rt; desk.call(0), None, "{line}");
+        assert_eq!(rt; desk.said(), b"".as_slice(), "{line}");
     }
+    let mut desk = MemDesk::new(alloc, &image, &[])?;
+    assert_eq!(rt;
+        run(alloc, &Words::new(alloc), &mut desk, &ZeroSigner),
+        USAGE
+    );
+    assert_eq!(rt; desk.call(0), None);
     Ok(())
 }
 
-// Each call of a kind fails in turn, until a run meets none. Nothing is called after the failing one.
+/// That a run with this call failing has this status, says nothing, and makes no call after it.
+fn assert_last(
+    rt: &impl Abort,
+    alloc: Global,
+    image: &[u8],
+    line: &str,
+    which: (Call, u32),
+    at: usize,
+    status: u8,
+) -> Result<(), AllocError>
+    requires { at ≤ 100 }
+{
+    let (call, nth) = which;
+    let words = words_of(alloc, line)?;
+    let mut desk = MemDesk::wide(alloc, image, &[])?;
+    desk.fail(call, nth);
+    assert_eq!(rt;
+        run(alloc, &words, &mut desk, &ZeroSigner),
+        status,
+        "at {at}"
+    );
+    assert_eq!(rt; desk.said(), b"".as_slice(), "at {at}");
+    assert_eq!(rt; desk.call(at), Some(call), "at {at}");
+    assert_eq!(rt; desk.call(at + 1), None, "at {at}");
+    assert_eq!(rt; desk.short(), 0);
+    Ok(())
+}
+
+// In sectors of 4,096 bytes an image is read by 29 calls: its front, its table, and its 27 sectors.
 #[test]
-fn each_failing_call_has_its_status(rt: HostRuntime) -> Result<(), Fail> {
+fn failed_call_is_the_last(rt: HostRuntime) -> Result<(), Fail> {
     let alloc = rt.alloc();
-    let words = words_of(alloc, &["F", "info"])?;
-    let rows = [
-        (Call::Len, DISK_FAULT, 1),
-        (Call::Read, DISK_FAULT, 2),
-        (Call::Say, SINK_FAULT, 1),
-    ];
-    for (kind, status, calls) in rows {
-        for nth in 1..=calls {
-            let mut desk = MemDesk::new(alloc, &smallest(), b"")?;
-            desk.fail(kind, nth);
-            assert_eq!(rt; run(alloc, &words, &mut desk, &ZeroSigner), status);
-            assert_eq!(rt; desk.said(), b"".as_slice());
-            let mut last = None;
-            for i in 0..100 {
-                let Some(call) = desk.call(i) else {
-                    break;
-                };
-                last = Some(call);
-            }
-            assert_eq!(rt; last, Some(kind));
-            assert_eq!(rt; desk.short(), 0);
+    let image = sample(alloc, Sample::Single)?;
+    for line in ["F info", "F peek 0 0", "F peek 0 1"] {
+        assert_last(&rt, alloc, &image, line, (Call::Len, 1), 0, DISK_FAULT)?;
+        for nth in 1..30 {
+            let at = nth as usize;
+            assert_last(&rt, alloc, &image, line, (Call::Read, nth), at, DISK_FAULT)?;
         }
-        let mut desk = MemDesk::new(alloc, &smallest(), b"")?;
-        desk.fail(kind, calls + 1);
-        assert_eq!(rt; run(alloc, &words, &mut desk, &ZeroSigner), DONE);
+        assert_last(&rt, alloc, &image, line, (Call::Say, 1), 30, SINK_FAULT)?;
     }
+    let words = words_of(alloc, "F peek 0 0")?;
+    let mut desk = MemDesk::wide(alloc, &image, &[])?;
+    desk.fail(Call::Len, 2);
+    desk.fail(Call::Read, 30);
+    desk.fail(Call::Say, 2);
+    assert_eq!(rt; run(alloc, &words, &mut desk, &ZeroSigner), DONE);
+    assert_eq!(rt; desk.call(30), Some(Call::Say));
+    assert_eq!(rt; desk.call(31), None);
+    Ok(())
+}
+
+// With ample memory the block is said. Where an allocation of the run finds no memory, nothing is said or written, and
+// a fault is the desk's own: its list of calls found none.
+#[test]
+fn want_of_memory_writes_nothing(rt: HostRuntime) -> Result<(), Fail> {
+    let alloc = rt.alloc();
+    let image = sample(alloc, Sample::Single)?;
+    let words = words_of(alloc, "F peek 0 0")?;
+    let mut desk = MemDesk::wide(alloc, &image, &[])?;
+    let status = run(alloc, &words, &mut desk, &ZeroSigner);
+    let said = (desk.said().len(), desk.short());
+    match status {
+        DONE => assert_eq!(rt; said, (8335, 0)),
+        NO_MEMORY => assert_eq!(rt; said, (0, 0)),
+        DISK_FAULT | SINK_FAULT => assert_eq!(rt; said, (0, 1)),
+        _ => assert!(rt; false, "status {status}"),
+    }
+    assert_unwritten(&rt, &desk, &image, "F peek 0 0");
     Ok(())
 }

@@ -1,20 +1,30 @@
 //! The program's one top call.
 
-ghost use Rattle.std.specs.Prelude.{◌≡◌, ◌⊎◌, ◌≤◌, ◌↔◌, [], Some, None};
-ghost use Rattle.arrayvec.specs.ArrayVec.{array_vec_len};
-ghost use Rattle.save_disk.specs.State.{IsSteady, Rose};
+ghost use Rattle.std.specs.Prelude.{◌≡◌, ◌⊎◌, ◌≤◌, ◌↔◌, Bool, List, ℕ, IsTrue, IfOk, IfErr, Some, None};
+ghost use Rattle.save_disk.specs.State.{IsQuiet, IsSteady, Rose};
 ghost use Rattle.save_disk.specs.Stops.{Since, AtEachMoment};
-ghost use Rattle.save_disk.specs.Tells.{WhenFresh, NoneRose};
+ghost use Rattle.save_disk.specs.Tells.{WhenFresh, NoneRose, tells};
+ghost use Rattle.page_image.specs.Images.{IsDiskOf};
+ghost use Rattle.page_image.specs.WriteOuts.{IsClean};
+ghost use Rattle.container.specs.Openings.{fault_of};
+ghost use Rattle.container.specs.Containers.{IsWholeContainer};
 ghost use Rattle.save_top.specs.declared.order.Order.{Order};
+ghost use Rattle.save_top.specs.declared.order.Act.{Act};
 ghost use Rattle.save_top.specs.Words.{order_of};
-ghost use Rattle.save_top.specs.Output.{SaysFront, SaysAll};
-ghost use Rattle.save_top.specs.Finding.{finding_of, reply_on, reply_to};
+ghost use Rattle.save_top.specs.Texts.{info_text};
+ghost use Rattle.save_top.specs.Output.{SaysFront, SaysAll, Says, IsEnd};
+ghost use Rattle.save_top.specs.Replies.{Reply, done, peek_reply, reply_by, reply_to};
+ghost use Rattle.save_top.specs.Failures.{IsFailureBy};
+ghost use Rattle.save_top.specs.Peeks.{Holds};
 
-use crate::finding::{Finding, find};
+use crate::failure::{Failure, of_fault, of_miss};
 use crate::order::{Act, Order};
-use crate::text::{ROOM, put, put_fault, put_info};
+use crate::peek::show;
+use crate::text::put_info;
 use crate::voice::say_all;
 use arrayvec::ArrayVec;
+use container::Container;
+use container_header::Header;
 use save_bytes::Words;
 use save_disk::{Desk, Signer};
 use std::alloc::Global;
@@ -34,41 +44,105 @@ pub const SINK_FAULT: u8 = 5;
 /// Memory was wanting.
 pub const NO_MEMORY: u8 = 6;
 
-// Puts what is to be said of a finding into an empty room, and answers the status.
-fn put_finding(out: &mut ArrayVec<u8, ROOM>, finding: &Finding) -> u8
-    requires { out.old.items ≡ [] }
-    ensures text { out.new.items ≡ (reply_on finding.now).text }
-    ensures status { result ≡ (reply_on finding.now).status }
-{
-    match finding {
-        Finding::Sound(header) => {
-            put_info(out, header);
-            return DONE;
-        }
-        Finding::Unsound(fault) => put_fault(out, *fault),
-        Finding::TableHash => put(out, b"refused TableHash\n"),
-    }
-    REFUSED
-}
-
-// Says what an image's header and active table show.
-fn info<D: Desk>(desk: &mut D) -> u8
-    ensures any_moment { WhenFresh (λ told. Since (SaysFront (reply_on (finding_of told.start)).text) told (D.state desk.new).told) (D.state desk.old) }
-    ensures whole { result ≤ 1 → WhenFresh (λ told. (result ≡ (reply_on (finding_of told.start)).status)
-        × Since (SaysAll (reply_on (finding_of told.start)).text) told (D.state desk.new).told) (D.state desk.old) }
-    ensures disk_fault { result ≡ 3 → Rose (D.state desk.old).counts.disk (D.state desk.new).counts.disk }
-    ensures sink_fault { result ≡ 5 → Rose (D.state desk.old).counts.sink (D.state desk.new).counts.sink }
-    ensures known { (result ≤ 1) ⊎ (result ≡ 3) ⊎ (result ≡ 5) }
+// Says a whole text, and answers the status, or that the sink failed.
+fn say<D: Desk>(desk: &mut D, status: u8, text: &[u8]) -> u8
+    requires { status ≤ 1 }
+    ensures says { Says status text.now (D.state desk.old) (D.state desk.new) result }
+    ensures known { (result ≡ status) ⊎ (result ≡ 5) }
+    ensures sink { result ≡ 5 → Rose (D.state desk.old).counts.sink (D.state desk.new).counts.sink }
     ensures steady { IsSteady (D.state desk.old) (D.state desk.new) }
 {
-    let Ok(finding) = find(desk) else {
-        return DISK_FAULT;
-    };
-    let mut text = ArrayVec::new();
-    let status = put_finding(&mut text, &finding);
-    match say_all(desk, text.as_slice()) {
+    match say_all(desk, text) {
         Ok(()) => status,
         Err(_) => SINK_FAULT,
+    }
+}
+
+// Says the line of a refusal, and answers the status of a failure.
+fn fail<D: Desk>(desk: &mut D, failure: &Failure) -> u8
+    ensures says { (reply : Reply) → IsFailureBy reply failure.now → Says reply.status reply.text (D.state desk.old) (D.state desk.new) result }
+    ensures known { IsEnd result }
+    ensures disk { result ≡ 3 → failure.now ≡ Failure.Disk }
+    ensures sink { result ≡ 5 → Rose (D.state desk.old).counts.sink (D.state desk.new).counts.sink }
+    ensures steady { IsSteady (D.state desk.old) (D.state desk.new) }
+{
+    match failure {
+        Failure::Memory => NO_MEMORY,
+        Failure::Disk => DISK_FAULT,
+        Failure::Refused(line) => say(desk, REFUSED, line.as_slice()),
+    }
+}
+
+// Says what the image's header shows.
+fn info<D: Desk>(desk: &mut D, header: &Header) -> u8
+    ensures says { Says 0 (info_text header.now) (D.state desk.old) (D.state desk.new) result }
+    ensures known { (result ≡ 0) ⊎ (result ≡ 5) }
+    ensures sink { result ≡ 5 → Rose (D.state desk.old).counts.sink (D.state desk.new).counts.sink }
+    ensures steady { IsSteady (D.state desk.old) (D.state desk.new) }
+{
+    let mut text = ArrayVec::new();
+    put_info(&mut text, header);
+    say(desk, DONE, text.as_slice())
+}
+
+// Says the bytes of a block of an open image.
+fn peek<D: Desk>(
+    alloc: Global,
+    container: &mut Container,
+    desk: &mut D,
+    part: u64,
+    block: u64,
+) -> u8
+    requires whole { IsWholeContainer container.old }
+    requires disk { IsDiskOf (D.state desk.old) container.old.image }
+    requires clean { IsClean container.old.image }
+    ensures says { (tag_of : List ℕ → List ℕ) (demands : Bool) (image : List ℕ) → IsTrue (tells (D.state desk.old)) → Holds tag_of demands image container.old
+        → Says (peek_reply image container.old.header part block).status (peek_reply image container.old.header part block).text (D.state desk.old) (D.state desk.new) result }
+    ensures known { IsEnd result }
+    ensures disk { result ≡ 3 → Rose (D.state desk.old).counts.disk (D.state desk.new).counts.disk }
+    ensures sink { result ≡ 5 → Rose (D.state desk.old).counts.sink (D.state desk.new).counts.sink }
+    ensures steady { IsSteady (D.state desk.old) (D.state desk.new) }
+{
+    match show(alloc, container, desk, part, block) {
+        Ok(text) => say(desk, DONE, text.as_slice()),
+        Err(miss) => fail(desk, &of_miss(miss)),
+    }
+}
+
+// Opens the image at the desk.
+fn open<D: Desk, G: Signer>(alloc: Global, desk: &mut D, signer: &G) -> Result<Container, Failure>
+    ensures opened { IfOk result (λ container. WhenFresh (λ told. Holds (G.tag_of signer.now) (G.is_demanding signer.now) told.start container) (D.state desk.old)) }
+    ensures whole { IfOk result IsWholeContainer }
+    ensures disk { IfOk result (λ container. IsDiskOf (D.state desk.new) container.image) }
+    ensures clean { IfOk result (λ container. IsClean container.image) }
+    ensures failure { IfErr result (λ failure. WhenFresh (λ told. (act : Act)
+        → IsFailureBy (reply_by (fault_of (G.tag_of signer.now) (G.is_demanding signer.now) told.start) act told.start) failure) (D.state desk.old)) }
+    ensures cause { IfErr result (λ failure. failure ≡ Failure.Disk → Rose (D.state desk.old).counts.disk (D.state desk.new).counts.disk) }
+    ensures quiet { IsQuiet (D.state desk.old) (D.state desk.new) }
+    ensures steady { IsSteady (D.state desk.old) (D.state desk.new) }
+{
+    match Container::open(alloc, desk, signer) {
+        Ok(container) => Ok(container),
+        Err(fault) => Err(of_fault(&fault)),
+    }
+}
+
+// Does what an order asks for.
+fn obey<D: Desk, G: Signer>(alloc: Global, order: Order, desk: &mut D, signer: &G) -> u8
+    ensures says { WhenFresh (λ told. let reply = reply_to (G.tag_of signer.now) (G.is_demanding signer.now) order told.start in
+        Says reply.status reply.text (D.state desk.old) (D.state desk.new) result) (D.state desk.old) }
+    ensures known { IsEnd result }
+    ensures disk { result ≡ 3 → Rose (D.state desk.old).counts.disk (D.state desk.new).counts.disk }
+    ensures sink { result ≡ 5 → Rose (D.state desk.old).counts.sink (D.state desk.new).counts.sink }
+    ensures steady { IsSteady (D.state desk.old) (D.state desk.new) }
+{
+    let mut container = match open(alloc, desk, signer) {
+        Ok(container) => container,
+        Err(failure) => return fail(desk, &failure),
+    };
+    match order.act {
+        Act::Info => info(desk, container.header()),
+        Act::Peek(part, block) => peek(alloc, &mut container, desk, part, block),
     }
 }
 
@@ -80,30 +154,28 @@ pub fn run<D: Desk, G: Signer>(alloc: Global, words: &Words, desk: &mut D, signe
     ensures untouched { result ≡ 2 → desk.new ≡ desk.old }
 
     // At each moment nothing was written or synced, and what was said is a front of the text that the
-    // image of the start gives.
+    // image of the start gives under this signer.
     ensures any_moment { (order : Order) → order_of words.now ≡ Some order
-        → WhenFresh (λ told. Since (AtEachMoment (SaysFront (reply_to order told.start).text)) told (D.state desk.new).told) (D.state desk.old) }
+        → WhenFresh (λ told. Since (AtEachMoment (SaysFront (reply_to (G.tag_of signer.now) (G.is_demanding signer.now) order told.start).text)) told (D.state desk.new).told) (D.state desk.old) }
 
     // At 0 and 1 it is all of that text, and the status that goes with it.
     ensures whole { result ≤ 1 → (order : Order) → order_of words.now ≡ Some order
-        → WhenFresh (λ told. (result ≡ (reply_to order told.start).status)
-        × Since (SaysAll (reply_to order told.start).text) told (D.state desk.new).told) (D.state desk.old) }
+        → WhenFresh (λ told. (result ≡ (reply_to (G.tag_of signer.now) (G.is_demanding signer.now) order told.start).status)
+        × Since (SaysAll (reply_to (G.tag_of signer.now) (G.is_demanding signer.now) order told.start).text) told (D.state desk.new).told) (D.state desk.old) }
 
-    // Where no count rose, the status is the one that goes with the text.
+    // Where no count rose, the status is the one that goes with the text, or tells want of memory.
     ensures complete { (order : Order) → order_of words.now ≡ Some order → NoneRose (D.state desk.old) (D.state desk.new)
-        → WhenFresh (λ told. result ≡ (reply_to order told.start).status) (D.state desk.old) }
+        → WhenFresh (λ told. (result ≡ (reply_to (G.tag_of signer.now) (G.is_demanding signer.now) order told.start).status) ⊎ (result ≡ 6)) (D.state desk.old) }
 
     // Each fault has its cause.
     ensures disk_fault { result ≡ 3 → Rose (D.state desk.old).counts.disk (D.state desk.new).counts.disk }
     ensures source_fault { result ≡ 4 → Rose (D.state desk.old).counts.source (D.state desk.new).counts.source }
     ensures sink_fault { result ≡ 5 → Rose (D.state desk.old).counts.sink (D.state desk.new).counts.sink }
-    ensures known { result ≤ 5 }
+    ensures known { result ≤ 6 }
     ensures steady { IsSteady (D.state desk.old) (D.state desk.new) }
 {
     let Some(order) = Order::read(words) else {
         return USAGE;
     };
-    match order.act {
-        Act::Info => info(desk),
-    }
+    obey(alloc, order, desk, signer)
 }
