@@ -1,13 +1,14 @@
 //! The program on a file and the standard streams.
 #![tactic(auto)]
 
-ghost use Rattle.std.specs.Prelude.{◌≡◌, ◌≤◌, ◌↔◌, None, Some, IsSome, IfSome};
+ghost use Rattle.std.specs.Prelude.{◌≡◌, ◌≤◌, ◌↔◌, None, Some, IsSome, IfSome, IsTrue};
 ghost use Rattle.save_disk.specs.FileDesks.{IsClosed};
 ghost use Rattle.save_top.specs.Words.{order_of};
 ghost use Rattle.save_cli.specs.Complaint.{complaint_of};
+ghost use Rattle.save_cli.specs.Signing.{AsksForTag};
 
 use save_bytes::Words;
-use save_disk::{FileDesk, ZeroSigner};
+use save_disk::{FileDesk, PlainSigner, ZeroSigner};
 use save_top::{DISK_FAULT, NO_MEMORY, Order, SINK_FAULT, SOURCE_FAULT, USAGE, run};
 use std::alloc::AllocError;
 use std::process::ExitCode;
@@ -41,6 +42,16 @@ fn desk_for<'a>(rt: &'a HostRuntime, words: &Words) -> FileDesk<'a>
     }
 }
 
+// Whether the image has to carry its signer's tag.
+fn is_sealed(words: &Words) -> bool
+    ensures { IsTrue result ↔ AsksForTag (order_of words.now) }
+{
+    match Order::read(words) {
+        Some(order) => order.sealed,
+        None => false,
+    }
+}
+
 // What is said on the standard error for a status: one line for each that is neither done nor refused.
 fn complaint(status: u8) -> Option<&'static str>
     ensures some { IsSome result ↔ ((2 ≤ status) × (status ≤ 6)) }
@@ -60,7 +71,11 @@ fn main(rt: HostRuntime) -> ExitCode {
     let status = match words_of(&rt) {
         Ok(words) => {
             let mut desk = desk_for(&rt, &words);
-            run(rt.alloc(), &words, &mut desk, &ZeroSigner)
+            if is_sealed(&words) {
+                run(rt.alloc(), &words, &mut desk, &PlainSigner)
+            } else {
+                run(rt.alloc(), &words, &mut desk, &ZeroSigner)
+            }
         }
         Err(AllocError) => NO_MEMORY,
     };
