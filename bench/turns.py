@@ -1,0 +1,50 @@
+"""Times commands that take turns, so that what else the machine does weighs on all alike."""
+import os
+import statistics
+import subprocess
+import sys
+import time
+
+TOP = os.path.dirname(os.path.dirname(os.path.abspath(__file__)))
+PROGRAM = os.path.join(TOP, 'crates', 'save_cli', 'out', 'save_cli')
+
+# checks/make_image.py makes the images.
+sys.dont_write_bytecode = True
+sys.path.insert(0, os.path.join(TOP, 'checks'))
+
+
+def build() -> None:
+    """Builds the program where it is not built yet."""
+    subprocess.run([os.path.join(TOP, 'save')], stdout=subprocess.DEVNULL, stderr=subprocess.DEVNULL)
+
+
+def said(words: list) -> str:
+    return subprocess.run(words, capture_output=True, check=True).stdout.decode()
+
+
+def seconds(words: list) -> float:
+    start = time.perf_counter()
+    subprocess.run(words, stdout=subprocess.DEVNULL, check=True)
+    return time.perf_counter() - start
+
+
+def medians(commands: dict, rounds: int) -> dict:
+    """Runs each command so many times, and prints and answers the middle of its times."""
+    times = {name: [] for name in commands}
+    for _ in range(rounds):
+        for name, words in commands.items():
+            times[name].append(seconds(words))
+    middle = {name: statistics.median(all_of) for name, all_of in times.items()}
+    for name, value in middle.items():
+        print(f'{name:24} {value * 1e3:7.3f} ms')
+    return middle
+
+
+def ratio(middle: dict, one: str, other: str) -> None:
+    print(f'{one + " / " + other:24} {middle[one] / middle[other]:7.2f}')
+
+
+def ratio_beyond(middle: dict, one: str, other: str) -> None:
+    """The ratio of what two commands take beyond starting a process."""
+    own, others = (middle[name] - middle['true'] for name in (one, other))
+    print(f'{one} beyond true / {other} beyond true {own / others:.2f}')
