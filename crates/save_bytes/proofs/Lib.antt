@@ -5,3 +5,5 @@ pub mod CellLemmas
 pub mod PutLemmas
 pub mod ViewLemmas
 pub mod CallLemmas
+pub mod JoinLemmas
+pub mod WriteLemmas

@@ -6,9 +6,10 @@ use Rattle.std.proofs.lemmas.Bool.{cases_lt}
 use Rattle.save_bytes.specs.Fields.{with_bytes}
 use Rattle.save_bytes.specs.declared.memory.MemSpace.{MemSpace}
 use Rattle.save_bytes.specs.Cells.{Byte}
+use Rattle.save_bytes.specs.State.{CanPut}
 use Rattle.save_bytes.specs.Stays.{SameSpace}
 use Rattle.save_bytes.specs.Puts.{Puts}
-use Rattle.save_bytes.specs.Spots.{Spot, Place, Sector, Frame, Misses, MovesOnly}
+use Rattle.save_bytes.specs.Spots.{Spot, Place, Misses, MovesOnly}
 use Rattle.save_bytes.specs.Memory.{memory_shape, bytes_state, memory_state, SameMemory, SameSpot, MemoryKeeps, MemoryLands}
 
 -- a place that is none of the n from a place on lies before them or behind
@@ -45,19 +46,19 @@ module _ (xs : List ℕ) (at : ℕ) (piece ys : List ℕ) (write : IsWrite xs at
   inside : (k : ℕ) → k < length piece → get_or ys (at + k) 0 ≡ get_or piece k 0
   inside k within = rw write.is (with_bytes_inside xs piece at k write.fits within)
 
-  same_space : (block : ℕ) → SameSpace (bytes_state xs block) (bytes_state ys block) None
-  same_space block = record {
+  same_space : (P : Type 0) (block : ℕ) → SameSpace P (bytes_state xs block) (bytes_state ys block) None
+  same_space P block = record {
     shape = ap (λ size. memory_shape size block) same_size;
     faults = omega arith;
     cause = tt;
-    told = refl;
+    told = λ told. refl;
     twins = λ told. record { bottom = λ x h. refl; is_fixed = λ x h. refl };
   }
 
   -- the piece was put into the space
   pub bytes_put : (block : ℕ) → Puts (bytes_state xs block) at piece (bytes_state ys block) None
   bytes_put block = record {
-    space = same_space block;
+    space = same_space (CanPut (bytes_state xs block) at (length piece)) block;
     done = λ told. record {
       written = λ x k h within e. rw e (ap Byte (inside k within));
       others = λ x h apart. ap Byte (outside x apart);
@@ -68,15 +69,14 @@ module _ (xs : List ℕ) (at : ℕ) (piece ys : List ℕ) (write : IsWrite xs at
 
 same_spot : (s t : MemSpace) (at : ℕ) (piece : List ℕ) → IsWrite s.bytes.now at piece t.bytes.now → (spot : Spot) → Misses MemoryLands at (length piece) spot → SameSpot spot s t
 same_spot s t at piece write (Place place) misses = outside s.bytes.now at piece t.bytes.now write place (λ k h e. misses k h (sym e))
-same_spot s t at piece write (Sector number) misses = tt
-same_spot s t at piece write Frame misses = tt
+same_spot s t at piece write other misses = tt
 
 -- no place outside the piece was touched
 pub bytes_moved : (s t : MemSpace) (at n : ℕ) (piece : List ℕ) → length piece ≡ n → t.bytes.ghost_name ≡ s.bytes.ghost_name → t.block ≡ s.block → IsWrite s.bytes.now at piece t.bytes.now → MovesOnly MemoryKeeps (λ _. MemoryLands) (memory_state s) s at n t None
 bytes_moved s t at n piece long same_reference same_block write =
     let same : SameMemory s t = record { same_reference = same_reference; same_size = same_size s.bytes.now at piece t.bytes.now write; same_block = same_block } in
     record {
-      frame = (same, tt);
+      hold = (same, tt);
       spots = λ told spot misses. (same, same_spot s t at piece write spot (rw long misses));
       damaged = λ told. tt;
       reach = λ told x h spot lands. lands;

@@ -7,7 +7,7 @@ use Rattle.save_bytes.specs.declared.space.Bad.TheVariants.{Disk, Damaged}
 use Rattle.save_bytes.specs.Refusals.{UnlessDisk, NeverDamaged}
 use Rattle.save_bytes.specs.Answers.{IsReady}
 use Rattle.save_bytes.specs.Cells.{Cell, Byte, Blank, Spoilt, IsBlank, IsUnspoilt, IsClearable}
-use Rattle.save_bytes.specs.State.{Shape, State}
+use Rattle.save_bytes.specs.State.{Shape, State, CanPut}
 use Rattle.save_bytes.specs.Blocks.{HasBlocks}
 use Rattle.save_bytes.specs.Stays.{SameTwins}
 use Rattle.save_bytes.specs.Puts.{IsMet, HasBlank, IsDeeper, SoftensBlank, SoftensFrom, Softens, HasPut, Puts}
@@ -96,10 +96,13 @@ abbrev pub AreUnspoilt : State → ℕ → ℕ → Type 0
 AreUnspoilt s at n = (k : ℕ) → k < n → IsUnspoilt (s.cells (at + k))
 
 -- so they stay after a put at any place, one that was refused as damaged too
-pub Puts-unspoilt : (old new : State) (at n other : ℕ) (bytes : List ℕ) (refusal : Option Bad) → Puts old other bytes new refusal → IsTrue old.told → at + n ≤ old.shape.size → AreUnspoilt old at n → UnlessDisk refusal (AreUnspoilt new at n)
-Puts-unspoilt old new at n other bytes None puts told fits ok = λ k h. HasPut-unspoilt old other bytes new.cells (puts.done told) (at + k) (omega arith) (ok k h)
-Puts-unspoilt old new at n other bytes (Some Disk) puts told fits ok = tt
-Puts-unspoilt old new at n other bytes (Some (Damaged part level block)) puts told fits ok = λ k h. rw (puts.damaged told (at + k) (omega arith)) (ok k h)
+pub Puts-unspoilt : (old new : State) (at n other : ℕ) (bytes : List ℕ) (refusal : Option Bad) → Puts old other bytes new refusal
+    → CanPut old other (length bytes) → at + n ≤ old.shape.size → AreUnspoilt old at n → UnlessDisk refusal (AreUnspoilt new at n)
+Puts-unspoilt old new at n other bytes None puts can fits ok =
+    λ k h. HasPut-unspoilt old other bytes new.cells (puts.done can) (at + k) (omega arith) (ok k h)
+Puts-unspoilt old new at n other bytes (Some Disk) puts can fits ok = tt
+Puts-unspoilt old new at n other bytes (Some (Damaged part level block)) puts can fits ok =
+    λ k h. rw (puts.damaged can (at + k) (omega arith)) (ok k h)
 
 -- and a put into them is not refused as damaged
 pub IsReady-unspoilt : (s : State) (at n : ℕ) (refusal : Option Bad) → IsReady s at n refusal → IsTrue s.told → AreUnspoilt s at n → NeverDamaged refusal
@@ -252,16 +255,3 @@ module _ (was mid : State) (at : ℕ) (xs ys : List ℕ) (new : ℕ → Cell) (s
         (let mid_blank = HasPut-blank mid (at + length xs) ys new second x (omega (arith, same_size)) blank in
         first.joined x y h i mid_blank (second.joined x y (omega (arith, same_size)) (omega (arith, same_size)) blank same));
   }
-
--- a put of nothing changes nothing
-softens_none : (s : State) (at x : ℕ) (cell : Cell) → SoftensFrom s at 0 x cell cell
-softens_none s at x (Byte value) = refl
-softens_none s at x (Blank part level block) = record { met = λ (k, within, same). absurd (omega (arith, within)); unmet = λ _. inl refl }
-softens_none s at x (Spoilt part level block) = refl
-
-pub HasPut-none : (s : State) (at : ℕ) → HasPut s at [] s.cells
-HasPut-none s at = record {
-  written = λ x k below within same. absurd (omega (arith, within));
-  others = λ x below apart. softens_none s at x (s.cells x);
-  joined = λ x y in_x in_y blank same. same;
-}

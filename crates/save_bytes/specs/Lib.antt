@@ -9,5 +9,6 @@ pub mod Stays
 pub mod Puts
 pub mod Spots
 pub mod Reads
+pub mod Writes
 pub mod Memory
 pub mod MemoryLaws

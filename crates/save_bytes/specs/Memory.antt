@@ -4,7 +4,7 @@ use Rattle.std.specs.Borrow.{MutBor}
 use Rattle.save_bytes.specs.declared.memory.MemSpace.{MemSpace}
 use Rattle.save_bytes.specs.Cells.{Byte}
 use Rattle.save_bytes.specs.State.{Shape, State}
-use Rattle.save_bytes.specs.Spots.{Spot, Place, Sector, Frame}
+use Rattle.save_bytes.specs.Spots.{Spot, Place}
 
 -- so many places, with damage spreading in blocks of one length, the last one cut
 abbrev pub memory_shape : ℕ → ℕ → Shape
@@ -44,11 +44,10 @@ pub record SameMemory (old new : MemSpace) : Type 0 where
   pub same_size : length new.bytes.now ≡ length old.bytes.now
   pub same_block : new.block ≡ old.block
 
--- a place was left alone where its byte is as before; a memory has no sectors
+-- a place was left alone where its byte is as before; a memory has neither sectors nor marks
 abbrev pub SameSpot : Spot → MemSpace → MemSpace → Type 0
 SameSpot (Place at) old new = slice_index new.bytes.now at ≡ slice_index old.bytes.now at
-SameSpot (Sector number) old new = Unit {0}
-SameSpot Frame old new = Unit {0}
+SameSpot other old new = Unit {0}
 
 abbrev pub MemoryKeeps : Spot → MemSpace → MemSpace → Type 0
 MemoryKeeps spot old new = SameMemory old new × SameSpot spot old new
@@ -56,5 +55,4 @@ MemoryKeeps spot old new = SameMemory old new × SameSpot spot old new
 -- a put touches its own places
 abbrev pub MemoryLands : ℕ → Spot → Type 0
 MemoryLands x (Place at) = x ≡ at
-MemoryLands x (Sector number) = ⊥
-MemoryLands x Frame = ⊥
+MemoryLands x other = ⊥

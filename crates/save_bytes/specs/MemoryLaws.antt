@@ -5,7 +5,7 @@ use Rattle.std.proofs.Math.Nat.{div-mul-le_self, lt-div-mul-add}
 use Rattle.std.proofs.lemmas.Nat.{div-mul-add}
 use Rattle.save_bytes.specs.declared.memory.MemSpace.{MemSpace}
 use Rattle.save_bytes.specs.Blocks.{HasBlocks}
-use Rattle.save_bytes.specs.Spots.{Spot, Place, Sector, Frame}
+use Rattle.save_bytes.specs.Spots.{Spot, Place}
 use Rattle.save_bytes.specs.Memory.{memory_shape, memory_state, SameMemory, SameSpot, MemoryKeeps}
 
 pub memory_size_fits : (s : MemSpace) → IsTrue (memory_state s).shape.sound → length s.bytes.now < 2 ^ 64
@@ -13,16 +13,14 @@ memory_size_fits s sound = search (rules, tests)
 
 SameSpot-same : (spot : Spot) (s : MemSpace) → SameSpot spot s s
 SameSpot-same (Place at) s = refl
-SameSpot-same (Sector number) s = tt
-SameSpot-same Frame s = tt
+SameSpot-same other s = tt
 
 pub MemoryKeeps-same : (spot : Spot) (s : MemSpace) → MemoryKeeps spot s s
 MemoryKeeps-same spot s = (record { same_reference = refl; same_size = refl; same_block = refl }, SameSpot-same spot s)
 
 SameSpot-join : (spot : Spot) (s t u : MemSpace) → SameSpot spot s t → SameSpot spot t u → SameSpot spot s u
 SameSpot-join (Place at) s t u h k = k ∙ h
-SameSpot-join (Sector number) s t u h k = tt
-SameSpot-join Frame s t u h k = tt
+SameSpot-join other s t u h k = tt
 
 pub MemoryKeeps-join : (spot : Spot) (s t u : MemSpace) → MemoryKeeps spot s t → MemoryKeeps spot t u → MemoryKeeps spot s u
 MemoryKeeps-join spot s t u h k = (

@@ -2,7 +2,7 @@
 use Rattle.std.specs.Prelude.{◌≡◌, ◌≢◌, ◌⊎◌, ℕ, ◌+◌, ◌<◌, IsTrue, List, length, slice_index, Option}
 use Rattle.save_bytes.specs.declared.space.Bad.{Bad}
 use Rattle.save_bytes.specs.Cells.{Cell, Byte, Blank, Spoilt, IsBlank}
-use Rattle.save_bytes.specs.State.{State}
+use Rattle.save_bytes.specs.State.{State, CanPut}
 use Rattle.save_bytes.specs.Refusals.{IfDone, IfDamaged}
 use Rattle.save_bytes.specs.Stays.{SameSpace, SameCells}
 
@@ -40,8 +40,8 @@ pub record HasPut (was : State) (at : ℕ) (bytes : List ℕ) (new : ℕ → Cel
   pub others : (x : ℕ) → x < was.shape.size → ((k : ℕ) → k < length bytes → was.bottom x ≢ was.bottom (at + k)) → Softens was at (length bytes) x (new x)
   pub joined : (x y : ℕ) → x < was.shape.size → y < was.shape.size → IsBlank (new x) → new x ≡ new y → was.cells x ≡ was.cells y
 
--- a call that puts bytes at a place; where it is refused for a damaged cell, no cell changed
+-- A call that puts bytes at a place, where it may be made there. Refused for a damaged cell it changed no cell.
 pub record Puts (old : State) (at : ℕ) (bytes : List ℕ) (new : State) (refusal : Option Bad) : Type 0 where
-  pub space : SameSpace old new refusal
-  pub done : IsTrue old.told → IfDone refusal (HasPut old at bytes new.cells)
-  pub damaged : IsTrue old.told → IfDamaged refusal (λ part level block. SameCells old new)
+  pub space : SameSpace (CanPut old at (length bytes)) old new refusal
+  pub done : CanPut old at (length bytes) → IfDone refusal (HasPut old at bytes new.cells)
+  pub damaged : CanPut old at (length bytes) → IfDamaged refusal (λ part level block. SameCells old new)

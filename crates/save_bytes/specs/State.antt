@@ -21,7 +21,7 @@ pub record Shape : Type 0 where
 -- what a contract sees of a space at one moment
 pub record State : Type 0 where
   pub shape : Shape
-  -- the next three mean something: only a call that answers `Disk` may end it
+  -- the next three mean something: only a call that answers `Disk` may end it, or a put that is not made as it should
   pub told : Bool
   pub cells : ℕ → Cell
   -- each place's place at the bottom: two places that have the same one are twins
@@ -36,12 +36,17 @@ pub record IsInside (shape : Shape) (at n : ℕ) : Type 0 where
   pub sound : IsTrue shape.sound
   pub inside : at + n ≤ shape.size
 
--- the n places from a place on may be written: where the cells are told, no two are twins and none is fixed
-pub record IsWritable (s : State) (at n : ℕ) : Type 0 where
-  pub inside : IsInside s.shape at n
-  pub behind_first : s.shape.first ≤ at
-  pub apart : IsTrue s.told → (j k : ℕ) → j < n → k < n → s.bottom (at + j) ≡ s.bottom (at + k) → j ≡ k
-  pub free : IsTrue s.told → (k : ℕ) → k < n → s.is_fixed (at + k) ≡ false
+-- the n places from a place on lie in a sound space, behind its first place for writing
+pub record IsWritable (shape : Shape) (at n : ℕ) : Type 0 where
+  pub inside : IsInside shape at n
+  pub behind_first : shape.first ≤ at
+
+-- A put into the n places from a place on keeps its promises: the cells are told, no two of the places are twins, and
+-- none is fixed. It may be made elsewhere too, and then comes to nothing that is known.
+pub record CanPut (s : State) (at n : ℕ) : Type 0 where
+  pub told : IsTrue s.told
+  pub apart : (j k : ℕ) → j < n → k < n → s.bottom (at + j) ≡ s.bottom (at + k) → j ≡ k
+  pub free : (k : ℕ) → k < n → s.is_fixed (at + k) ≡ false
 
 -- no two places are twins, and none is fixed
 pub record HasNoTwins (s : State) : Type 0 where

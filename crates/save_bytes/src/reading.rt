@@ -7,8 +7,7 @@ ghost use Rattle.save_bytes.specs.CellNumbers.{number_in};
 ghost use Rattle.save_bytes.specs.State.{IsInside};
 ghost use Rattle.save_bytes.specs.Refusals.{IfDamaged, NeverDamaged};
 ghost use Rattle.save_bytes.specs.Answers.{IsRead};
-ghost use Rattle.save_bytes.specs.Stays.{Stays};
-ghost use Rattle.save_bytes.specs.Spots.{Unmoved};
+ghost use Rattle.save_bytes.specs.Reads.{Reads};
 
 use crate::fields::{u32_at, u64_at};
 use crate::space::{Bad, Space};
@@ -19,8 +18,7 @@ pub fn space_copy<S: Space>(space: &mut S, at: u64, out: &mut [u8]) -> Result<()
     requires { IsInside (S.state space.old).shape at (length out.old) }
     ensures read { IsRead (S.state space.old) at (length out.old) (result_err result) }
     ensures bytes { IsTrue (S.state space.old).told → OnOk result (AreBytesAt (S.state space.old).cells at out.new) }
-    ensures stays { Stays (S.state space.old) (S.state space.new) (result_err result) }
-    ensures unmoved { Unmoved S.keeps S.lands (S.state space.old) space.old space.new (result_err result) }
+    ensures reads { Reads S.state S.keeps S.lands space.old space.new (result_err result) }
 {
     let mut done = 0;
     while done < out.len() {
@@ -34,8 +32,7 @@ pub fn space_u32<S: Space>(space: &mut S, at: u64) -> Result<u32, Bad>
     requires { IsInside (S.state space.old).shape at 4 }
     ensures read { IsRead (S.state space.old) at 4 (result_err result) }
     ensures number { IsTrue (S.state space.old).told → IfOk result (λ n. n ≡ number_in 4 (S.state space.old).cells at) }
-    ensures stays { Stays (S.state space.old) (S.state space.new) (result_err result) }
-    ensures unmoved { Unmoved S.keeps S.lands (S.state space.old) space.old space.new (result_err result) }
+    ensures reads { Reads S.state S.keeps S.lands space.old space.new (result_err result) }
 {
     let mut field = [0; 4];
     space_copy(space, at, &mut field)?;
@@ -47,8 +44,7 @@ pub fn space_u64<S: Space>(space: &mut S, at: u64) -> Result<u64, Bad>
     requires { IsInside (S.state space.old).shape at 8 }
     ensures read { IsRead (S.state space.old) at 8 (result_err result) }
     ensures number { IsTrue (S.state space.old).told → IfOk result (λ n. n ≡ number_in 8 (S.state space.old).cells at) }
-    ensures stays { Stays (S.state space.old) (S.state space.new) (result_err result) }
-    ensures unmoved { Unmoved S.keeps S.lands (S.state space.old) space.old space.new (result_err result) }
+    ensures reads { Reads S.state S.keeps S.lands space.old space.new (result_err result) }
 {
     let mut field = [0; 8];
     space_copy(space, at, &mut field)?;
@@ -64,8 +60,7 @@ fn copy_piece<S: Space>(space: &mut S, at: u64, out: &mut [u8]) -> Result<usize,
     ensures rest { IfOk result (λ n. drop n out.new ≡ drop n out.old) }
     ensures damaged { IsTrue (S.state space.old).told → IfDamaged (result_err result) (Blames ((S.state space.old).cells at)) }
     ensures plain { IsTrue (S.state space.old).shape.plain → NeverDamaged (result_err result) }
-    ensures stays { Stays (S.state space.old) (S.state space.new) (result_err result) }
-    ensures unmoved { Unmoved S.keeps S.lands (S.state space.old) space.old space.new (result_err result) }
+    ensures reads { Reads S.state S.keeps S.lands space.old space.new (result_err result) }
 {
     let piece = space.piece(at, out.len())?;
     let n = piece.len();

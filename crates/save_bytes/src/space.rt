@@ -5,12 +5,14 @@ ghost use Rattle.std.specs.Borrow.{sem};
 ghost use Rattle.std.specs.Io.BufRead.{Rests};
 ghost use Rattle.std.specs.Result.{result_err};
 ghost use Rattle.save_bytes.specs.Cells.{IsByte};
-ghost use Rattle.save_bytes.specs.State.{State, IsInside, IsWritable, HasNoTwins};
+ghost use Rattle.save_bytes.specs.State.{State, IsInside, IsWritable, CanPut, HasNoTwins};
 ghost use Rattle.save_bytes.specs.Blocks.{IsGround, HasBlocks, HasAlikeBlocks};
+ghost use Rattle.save_bytes.specs.Refusals.{NeverDamaged};
 ghost use Rattle.save_bytes.specs.Answers.{IsPiece, IsReady, IsClearReady};
-ghost use Rattle.save_bytes.specs.Stays.{Stays, SameCells, SameTwins};
+ghost use Rattle.save_bytes.specs.Stays.{SameCells, SameTwins};
 ghost use Rattle.save_bytes.specs.Puts.{Puts};
-ghost use Rattle.save_bytes.specs.Spots.{Spot, Frame, Unmoved, MovesOnly};
+ghost use Rattle.save_bytes.specs.Reads.{Reads};
+ghost use Rattle.save_bytes.specs.Spots.{Spot, Frame, Hold, MovesOnly};
 
 /// Why a call of a space is refused.
 #[derive(Clone, Copy, Debug, PartialEq, Eq)]
@@ -26,10 +28,10 @@ pub trait Space {
     // What contracts see of the space.
     ghost state: { Self → State };
 
-    // From the one value to the other this spot of the bottom was left alone.
+    // From the one value to the other this spot was left alone.
     ghost keeps: { Spot → Self → Self → Type 0 };
 
-    // A put whose range has this place may touch this spot of the bottom.
+    // A put whose range has this place may touch this spot.
     ghost lands: { Self → ℕ → Spot → Type 0 };
 
     /// How many places there are. It never changes.
@@ -42,22 +44,20 @@ pub trait Space {
         requires inside { IsInside (state self.old).shape at 1 }
         requires some { 1 ≤ most }
         ensures piece { IsPiece (state self.old) at most result }
-        ensures* after { sem 𝓛 (Rests Self.row self.entry (λ new.
-            Stays (state self.old) (state new) (result_err result)
-            × Unmoved keeps lands (state self.old) self.old new (result_err result))) };
+        ensures* after { sem 𝓛 (Rests Self.row self.entry (λ new. Reads state keeps lands self.old new (result_err result))) };
 
     /// Whether the `n` places from `at` on may be written: `Damaged` comes exactly where a cell of them is spoilt,
     /// and names the first. No cell changes.
     fn ready(&mut self, at: u64, n: u64) -> Result<(), Bad>
         requires { IsInside (state self.old).shape at n }
         ensures ready { IsReady (state self.old) at n (result_err result) }
-        ensures stays { Stays (state self.old) (state self.new) (result_err result) }
-        ensures unmoved { Unmoved keeps lands (state self.old) self.old self.new (result_err result) };
+        ensures reads { Reads state keeps lands self.old self.new (result_err result) };
 
     /// Puts bytes at `at`. It is refused as `ready` is, and then changes nothing.
     fn put(&mut self, at: u64, bytes: &[u8]) -> Result<(), Bad>
-        requires { IsWritable (state self.old) at (length bytes.now) }
-        ensures ready { IsReady (state self.old) at (length bytes.now) (result_err result) }
+        requires { IsWritable (state self.old).shape at (length bytes.now) }
+        ensures ready { CanPut (state self.old) at (length bytes.now) → IsReady (state self.old) at (length bytes.now) (result_err result) }
+        ensures plain { IsTrue (state self.old).shape.plain → NeverDamaged (result_err result) }
         ensures puts { Puts (state self.old) at bytes.now (state self.new) (result_err result) }
         ensures moves { MovesOnly keeps lands (state self.old) self.old at (length bytes.now) self.new (result_err result) };
 
@@ -71,7 +71,9 @@ pub trait Space {
 
     ghost keeps_join: { (spot : Spot) (s t u : Self) → keeps spot s t → keeps spot t u → keeps spot s u };
 
-    ghost keeps_shape: { (s t : Self) → keeps Frame s t → (state t).shape ≡ (state s).shape };
+    ghost keeps_hold: { (s t : Self) → keeps Frame s t → keeps Hold s t };
+
+    ghost keeps_shape: { (s t : Self) → keeps Hold s t → (state t).shape ≡ (state s).shape };
 
     ghost keeps_cells: { (s t : Self) → IsTrue (state s).shape.sound → IsFalse (state s).shape.doubled → IsTrue (state s).told → IsTrue (state t).told
         → ((spot : Spot) → keeps spot s t) → SameCells (state s) (state t) × SameTwins (state s) (state t) };
@@ -90,8 +92,7 @@ pub trait Floor: Space {
     fn clear_ready(&mut self, at: u64) -> Result<(), Bad>
         requires { IsInside (Self.state self.old).shape at 1 }
         ensures ready { IsClearReady (Self.state self.old) at (result_err result) }
-        ensures stays { Stays (Self.state self.old) (Self.state self.new) (result_err result) }
-        ensures unmoved { Unmoved Self.keeps Self.lands (Self.state self.old) self.old self.new (result_err result) };
+        ensures reads { Reads Self.state Self.keeps Self.lands self.old self.new (result_err result) };
 
     /// Makes each byte of the block of `at` zero. It is refused as `clear_ready` is, and then changes nothing.
     fn clear(&mut self, at: u64) -> Result<(), Bad>

@@ -4,11 +4,11 @@ ghost use Rattle.std.specs.Result.{result_err};
 ghost use Rattle.save_bytes.specs.Cells.{Byte};
 ghost use Rattle.save_bytes.specs.Refusals.{NeverDamaged};
 ghost use Rattle.save_bytes.specs.Answers.{IsReady, IsClearReady};
-ghost use Rattle.save_bytes.specs.State.{IsInside, IsWritable};
-ghost use Rattle.save_bytes.specs.Stays.{Stays};
+ghost use Rattle.save_bytes.specs.State.{IsInside, IsWritable, CanPut};
+ghost use Rattle.save_bytes.specs.Reads.{Reads};
 ghost use Rattle.save_bytes.specs.Puts.{Puts};
 ghost use Rattle.save_bytes.specs.Memory.{memory_state};
-ghost use Rattle.save_bytes.specs.Spots.{Spot, Frame, Misses, Unmoved};
+ghost use Rattle.save_bytes.specs.Spots.{Spot, Mark, Hold, Misses};
 
 use super::*;
 use std::test::Fail;
@@ -69,6 +69,8 @@ impl<S: Space> Space for Narrow<'_, S> {
 
     ghost keeps_join = { λ spot s t u h k. (k.0 ∙ h.0, S.keeps_join spot s.base.now t.base.now u.base.now h.1 k.1) };
 
+    ghost keeps_hold = { λ s t h. (h.0, S.keeps_hold s.base.now t.base.now h.1) };
+
     ghost keeps_shape = { λ s t h. S.keeps_shape s.base.now t.base.now h.1 };
 
     ghost keeps_cells = { λ s t sound single told still kept. S.keeps_cells s.base.now t.base.now sound single told still (λ spot. (kept spot).1) };
@@ -99,8 +101,7 @@ fn read_two<S: Space>(space: &mut S, at: u64, other: u64) -> Result<(u8, u8), Ba
     requires second { IsInside (S.state space.old).shape other 1 }
     ensures bytes { IsTrue (S.state space.old).told → IfOk result
         (λ two. ((S.state space.old).cells at ≡ Byte two.0) × ((S.state space.old).cells other ≡ Byte two.1)) }
-    ensures stays { Stays (S.state space.old) (S.state space.new) (result_err result) }
-    ensures unmoved { Unmoved S.keeps S.lands (S.state space.old) space.old space.new (result_err result) }
+    ensures reads { Reads S.state S.keeps S.lands space.old space.new (result_err result) }
 {
     let first = read_one(space, at)?;
     let second = read_one(space, other)?;
@@ -110,8 +111,7 @@ fn read_two<S: Space>(space: &mut S, at: u64, other: u64) -> Result<(u8, u8), Ba
 fn read_one<S: Space>(space: &mut S, at: u64) -> Result<u8, Bad>
     requires { IsInside (S.state space.old).shape at 1 }
     ensures byte { IsTrue (S.state space.old).told → IfOk result (λ byte. (S.state space.old).cells at ≡ Byte byte) }
-    ensures stays { Stays (S.state space.old) (S.state space.new) (result_err result) }
-    ensures unmoved { Unmoved S.keeps S.lands (S.state space.old) space.old space.new (result_err result) }
+    ensures reads { Reads S.state S.keeps S.lands space.old space.new (result_err result) }
 {
     let piece = space.piece(at, 1)?;
     Ok(piece[0])
@@ -119,11 +119,11 @@ fn read_one<S: Space>(space: &mut S, at: u64) -> Result<u8, Bad>
 
 // What was put is read again, and no other spot was touched.
 fn put_and_read<S: Space>(space: &mut S, at: u64, bytes: [u8; 2]) -> Result<(u8, u8), Bad>
-    requires { IsWritable (S.state space.old) at 2 }
-    ensures read_back { IsTrue (S.state space.old).told → IfOk result
+    requires { IsWritable (S.state space.old).shape at 2 }
+    ensures read_back { CanPut (S.state space.old) at 2 → IfOk result
         (λ two. (two.0 ≡ slice_index bytes 0) × (two.1 ≡ slice_index bytes 1)) }
-    ensures frame { S.keeps Frame space.old space.new }
-    ensures spots { IsTrue (S.state space.old).told → (spot : Spot)
+    ensures hold { S.keeps Hold space.old space.new }
+    ensures spots { CanPut (S.state space.old) at 2 → (spot : Spot)
         → Misses (S.lands space.old) at 2 spot → S.keeps spot space.old space.new }
 {
     space.put(at, &bytes)?;
@@ -134,7 +134,7 @@ fn put_and_read<S: Space>(space: &mut S, at: u64, bytes: [u8; 2]) -> Result<(u8,
 fn clear_and_read<F: Floor>(space: &mut F, at: u64) -> Result<u8, Bad>
     requires { IsInside (F.state space.old).shape at 1 }
     ensures zero { IsTrue (F.state space.old).told → IfOk result (λ byte. byte ≡ 0) }
-    ensures frame { F.keeps Frame space.old space.new }
+    ensures hold { F.keeps Hold space.old space.new }
 {
     space.clear(at)?;
     read_one(space, at)
@@ -145,8 +145,7 @@ fn clearable_block<F: Floor>(space: &mut F, at: u64) -> Result<(u64, u64), Bad>
     requires { IsInside (F.state space.old).shape at 1 }
     ensures block { IfOk result (λ block. (block.0 ≡ (F.state space.old).shape.block_start at) × (block.1 ≡ (F.state space.old).shape.block_len at)) }
     ensures ready { IsClearReady (F.state space.old) at (result_err result) }
-    ensures stays { Stays (F.state space.old) (F.state space.new) (result_err result) }
-    ensures unmoved { Unmoved F.keeps F.lands (F.state space.old) space.old space.new (result_err result) }
+    ensures reads { Reads F.state F.keeps F.lands space.old space.new (result_err result) }
 {
     let block = space.block_of(at);
     match space.clear_ready(at) {
@@ -167,19 +166,25 @@ fn size_of_space<S: Space>(space: &S) -> u64
 fn put_on_floor<F: Floor>(space: &mut F, at: u64, bytes: &[u8]) -> Result<(), Bad>
     requires { IsInside (F.state space.old).shape at (length bytes.now) }
     ensures puts { Puts (F.state space.old) at bytes.now (F.state space.new) (result_err result) }
-    ensures frame { F.keeps Frame space.old space.new }
+    ensures hold { F.keeps Hold space.old space.new }
 {
     space.put(at, bytes)
 }
 
-// Where `ready` told that two ranges may be written, neither put is refused as damaged.
+// Where `ready` told that two ranges may be written, neither put is refused as damaged. A spot that neither range touches
+// was left alone, a mark among them.
 fn put_twice<S: Space>(space: &mut S, at: u64, other: u64, bytes: [u8; 2]) -> Result<(), Bad>
-    requires first { IsWritable (S.state space.old) at 2 }
-    requires second { IsWritable (S.state space.old) other 2 }
+    requires first { IsWritable (S.state space.old).shape at 2 }
+    requires second { IsWritable (S.state space.old).shape other 2 }
     requires first_ready { IsReady (S.state space.old) at 2 None }
     requires second_ready { IsReady (S.state space.old) other 2 None }
-    ensures never { IsTrue (S.state space.old).told → NeverDamaged (result_err result) }
-    ensures frame { S.keeps Frame space.old space.new }
+    ensures never { CanPut (S.state space.old) at 2 → CanPut (S.state space.old) other 2 → NeverDamaged (result_err result) }
+    ensures hold { S.keeps Hold space.old space.new }
+    ensures spots { CanPut (S.state space.old) at 2 → CanPut (S.state space.old) other 2 → (spot : Spot)
+        → Misses (S.lands space.old) at 2 spot → Misses (S.lands space.old) other 2 spot → S.keeps spot space.old space.new }
+    ensures marks { CanPut (S.state space.old) at 2 → CanPut (S.state space.old) other 2 → (part level block : ℕ)
+        → Misses (S.lands space.old) at 2 (Mark part level block) → Misses (S.lands space.old) other 2 (Mark part level block)
+        → S.keeps (Mark part level block) space.old space.new }
 {
     space.put(other, &bytes)?;
     space.put(at, &bytes)

@@ -1,15 +1,13 @@
 use Rattle.std.proofs.Common.{◌-◌, ◌≤◌, IsTrue, None, length, take}
 use Rattle.save_bytes.specs.Cells.{AreBytesAt}
-use Rattle.save_bytes.specs.Stays.{Stays}
-use Rattle.save_bytes.specs.Spots.{Unmoved}
+use Rattle.save_bytes.specs.Reads.{Reads}
 use Rattle.save_bytes.proofs.reading.space_copy.Given as goal
 
 abbrev pub invariant-loop-done : goal.invariant-loop-done
 invariant-loop-done g l = record {
   within : l.done ≤ length l.out;
   bytes : IsTrue (g.S.Space.state l.initial.space).told → AreBytesAt (g.S.Space.state l.initial.space).cells l.at (take l.done l.out);
-  stays : Stays (g.S.Space.state l.initial.space) (g.S.Space.state l.space) None;
-  unmoved : Unmoved g.S.Space.keeps g.S.Space.lands (g.S.Space.state l.initial.space) l.initial.space l.space None;
+  reads : Reads g.S.Space.state g.S.Space.keeps g.S.Space.lands l.initial.space l.space None;
 }
 
 abbrev pub decreases-loop-done : goal.decreases-loop-done
