@@ -149,7 +149,7 @@ module _ (base mid : State) (part : ℕ) (master : List ℕ) (difi : Difi) (stat
     some = h.some;
     bounded = omega (arith, h.bounded, verified.bounded);
     inside = omega (arith, h.bounded, verified.inside);
-    bytes = λ told k below. piece_cell k _ (omega (arith, below, h.bounded)) told (h.bytes (subst IsTrue (sym stays.space.told) told) k below);
+    bytes = λ told k below. piece_cell k _ (omega (arith, below, h.bounded)) told (h.bytes (stays.space.told told) k below);
     damaged = λ told. tt;
     plain = λ plain. tt;
   }

@@ -303,9 +303,13 @@ impl Space for Silent<'_> {
 
     ghost keeps_join = { λ spot s t u h k. k ∙ h };
 
+    ghost keeps_hold = { λ s t kept. kept };
+
     ghost keeps_shape = { λ s t kept. ap (λ n. memory_shape n 4096) kept };
 
     ghost keeps_cells = { λ s t sound single told. absurd (false≢true told) };
+
+    ghost keeps_lands = { λ s t sound single told. absurd (false≢true told) };
 
     fn len(&self) -> u64 {
         self.bytes.len() as u64

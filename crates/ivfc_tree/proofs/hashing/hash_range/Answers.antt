@@ -27,6 +27,6 @@ loop-done-preserved g c =
       hashed = λ told. hashed_more old.cells mid.cells c.args.at done n c.args.hasher.now c.loop-done.hasher c.hash_piece.new.hasher
           (bytes_in-same mid.cells old.cells (c.args.at + done) (c.args.at + done) n (λ k h. before.reads.stays.cells told (c.args.at + done + k) (omega (arith, h, piece.count, c.requires.inside.inside))))
           (before.hashed told)
-          (piece.hashed (subst IsTrue (sym before.reads.stays.space.told) told));
+          (piece.hashed (before.reads.stays.space.told told));
       reads = Reads-join space.state space.keeps space.lands g.met.S.Space.keeps_join c.args.base.now c.loop-done.base c.hash_piece.new.base None before.reads piece.reads;
     }

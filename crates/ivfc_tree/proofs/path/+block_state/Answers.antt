@@ -28,7 +28,7 @@ returns-in-Holds-clause-state g t c = λ told.
     let above = sym c.in-Holds.is ∙ c.in-Ok.ensures.state told in
     let step = step-holds old.cells c.args.master.now c.args.difi.now c.args.state.now c.args.level c.args.block c.requires.there.in_tree.0 (sym c.is_marked.ensures ∙ c.if-is_marked.false) (rw c.parent_of-above.ensures at above) in
     let same = judged-same old.shape c.args.difi.now c.requires.tree.levels mid.cells old.cells (stays.cells told) c.args.master.now c.args.level c.args.block c.requires.there.in_tree in
-    IfOk-map c.judge-in-Holds.result (λ found is. is ∙ same ∙ step) (c.judge-in-Holds.ensures.state (subst IsTrue (sym stays.space.told) told))
+    IfOk-map c.judge-in-Holds.result (λ found is. is ∙ same ∙ step) (c.judge-in-Holds.ensures.state (stays.space.told told))
 
 pub returns-in-Holds-clause-reads : goal.returns-in-Holds-clause-reads
 returns-in-Holds-clause-reads g t c =

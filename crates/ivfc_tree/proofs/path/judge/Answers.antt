@@ -16,7 +16,7 @@ returns-then-eq-2-clause-state g c = λ told.
     let mid = g.S.Space.state c.entry_of.new.base in
     let stays = c.in-Ok.ensures.reads.stays in
     let block = block-same old.shape c.args.difi.now c.requires.tree.levels mid.cells old.cells (stays.cells told) c.args.level c.args.block c.requires.there.in_tree in
-    let digest = c.in-Ok-block_digest.ensures.digest (subst IsTrue (sym stays.space.told) told) ∙ ap sha256 block in
+    let digest = c.in-Ok-block_digest.ensures.digest (stays.space.told told) ∙ ap sha256 block in
     rw (← c.in-Ok.ensures.entry told, ← digest) (judged_good c.args.level c.args.block c.in-Ok.entry c.in-Ok-block_digest.digest (sym c.eq.ensures ∙ c.if-eq.false) (sym c.eq-2.ensures ∙ c.if-eq-2.true))
 
 pub returns-then-eq-2-clause-reads : goal.returns-then-eq-2-clause-reads
@@ -30,7 +30,7 @@ returns-else-eq-2-clause-state g c = λ told.
     let mid = g.S.Space.state c.entry_of.new.base in
     let stays = c.in-Ok.ensures.reads.stays in
     let block = block-same old.shape c.args.difi.now c.requires.tree.levels mid.cells old.cells (stays.cells told) c.args.level c.args.block c.requires.there.in_tree in
-    let digest = c.in-Ok-block_digest.ensures.digest (subst IsTrue (sym stays.space.told) told) ∙ ap sha256 block in
+    let digest = c.in-Ok-block_digest.ensures.digest (stays.space.told told) ∙ ap sha256 block in
     rw (← c.in-Ok.ensures.entry told, ← digest) (judged_bad c.args.level c.args.block c.in-Ok.entry c.in-Ok-block_digest.digest (sym c.eq.ensures ∙ c.if-eq.false) (sym c.eq-2.ensures ∙ c.if-eq-2.false))
 
 pub returns-else-eq-2-clause-reads : goal.returns-else-eq-2-clause-reads

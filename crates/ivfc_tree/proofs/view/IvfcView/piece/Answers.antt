@@ -33,13 +33,12 @@ returns g c =
     let mid = c.verify.new.self in
     let base = space.state view.base.now in
     let last = c.piece.follows.lender-at-none in
-    let after = c.piece.follows.holds-at-none in
     let refusal = result_err c.piece.result in
     let tree = view_tree base.shape view.difi.now (length view.master.now) view.state.now (g.met.S.Space.size_fits view.base.now) c.requires.inside.sound in
     let there : c.level_of.result ≡ level_of view.difi.now 4 = c.level_of.ensures ∙ ap (λ (difi : Bor Difi). level_of difi.now 4) c.in-Ok.ensures.same.same_difi in
     let first = c.in-Ok.ensures in
     let same = first.same in
-    let reads = Reads-join space.state space.keeps space.lands g.met.S.Space.keeps_join view.base.now mid.base.now last refusal first.reads (record { stays = after.0; unmoved = after.1 }) in (
+    let reads = Reads-join space.state space.keeps space.lands g.met.S.Space.keeps_join view.base.now mid.base.now last refusal first.reads c.piece.follows.holds-at-none in (
       (
         refl,
         λ _. tt,
