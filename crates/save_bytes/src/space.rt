@@ -12,7 +12,7 @@ ghost use Rattle.save_bytes.specs.Answers.{IsPiece, IsReady, IsClearReady};
 ghost use Rattle.save_bytes.specs.Stays.{SameCells, SameTwins};
 ghost use Rattle.save_bytes.specs.Puts.{Puts};
 ghost use Rattle.save_bytes.specs.Reads.{Reads};
-ghost use Rattle.save_bytes.specs.Spots.{Spot, Frame, Hold, MovesOnly};
+ghost use Rattle.save_bytes.specs.Spots.{Spot, Frame, Hold, LandsAsBefore, MovesOnly};
 
 /// Why a call of a space is refused.
 #[derive(Clone, Copy, Debug, PartialEq, Eq)]
@@ -77,6 +77,9 @@ pub trait Space {
 
     ghost keeps_cells: { (s t : Self) → IsTrue (state s).shape.sound → IsFalse (state s).shape.doubled → IsTrue (state s).told → IsTrue (state t).told
         → ((spot : Spot) → keeps spot s t) → SameCells (state s) (state t) × SameTwins (state s) (state t) };
+
+    ghost keeps_lands: { (s t : Self) → IsTrue (state s).shape.sound → IsFalse (state s).shape.doubled → IsTrue (state s).told → IsTrue (state t).told
+        → ((spot : Spot) → keeps spot s t) → LandsAsBefore (state s).shape.size (lands s) (lands t) };
 }
 
 /// A space whose damage spreads in blocks that can be cleared.

@@ -75,6 +75,8 @@ impl<S: Space> Space for Narrow<'_, S> {
 
     ghost keeps_cells = { λ s t sound single told still kept. S.keeps_cells s.base.now t.base.now sound single told still (λ spot. (kept spot).1) };
 
+    ghost keeps_lands = { λ s t sound single told still kept. S.keeps_lands s.base.now t.base.now sound single told still (λ spot. (kept spot).1) };
+
     fn len(&self) -> u64 {
         self.base.len()
     }
