@@ -3,27 +3,10 @@ use Rattle.std.proofs.Common.{◌≡◌, ℕ, ◌+◌, ◌-◌, ◌<◌, ◌≤�
 use Rattle.std.proofs.lemmas.List.{places}
 use Rattle.std.specs.Borrow.{Bor}
 use Rattle.save_bytes.specs.Cells.{Byte}
-use Rattle.save_bytes.specs.State.{State}
 use Rattle.save_bytes.specs.Answers.{IsPiece}
-use Rattle.save_bytes.specs.Stays.{Stays}
-use Rattle.save_bytes.specs.Spots.{Frame, Unmoved}
 use Rattle.save_disk.specs.State as disks
 use Rattle.page_image.specs.declared.state.ImageState.{ImageState}
-use Rattle.page_image.specs.declared.image.Image.{Image}
 use Rattle.page_image.specs.Images.{IsHeldPiece, image_state}
-use Rattle.page_image.specs.Spots.{ImageLands}
-use Rattle.page_image.specs.Held.{shown, ImageKeeps}
-use Rattle.page_image.specs.Laws.{ImageKeeps-same}
-
--- what is as it was
-pub stays_same : (s : State) → Stays s s None
-stays_same s = record {
-  space = record { shape = refl; faults = omega arith; cause = tt; told = refl; twins = λ told. record { bottom = λ x h. refl; is_fixed = λ x h. refl } };
-  cells = λ told x below. refl;
-}
-
-pub image_unmoved : {D : Type 0} (states : D → disks.State) (s : Image D) → Unmoved (ImageKeeps states) (λ view. ImageLands view.image.now.grain) (shown states s) s s None
-image_unmoved states s = record { frame = ImageKeeps-same states Frame s; spots = λ told spot. ImageKeeps-same states spot s; reach = λ told x below spot lands. lands }
 
 range_byte : (xs : List ℕ) (at n k : ℕ) → at + n ≤ length xs → k < n → get_or (slice_range xs at (at + n)) k 0 ≡ get_or xs (at + k) 0
 range_byte xs at n k fits within = grind (arith, places)

@@ -6,9 +6,10 @@ use Rattle.std.proofs.lemmas.Bool.{cases_lt}
 use Rattle.save_bytes.specs.Cells.{Byte}
 use Rattle.save_bytes.specs.State.{Shape}
 use Rattle.save_bytes.specs.Puts.{HasPut, Puts}
-use Rattle.save_bytes.specs.Spots.{Spot, Place, Sector, Frame, Misses, MovesOnly}
+use Rattle.save_bytes.specs.Spots.{Spot, Place, Sector, Hold, Misses, MovesOnly}
 use Rattle.save_bytes.specs.Memory.{bytes_state}
 use Rattle.save_bytes.proofs.MemoryLemmas.{bytes_put}
+use Rattle.save_bytes.proofs.SpaceLemmas.{can_put}
 use Rattle.save_disk.specs.State as disks
 use Rattle.save_disk.proofs.Growth.{WritesOnly-quiet}
 use Rattle.save_disk.proofs.Telling.{steady_start}
@@ -38,7 +39,7 @@ module _ (d : disks.State) (i j : ImageState) (at : ℕ) (piece : List ℕ) (put
   puts = bytes_put i.bytes.items at piece j.bytes.items (record { fits = omega (arith, fits, i.layout.covers); is = put.bytes }) 1
 
   in_bytes : HasPut (bytes_state i.bytes.items 1) at piece (bytes_state j.bytes.items 1).cells
-  in_bytes = puts.done refl
+  in_bytes = puts.done (can_put (bytes_state i.bytes.items 1) at (length piece) (record { apart = λ x y same. same; free = λ x. refl }) refl)
 
   outside : (x : ℕ) → ((k : ℕ) → k < length piece → x ≢ at + k) → byte_of j x ≡ byte_of i x
   outside x apart =
@@ -55,7 +56,7 @@ module _ (d : disks.State) (i j : ImageState) (at : ℕ) (piece : List ℕ) (put
       shape = rw (put.len, put.grain) refl;
       faults = omega arith;
       cause = tt;
-      told = refl;
+      told = λ may. may.told;
       twins = λ told. record { bottom = λ x h. refl; is_fixed = λ x h. refl };
     };
     done = λ told. record {
@@ -89,13 +90,13 @@ module _ (d : disks.State) (i j : ImageState) (at : ℕ) (piece : List ℕ) (put
   pub put_leaves : (spot : Spot) → Misses (ImageLands i.grain) at (length piece) spot → Leaves spot d i d j
   put_leaves (Place x) misses = (same_image, (outside x (λ k within same. misses k within (sym same)), WritesOnly-quiet (HoldsAt i.grain x (byte_of i x)) d d refl))
   put_leaves (Sector number) misses = (same_image, λ clean. (put.marks.others number misses ∙ clean, WritesOnly-quiet (λ sector bytes. sector ≢ number) d d refl, SureAsBefore-same number d))
-  put_leaves Frame misses = (same_image, tt)
+  put_leaves other misses = (same_image, tt)
 
 module _ {D : Type 0} (states : D → disks.State) where
   -- no spot outside the range was touched
   pub image_moved : (s t : Image D) (at : ℕ) (piece : List ℕ) → SameView s t → states t.disk.now ≡ states s.disk.now → IsPut at piece s.image.now t.image.now → at + length piece ≤ s.image.now.len → MovesOnly (ImageKeeps states) (λ view. ImageLands view.image.now.grain) (shown states s) s at (length piece) t None
   image_moved s t at piece same untouched put fits = record {
-    frame = (same, rw untouched (put_leaves (states s.disk.now) s.image.now t.image.now at piece put fits Frame (λ k within lands. lands)));
+    hold = (same, rw untouched (put_leaves (states s.disk.now) s.image.now t.image.now at piece put fits Hold (λ k within lands. lands)));
     spots = λ told spot misses. (same, rw untouched (put_leaves (states s.disk.now) s.image.now t.image.now at piece put fits spot misses));
     damaged = λ told. tt;
     reach = λ told x below spot lands. rw put.grain at lands;

@@ -4,7 +4,7 @@ use Rattle.std.specs.Bool.{⊤}
 use Rattle.std.proofs.lemmas.List.{append-nil}
 use Rattle.std.proofs.lemmas.Nat.{div-add-mod', div-mul-add, mod_below}
 use Rattle.std.proofs.lemmas.Bool.{cases_lt, cases_eq, eq-eqb}
-use Rattle.save_bytes.specs.Spots.{Spot, Place, Sector, Frame}
+use Rattle.save_bytes.specs.Spots.{Spot, Place, Sector}
 use Rattle.save_disk.specs.Trace.{Event, Write, Told, with_sector, image_now}
 use Rattle.save_disk.specs.State as disks
 use Rattle.save_disk.specs.Writes.{OnlyWrites, GrewBy, writes_to, WritesTo}
@@ -100,7 +100,7 @@ module _ (i : ImageState) (n : ℕ) (bytes : List ℕ) (own : IsOwnWrite i n byt
       left_spot : (spot : Spot) → SameSpot spot d i e j
       left_spot (Place x) = (same x, grow (OnlyWrites (HoldsAt i.grain x (byte_of i x))) tt (λ from below. own_byte x from below, tt))
       left_spot (Sector number) = λ clean. (let apart = other_sector number clean in (others number apart ∙ clean, grow (OnlyWrites (λ sector written. sector ≢ number)) tt (λ is. apart (sym is), tt), sure number apart))
-      left_spot Frame = tt
+      left_spot other = tt
 
   -- the sector was written
   pub leaves_written : (d e : disks.State) (j : ImageState) → disks.IsSound d → IsDiskOf d i → n * i.grain < i.len → disks.IsSteady d e → disks.Happens (Write n bytes) d e → j.len ≡ i.len → j.grain ≡ i.grain → ((x : ℕ) → byte_of j x ≡ byte_of i x) → ((sector : ℕ) → sector ≢ n → is_changed j sector ≡ is_changed i sector) → (spot : Spot) → Leaves spot d i e j

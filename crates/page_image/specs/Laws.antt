@@ -1,7 +1,7 @@
 -- The laws of a space, of an image.
 use Rattle.std.specs.Prelude.{◌≡◌, ◌≢◌, ◌⊎◌, ℕ, ◌^◌, ◌<◌, Bool, true, false, Option, Some, None, MatchOption, refl, ⊤}
 use Rattle.std.proofs.Common.{◌∙◌, arith, inl, inr, ⊎_elim}
-use Rattle.save_bytes.specs.Spots.{Spot, Place, Sector, Frame}
+use Rattle.save_bytes.specs.Spots.{Spot, Place, Sector}
 use Rattle.save_disk.specs.Trace.{Told}
 use Rattle.save_disk.specs.State as disks
 use Rattle.save_disk.specs.Writes.{WritesOnly}
@@ -41,7 +41,7 @@ module _ (number : ℕ) where
 SameSpot-same : (spot : Spot) (d : disks.State) (image : ImageState) → SameSpot spot d image d image
 SameSpot-same (Place x) d image = (refl, WritesOnly-quiet (HoldsAt image.grain x (byte_of image x)) d d refl)
 SameSpot-same (Sector number) d image = λ clean. (clean, WritesOnly-quiet (λ sector bytes. sector ≢ number) d d refl, SureAsBefore-same number d)
-SameSpot-same Frame d image = tt
+SameSpot-same other d image = tt
 
 pub Leaves-same : (spot : Spot) (d : disks.State) (image : ImageState) → Leaves spot d image d image
 Leaves-same spot d image = (SameImage-same d image, SameSpot-same spot d image)
@@ -76,7 +76,7 @@ module _ (d e f : disks.State) (i j k : ImageState) where
       let first = h clean in
       let second = g first.0 in
       (second.0, WritesOnly-join (λ sector bytes. sector ≢ number) d e f first.1 second.1, SureAsBefore-join number d e f first.2 second.2)
-  SameSpot-join Frame grain h g = tt
+  SameSpot-join other grain h g = tt
 
   pub Leaves-join : (spot : Spot) → Leaves spot d i e j → Leaves spot e j f k → Leaves spot d i f k
   Leaves-join spot h g = (SameImage-join h.0 g.0, SameSpot-join spot h.0.grain h.1 g.1)

@@ -1,6 +1,6 @@
 -- Which bytes and sectors of the disk a call on an image leaves alone.
 use Rattle.std.specs.Prelude.{◌≡◌, ◌≢◌, ℕ, ◌-◌, ◌+◌, ◌*◌, ◌/◌, ◌<◌, ◌≤◌, true, false, List, slice_index, ⊤}
-use Rattle.save_bytes.specs.Spots.{Spot, Place, Sector, Frame}
+use Rattle.save_bytes.specs.Spots.{Spot, Place, Sector}
 use Rattle.save_disk.specs.State as disks
 use Rattle.save_disk.specs.Writes.{WritesOnly, WritesTo}
 use Rattle.page_image.specs.declared.state.ImageState.{ImageState}
@@ -31,7 +31,7 @@ SameSpot (Place x) disk image disk_new image_new =
     (byte_of image_new x ≡ byte_of image x) × WritesOnly (HoldsAt image.grain x (byte_of image x)) disk disk_new
 SameSpot (Sector number) disk image disk_new image_new =
     is_changed image number ≡ false → (is_changed image_new number ≡ false) × WritesOnly (λ sector bytes. sector ≢ number) disk disk_new × SureAsBefore number disk disk_new
-SameSpot Frame disk image disk_new image_new = ⊤
+SameSpot other disk image disk_new image_new = ⊤
 
 abbrev pub Leaves : Spot → disks.State → ImageState → disks.State → ImageState → Type 0
 Leaves spot disk image disk_new image_new = SameImage disk image disk_new image_new × SameSpot spot disk image disk_new image_new
@@ -40,4 +40,4 @@ Leaves spot disk image disk_new image_new = SameImage disk image disk_new image_
 abbrev pub ImageLands : ℕ → ℕ → Spot → Type 0
 ImageLands grain x (Place at) = x ≡ at
 ImageLands grain x (Sector number) = x / grain ≡ number
-ImageLands grain x Frame = ⊥
+ImageLands grain x other = ⊥

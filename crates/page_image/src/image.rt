@@ -2,10 +2,11 @@
 
 ghost use Rattle.std.specs.Prelude.{refl, ◌≡◌, ℕ, true, length, IsTrue, OnOk, OnErr};
 ghost use Rattle.std.specs.Result.{result_err};
-ghost use Rattle.std.proofs.Common.{ap};
+ghost use Rattle.std.proofs.Common.{ap, subst};
 ghost use Rattle.save_bytes.specs.Cells.{Byte, AreBytesAt};
-ghost use Rattle.save_bytes.specs.State.{IsWritable};
+ghost use Rattle.save_bytes.specs.State.{IsWritable, CanPut};
 ghost use Rattle.save_bytes.specs.Answers.{IsReady};
+ghost use Rattle.save_bytes.specs.Refusals.{NeverDamaged};
 ghost use Rattle.save_bytes.specs.Stays.{SameCells};
 ghost use Rattle.save_bytes.specs.Puts.{Puts};
 ghost use Rattle.save_bytes.specs.Spots.{Spot, Place, Frame, MovesOnly};
@@ -108,6 +109,10 @@ impl<D: Disk> Space for Image<'_, D> {
 
     ghost keeps_cells = { λ s t sound single told still kept. (λ x inside. ap Byte (kept (Place x)).1.1.0, record { bottom = λ x inside. refl; is_fixed = λ x inside. refl }) };
 
+    ghost keeps_lands = { λ s t sound single told still kept x below spot. subst (λ (grain : ℕ). ImageLands grain x spot) (kept Frame).1.0.grain };
+
+    ghost keeps_hold = { λ s t kept. kept };
+
     ghost keeps_shape = { λ s t kept. SameImage-shape (D.state s.disk.now) (D.state t.disk.now) s.image.now t.image.now kept.1.0 };
 
     fn len(&self) -> u64 {
@@ -124,8 +129,9 @@ impl<D: Disk> Space for Image<'_, D> {
 
     // The trait's clauses, and that what was put comes to the disk with the next flush, whatever its value.
     fn put(&mut self, at: u64, bytes: &[u8]) -> Result<(), Bad>
-        requires { IsWritable (shown D.state self.old) at (length bytes.now) }
-        ensures ready { IsReady (shown D.state self.old) at (length bytes.now) (result_err result) }
+        requires { IsWritable (shown D.state self.old).shape at (length bytes.now) }
+        ensures ready { CanPut (shown D.state self.old) at (length bytes.now) → IsReady (shown D.state self.old) at (length bytes.now) (result_err result) }
+        ensures plain { IsTrue (shown D.state self.old).shape.plain → NeverDamaged (result_err result) }
         ensures puts { Puts (shown D.state self.old) at bytes.now (shown D.state self.new) (result_err result) }
         ensures moves { MovesOnly (ImageKeeps D.state) (λ view. ImageLands view.image.now.grain) (shown D.state self.old) self.old at (length bytes.now) self.new (result_err result) }
         ensures pending { OnOk result (IsPending at (length bytes.now) (D.state self.old.disk.now) (D.state self.new.disk.now) self.new.image.now) }

@@ -1,9 +1,9 @@
 ghost use Rattle.std.specs.Prelude.{◌≡◌, ℕ, ◌+◌, ◌<◌, ◌≤◌, length, slice_index, IsTrue, IfOk, OnOk, Some};
 ghost use Rattle.std.specs.Result.{result_err};
 ghost use Rattle.save_bytes.specs.Cells.{Byte};
-ghost use Rattle.save_bytes.specs.State.{IsInside, IsWritable};
-ghost use Rattle.save_bytes.specs.Stays.{Stays};
-ghost use Rattle.save_bytes.specs.Spots.{Spot, Frame, Misses, Unmoved};
+ghost use Rattle.save_bytes.specs.State.{IsInside, IsWritable, CanPut};
+ghost use Rattle.save_bytes.specs.Reads.{Reads};
+ghost use Rattle.save_bytes.specs.Spots.{Spot, Hold, Misses};
 ghost use Rattle.save_disk.specs.MemDesks.{state_of};
 ghost use Rattle.save_disk.specs.Trace.{Told, image_now};
 ghost use Rattle.page_image.specs.Images.{IsDiskOf, Mirrors};
@@ -275,8 +275,7 @@ fn a_sync_is_passed_on(rt: HostRuntime) -> Result<(), Fail> {
 fn read_one<S: Space>(space: &mut S, at: u64) -> Result<u8, Bad>
     requires { IsInside (S.state space.old).shape at 1 }
     ensures byte { IsTrue (S.state space.old).told → IfOk result (λ byte. (S.state space.old).cells at ≡ Byte byte) }
-    ensures stays { Stays (S.state space.old) (S.state space.new) (result_err result) }
-    ensures unmoved { Unmoved S.keeps S.lands (S.state space.old) space.old space.new (result_err result) }
+    ensures reads { Reads S.state S.keeps S.lands space.old space.new (result_err result) }
 {
     let piece = space.piece(at, 1)?;
     Ok(piece[0])
@@ -284,10 +283,10 @@ fn read_one<S: Space>(space: &mut S, at: u64) -> Result<u8, Bad>
 
 // What was put is read again, and no other spot was touched.
 fn put_and_read<S: Space>(space: &mut S, at: u64, bytes: [u8; 1]) -> Result<u8, Bad>
-    requires { IsWritable (S.state space.old) at 1 }
-    ensures read_back { IsTrue (S.state space.old).told → IfOk result (λ byte. byte ≡ slice_index bytes 0) }
-    ensures frame { S.keeps Frame space.old space.new }
-    ensures spots { IsTrue (S.state space.old).told → (spot : Spot)
+    requires { IsWritable (S.state space.old).shape at 1 }
+    ensures read_back { CanPut (S.state space.old) at 1 → IfOk result (λ byte. byte ≡ slice_index bytes 0) }
+    ensures hold { S.keeps Hold space.old space.new }
+    ensures spots { CanPut (S.state space.old) at 1 → (spot : Spot)
         → Misses (S.lands space.old) at 1 spot → S.keeps spot space.old space.new }
 {
     space.put(at, &bytes)?;
@@ -311,7 +310,7 @@ fn a_generic_call_acts_on_an_image(rt: HostRuntime) -> Result<(), Fail> {
 
 // After a put and a flush the disk has the byte at its place, where it had each byte that was not changed.
 fn store<D: Disk>(image: &mut Image<'_, D>, at: u64, bytes: [u8; 1]) -> Result<(), Bad>
-    requires { IsWritable (shown D.state image.old) at 1 }
+    requires { IsWritable (shown D.state image.old).shape at 1 }
     ensures { IsTrue (shown D.state image.old).told → Mirrors (D.state image.old.disk.now) image.old.image.now
         → OnOk result ((told : Told) → (D.state image.new.disk.now).told ≡ Some told → slice_index (image_now told) at ≡ slice_index bytes 0) }
 {
