@@ -1,5 +1,5 @@
 -- What a call on an image may write to its disk.
-use Rattle.std.specs.Prelude.{◌≡◌, ℕ, false, List}
+use Rattle.std.specs.Prelude.{◌≡◌, ◌⊎◌, ℕ, ◌<◌, false, List}
 use Rattle.save_bytes.specs.Spots.{Spot, Place, Sector, Misses}
 use Rattle.save_disk.specs.State as disks
 use Rattle.page_image.specs.declared.state.ImageState.{ImageState}
@@ -15,3 +15,11 @@ pub record IsAllowedWrite (image : ImageState) (at n : ℕ) (sector : ℕ) (writ
 -- a call that leaves alone each spot that a put of n bytes at a place misses
 abbrev pub LeavesMissed : ℕ → ℕ → disks.State → ImageState → disks.State → ImageState → Type 0
 LeavesMissed at n disk image disk_new image_new = (spot : Spot) → Misses (ImageLands image.grain) at n spot → Leaves spot disk image disk_new image_new
+
+-- a write that holds the image's byte at each place of its sector
+abbrev pub HoldsAll : ImageState → ℕ → List ℕ → Type 0
+HoldsAll image sector written = (x : ℕ) → x < image.len → HoldsAt image.grain x (byte_of image x) sector written
+
+-- a write of a sector as a call found it, or as the call leaves it
+pub record IsOldOrNew (old new : ImageState) (sector : ℕ) (written : List ℕ) : Type 0 where
+  pub either : HoldsAll old sector written ⊎ HoldsAll new sector written

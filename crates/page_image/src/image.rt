@@ -12,11 +12,13 @@ ghost use Rattle.save_bytes.specs.Puts.{Puts};
 ghost use Rattle.save_bytes.specs.Spots.{Spot, Place, Frame, MovesOnly};
 ghost use Rattle.save_disk.specs.Trace.{Sync};
 ghost use Rattle.save_disk.specs.State.{GoesOn, Happens, IsQuiet, IsSteady, HasCause};
-ghost use Rattle.save_disk.specs.Writes.{GrewBy};
+ghost use Rattle.save_disk.specs.Tells.{tells};
+ghost use Rattle.save_disk.specs.Writes.{GrewBy, WritesOnly};
 ghost use Rattle.page_image.specs.Images.{IsDiskOf, Mirrors, IsStored};
 ghost use Rattle.page_image.specs.Spots.{ImageLands};
 ghost use Rattle.page_image.specs.Held.{shown, IsViewOf, SameView, ImageKeeps};
 ghost use Rattle.page_image.specs.Puts.{IsPending};
+ghost use Rattle.page_image.specs.Allowed.{IsOldOrNew};
 ghost use Rattle.page_image.specs.WriteOuts.{WritesEach, WritesSome, IsClean};
 ghost use Rattle.page_image.specs.Laws.{image_size_fits, ImageKeeps-same, ImageKeeps-join, SameImage-shape};
 
@@ -127,7 +129,8 @@ impl<D: Disk> Space for Image<'_, D> {
         Ok(())
     }
 
-    // The trait's clauses, and that what was put comes to the disk with the next flush, whatever its value.
+    // The trait's clauses, and that what was put comes to the disk with the next flush, whatever its value. A sector
+    // that is written meanwhile has its old bytes or its new ones, all of them, also where the call is refused.
     fn put(&mut self, at: u64, bytes: &[u8]) -> Result<(), Bad>
         requires { IsWritable (shown D.state self.old).shape at (length bytes.now) }
         ensures ready { CanPut (shown D.state self.old) at (length bytes.now) → IsReady (shown D.state self.old) at (length bytes.now) (result_err result) }
@@ -135,6 +138,8 @@ impl<D: Disk> Space for Image<'_, D> {
         ensures puts { Puts (shown D.state self.old) at bytes.now (shown D.state self.new) (result_err result) }
         ensures moves { MovesOnly (ImageKeeps D.state) (λ view. ImageLands view.image.now.grain) (shown D.state self.old) self.old at (length bytes.now) self.new (result_err result) }
         ensures pending { OnOk result (IsPending at (length bytes.now) (D.state self.old.disk.now) (D.state self.new.disk.now) self.new.image.now) }
+        ensures old_or_new { IsTrue (tells (D.state self.old.disk.now))
+            → WritesOnly (IsOldOrNew self.old.image.now self.new.image.now) (D.state self.old.disk.now) (D.state self.new.disk.now) }
     {
         self.image.put(at, bytes);
         Ok(())
