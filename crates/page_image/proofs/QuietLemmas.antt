@@ -3,13 +3,17 @@ use Rattle.std.proofs.Common.{◌≡◌, ◌≢◌, ℕ, List, [], ◌∷◌, �
 use Rattle.std.specs.Bool.{⊤}
 use Rattle.std.proofs.Math.Path.{fun_ext}
 use Rattle.std.proofs.lemmas.List.{append-nil}
-use Rattle.save_bytes.specs.Spots.{Spot, Sector, Frame}
+use Rattle.save_bytes.specs.declared.space.Bad.{Bad}
+use Rattle.save_bytes.specs.Reads.{Reads}
+use Rattle.save_bytes.specs.Spots.{Spot, Sector}
 use Rattle.save_disk.specs.Trace.{Event, Write, Sync, Said, Told}
 use Rattle.save_disk.specs.State as disks
-use Rattle.save_disk.specs.Writes.{OnlyWrites, GrewBy, WritesOnly}
+use Rattle.save_disk.specs.Writes.{OnlyWrites, GrewBy}
 use Rattle.save_disk.proofs.Growth.{WritesOnly-all}
 use Rattle.page_image.specs.declared.state.ImageState.{ImageState}
-use Rattle.page_image.specs.Spots.{SureAsBefore, Leaves}
+use Rattle.page_image.specs.declared.image.Image.{Image}
+use Rattle.page_image.specs.Spots.{Leaves}
+use Rattle.page_image.specs.Held.{shown, ImageKeeps}
 use Rattle.page_image.specs.WriteOuts.{IsClean}
 
 -- a write of no sector
@@ -43,18 +47,27 @@ went_same (Some told) p (next, is, grew) sure =
     some_same : (x y : Told) → Some x ≡ Some y → x ≡ y
     some_same x y same = cc
 
--- a call that wrote no sector and told each read as before
-pub quiet_where_same : (d e : disks.State) → WritesOnly OfNone d e → ((number : ℕ) → SureAsBefore number d e) → disks.IsQuiet d e
-quiet_where_same d e grew sure = went_same d.told e.told grew sure
-
-module _ (disk : disks.State) (image : ImageState) (disk_new : disks.State) (image_new : ImageState) (clean : IsClean image) (leaves : (spot : Spot) → Leaves spot disk image disk_new image_new) where
-  -- a call that leaves alone each spot of an image of which nothing is changed leaves the disk's trace as it is
+module _ (disk : disks.State) (image : ImageState) (disk_new : disks.State) (image_new : ImageState) (clean : IsClean image)
+    (leaves : (number : ℕ) → Leaves (Sector number) disk image disk_new image_new) where
+  -- a call that leaves alone each sector of an image of which nothing is changed leaves the disk's trace as it is
   pub quiet_where_clean : disks.IsQuiet disk disk_new
   quiet_where_clean =
-      quiet_where_same disk disk_new
-      (WritesOnly-all (λ (number sector : ℕ) (bytes : List ℕ). sector ≢ number) (λ sector bytes. ⊤) disk disk_new (leaves Frame).0.writes (λ number. ((leaves (Sector number)).1 (clean number)).1))
-      (λ number. ((leaves (Sector number)).1 (clean number)).2)
+      went_same disk.told disk_new.told
+      (WritesOnly-all (λ (number sector : ℕ) (bytes : List ℕ). sector ≢ number) (λ sector bytes. ⊤) disk disk_new
+      (leaves 0).0.writes (λ number. ((leaves number).1 (clean number)).1))
+      (λ number. ((leaves number).1 (clean number)).2)
 
-  -- such a call changes nothing of the image
+  -- and changes nothing of the image
   pub clean_where_clean : IsClean image_new
-  clean_where_clean = λ number. ((leaves (Sector number)).1 (clean number)).0
+  clean_where_clean = λ number. ((leaves number).1 (clean number)).0
+
+module _ {D : Type 0} (states : D → disks.State) (lands : Image D → ℕ → Spot → Type 0) (s t : Image D) (refusal : Option Bad)
+    (reads : Reads (shown states) (ImageKeeps states) lands s t refusal) (clean : IsClean s.image.now) where
+  -- so does a call that reads, on every disk
+  pub quiet_reads : disks.IsQuiet (states s.disk.now) (states t.disk.now)
+  quiet_reads =
+      quiet_where_clean (states s.disk.now) s.image.now (states t.disk.now) t.image.now clean (λ number. (reads.sectors number).1)
+
+  pub clean_reads : IsClean t.image.now
+  clean_reads =
+      clean_where_clean (states s.disk.now) s.image.now (states t.disk.now) t.image.now clean (λ number. (reads.sectors number).1)

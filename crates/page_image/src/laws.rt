@@ -1,7 +1,7 @@
 //! What the calls on an image write, as laws over the spots that they leave alone.
 
 ghost use Rattle.std.specs.Prelude.{ℕ};
-ghost use Rattle.save_bytes.specs.Spots.{Spot};
+ghost use Rattle.save_bytes.specs.Spots.{Sector};
 ghost use Rattle.save_disk.specs.State.{State, IsQuiet};
 ghost use Rattle.save_disk.specs.Writes.{WritesOnly};
 ghost use Rattle.page_image.specs.declared.state.ImageState.{ImageState};
@@ -16,11 +16,13 @@ pub fn writes_of_calls()
         → WritesOnly (IsAllowedWrite image at n) disk disk_new }
 {}
 
-/// Where nothing of an image is changed, a call that leaves alone each spot leaves the disk's trace as it is, with all
-/// that it tells of reads, and nothing of the image is changed then.
+/// Where nothing of an image is changed, a call that leaves alone each sector leaves the disk's trace as it is, with all
+/// that it tells of reads, and nothing of the image is changed then. It is so on every disk, whatever it tells.
 pub fn quiet_calls()
-    ensures quiet { (disk disk_new : State) (image image_new : ImageState) → IsClean image → ((spot : Spot) → Leaves spot disk image disk_new image_new)
+    ensures quiet { (disk disk_new : State) (image image_new : ImageState) → IsClean image
+        → ((number : ℕ) → Leaves (Sector number) disk image disk_new image_new)
         → IsQuiet disk disk_new }
-    ensures clean { (disk disk_new : State) (image image_new : ImageState) → IsClean image → ((spot : Spot) → Leaves spot disk image disk_new image_new)
+    ensures clean { (disk disk_new : State) (image image_new : ImageState) → IsClean image
+        → ((number : ℕ) → Leaves (Sector number) disk image disk_new image_new)
         → IsClean image_new }
 {}

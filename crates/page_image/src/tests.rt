@@ -5,9 +5,11 @@ ghost use Rattle.save_bytes.specs.State.{IsInside, IsWritable, CanPut};
 ghost use Rattle.save_bytes.specs.Reads.{Reads};
 ghost use Rattle.save_bytes.specs.Spots.{Spot, Hold, Misses};
 ghost use Rattle.save_disk.specs.MemDesks.{state_of};
+ghost use Rattle.save_disk.specs.State.{IsQuiet};
 ghost use Rattle.save_disk.specs.Trace.{Told, image_now};
 ghost use Rattle.page_image.specs.Images.{IsDiskOf, Mirrors};
 ghost use Rattle.page_image.specs.Held.{shown};
+ghost use Rattle.page_image.specs.WriteOuts.{IsClean};
 
 use super::*;
 use save_bytes::{Bad, Space};
@@ -291,6 +293,46 @@ fn put_and_read<S: Space>(space: &mut S, at: u64, bytes: [u8; 1]) -> Result<u8, 
 {
     space.put(at, &bytes)?;
     read_one(space, at)
+}
+
+// A reading call adds nothing to the trace of a disk of whose image nothing is changed, whatever the disk tells.
+fn read_quietly<D: Disk>(image: &mut Image<'_, D>, at: u64) -> Result<u8, Bad>
+    requires { IsInside (shown D.state image.old).shape at 1 }
+    ensures quiet { IsClean image.old.image.now → IsQuiet (D.state image.old.disk.now) (D.state image.new.disk.now) }
+    ensures clean { IsClean image.old.image.now → IsClean image.new.image.now }
+{
+    image.ready(at, 1)?;
+    read_one(image, at)
+}
+
+/// The byte at a place, as a reading call gives it; of one past the end nothing is asked.
+fn read(desk: &mut MemDesk, state: &mut ImageState, at: u64) -> Result<u8, Bad>
+    requires { IsDiskOf (state_of desk.old) state.old }
+{
+    let mut image = state.view(desk);
+    if image.len() <= at {
+        return Err(Bad::Disk);
+    }
+    read_quietly(&mut image, at)
+}
+
+#[test]
+fn reading_calls_write_nothing(rt: HostRuntime) -> Result<(), Fail> {
+    for is_wide in [false, true] {
+        for (at, want) in [(0u64, 0u8), (511, 9), (512, 255), (1299, 44)] {
+            let mut desk = desk_with(rt.alloc(), 1300, is_wide)?;
+            let mut state = ImageState::open(rt.alloc(), &mut desk, 1300)?;
+            desk.fail(Call::Write, 1);
+            put(&mut desk, &mut state, 512, &[255]);
+            assert!(rt; flush(&mut desk, &mut state).is_err());
+            assert_eq!(rt; read(&mut desk, &mut state, at)?, want, "at {at}");
+            assert_eq!(rt;
+                (count(&desk, Call::Write), count(&desk, Call::Sync)),
+                (1, 0)
+            );
+        }
+    }
+    Ok(())
 }
 
 #[test]
