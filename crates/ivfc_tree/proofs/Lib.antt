@@ -2,6 +2,5 @@ pub mod LevelLemmas
 pub mod HashLemmas
 pub mod PathLemmas
 pub mod StateLemmas
-pub mod SameLemmas
 pub mod StepLemmas
 pub mod ViewLemmas

@@ -11,7 +11,7 @@ use Rattle.ivfc_tree.specs.declared.path.BlockState.TheVariants.{Holds, NeverWri
 use Rattle.ivfc_tree.specs.declared.state.IvfcState.{IvfcState}
 use Rattle.ivfc_tree.specs.Levels.{padded_block, hash_entry, zero_entry, parent_of}
 use Rattle.ivfc_tree.specs.Marks.{HasNoMarks}
-use Rattle.ivfc_tree.specs.Paths.{block_above, IsHashed, HasHashPath, FailsFirst, IsStateOf, judged, after, path_state, block_state}
+use Rattle.ivfc_tree.specs.Paths.{block_above, IsHashed, HasHashPath, FailsFirst, IsStateOf, judged, after, marked_state, path_state, block_state}
 
 record Same (xs ys : List ℕ) : Type 0 where
   same : xs ≡ ys
@@ -89,19 +89,18 @@ module _ (cells : ℕ → Cell) (master : List ℕ) (difi : Difi) where
   after_state level block (NeverWritten upper at) own fails next = (fails_more level block upper at fails.0, fails.1)
   after_state level block (Fails upper at) own fails next = (fails_more level block upper at fails.0, fails.1)
 
-  -- what a path comes to is what the definition of a path says
-  pub path_is : (level block : ℕ) → IsStateOf cells master difi level block (path_state cells master difi level block)
-  unfolding path_state
-  path_is zero block = λ upper some within. absurd (omega (arith, some, within))
-  path_is (suc level) block =
-      after_state level block (path_state cells master difi level (parent_of difi level block)) _ (path_is level (parent_of difi level block)) (judged_state level block)
+  -- where none is marked, what a path comes to is what the definition of a path says
+  pub state_is : (marked : ℕ → ℕ → Bool) → ((level block : ℕ) → marked level block ≡ false) → (level block : ℕ)
+      → IsStateOf cells master difi level block (marked_state cells master difi marked level block)
+  unfolding marked_state
+  state_is marked none zero block = λ upper some within. absurd (omega (arith, some, within))
+  state_is marked none (suc level) block =
+      let above = parent_of difi level block in
+      rw (none (suc level) block)
+      (after_state level block (marked_state cells master difi marked level above) _ (state_is marked none level above) (judged_state level block))
 
   -- where nothing was put, the state of a block is what its path comes to
   pub unmarked_state : (state : IvfcState) → HasNoMarks state → (level block : ℕ) → block_state cells master difi state level block ≡ path_state cells master difi level block
-  unfolding block_state path_state
+  unfolding marked_state
   unmarked_state state unmarked zero block = refl
   unmarked_state state unmarked (suc level) block = rw (unmarked (suc level) block, unmarked_state state unmarked level (parent_of difi level block)) refl
-
-  -- the state of a block where nothing was put
-  pub state_is : (state : IvfcState) → HasNoMarks state → (level block : ℕ) → IsStateOf cells master difi level block (block_state cells master difi state level block)
-  state_is state unmarked level block = rw (unmarked_state state unmarked level block) (path_is level block)

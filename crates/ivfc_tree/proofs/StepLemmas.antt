@@ -9,7 +9,7 @@ use Rattle.ivfc_tree.specs.declared.path.BlockState.TheVariants.{Holds, NeverWri
 use Rattle.ivfc_tree.specs.declared.state.IvfcState.{IvfcState}
 use Rattle.ivfc_tree.specs.Levels.{padded_block, hash_entry, zero_entry, parent_of}
 use Rattle.ivfc_tree.specs.Marks.{is_marked}
-use Rattle.ivfc_tree.specs.Paths.{judged, after, block_state}
+use Rattle.ivfc_tree.specs.Paths.{judged, after, marked_state, block_state}
 
 -- what the tests on an entry tell
 pub judged_good : (level block : ℕ) (entry digest : List ℕ) → bytes_eq entry zero_entry ≡ false → bytes_eq entry digest ≡ true → Holds ≡ judged level block entry digest
@@ -24,18 +24,18 @@ module _ (cells : ℕ → Cell) (master : List ℕ) (difi : Difi) (state : IvfcS
   own level block = judged level block (hash_entry cells master difi level block) (sha256 (padded_block cells difi level block))
 
   pub step-marked : (level block : ℕ) → 1 ≤ level → is_marked state level block ≡ true → Holds ≡ block_state cells master difi state level block
-  unfolding block_state
+  unfolding marked_state
   step-marked zero block some marked = absurd (omega (arith, some))
   step-marked (suc level) block some marked = rw marked refl
 
   pub step-first : (level block : ℕ) → level ≡ 1 → is_marked state level block ≡ false → own level block ≡ block_state cells master difi state level block
-  unfolding block_state
+  unfolding marked_state
   step-first zero block first marked = absurd (omega (arith, first))
   step-first (suc zero) block first marked = rw marked refl
   step-first (suc (suc level)) block first marked = absurd (omega (arith, first))
 
   pub step-holds : (level block : ℕ) → 1 ≤ level → is_marked state level block ≡ false → Holds ≡ block_state cells master difi state (level - 1) (parent_of difi (level - 1) block) → own level block ≡ block_state cells master difi state level block
-  unfolding block_state
+  unfolding marked_state
   step-holds zero block some marked above = absurd (omega (arith, some))
   step-holds (suc level) block some marked above =
       let one : suc level - 1 ≡ level = omega arith in
@@ -48,7 +48,7 @@ module _ (cells : ℕ → Cell) (master : List ℕ) (difi : Difi) (state : IvfcS
   after-fault found (Fails upper at) own is fault = is
 
   pub step-fault : (level block : ℕ) (found : BlockState) → 1 ≤ level → is_marked state level block ≡ false → found ≡ block_state cells master difi state (level - 1) (parent_of difi (level - 1) block) → found ≢ Holds → found ≡ block_state cells master difi state level block
-  unfolding block_state
+  unfolding marked_state
   step-fault zero block found some marked is fault = absurd (omega (arith, some))
   step-fault (suc level) block found some marked is fault =
       let one : suc level - 1 ≡ level = omega arith in

@@ -1,5 +1,5 @@
 -- A view as a space.
-use Rattle.std.proofs.Common.{◌≡◌, ℕ, ◌+◌, ◌-◌, ◌*◌, ◌/◌, ◌%◌, ◌<◌, ◌≤◌, min, IsTrue, List, length, Option, Some, None, Result, Ok, Err, refl, sym, ◌∙◌, ap, subst, arith}
+use Rattle.std.proofs.Common.{◌≡◌, ℕ, ◌+◌, ◌-◌, ◌*◌, ◌/◌, ◌%◌, ◌<◌, ◌≤◌, min, IsTrue, List, length, Option, None, Result, Ok, Err, refl, sym, ◌∙◌, ap, subst, arith}
 use Rattle.std.proofs.lemmas.Nat.{pow_pos, div-add-mod', div-mul-add, mod_below}
 use Rattle.std.specs.Borrow.{Bor}
 use Rattle.save_bytes.specs.declared.space.Bad.{Bad}
@@ -8,51 +8,73 @@ use Rattle.save_bytes.specs.Cells.{Byte, IsByte}
 use Rattle.save_bytes.specs.CellNumbers.{value_of}
 use Rattle.save_bytes.specs.State.{Shape, State, IsInside}
 use Rattle.save_bytes.specs.Answers.{IsPiece}
-use Rattle.save_bytes.specs.Stays.{SameCells, Stays}
-use Rattle.save_bytes.proofs.SpaceLemmas.{UnlessDisk-map}
+use Rattle.save_bytes.specs.Stays.{Stays}
+use Rattle.save_bytes.specs.Spots.{Spot, Mark, Frame}
+use Rattle.save_bytes.specs.Reads.{Reads}
+use Rattle.save_bytes.proofs.SpaceLemmas.{UnlessDisk-map, UnlessDisk-always}
 use Rattle.difi.specs.declared.descriptor.Difi.{Difi}
 use Rattle.difi.specs.Places.{block_size}
-use Rattle.difi.proofs.PlaceLemmas.{block_below}
 use Rattle.ivfc_tree.specs.declared.path.BlockState.{BlockState}
 use Rattle.ivfc_tree.specs.declared.path.BlockState.TheVariants.{Holds, NeverWritten, Fails}
 use Rattle.ivfc_tree.specs.declared.state.IvfcState.{IvfcState}
-use Rattle.ivfc_tree.specs.Levels.{level_of, HasBlock}
+use Rattle.ivfc_tree.specs.declared.view.IvfcView.{IvfcView}
+use Rattle.ivfc_tree.specs.Levels.{level_of}
 use Rattle.ivfc_tree.specs.Paths.{block_state, cell_in}
 use Rattle.ivfc_tree.specs.View.{HasTree, view_state, rest_of, IsVerified}
-use Rattle.ivfc_tree.proofs.LevelLemmas.{level4_size, level4_log}
-use Rattle.ivfc_tree.proofs.SameLemmas.{state-same}
-
--- the block of a byte of level four
-pub block_of_there : (difi : Difi) (x : ℕ) → x < difi.ivfc4.size → HasBlock difi 4 (x / block_size difi.ivfc4)
-block_of_there difi x inside = record {
-  in_tree = (omega arith, omega arith);
-  in_level = rw (level4_size difi, level4_log difi) (block_below x difi.ivfc4.size difi.ivfc4.log inside);
-}
-
--- the place of a byte of level four lies in the base
-pub place_inside : (base : Shape) (difi : Difi) (master_len x : ℕ) → HasTree base difi master_len → x < difi.ivfc4.size → (level_of difi 4).at + x < base.size
-place_inside base difi master_len x tree inside =
-    let there = tree.levels.inside 4 (omega arith, omega arith) in
-    omega (arith, inside, rw (level4_size difi) at there)
+use Rattle.ivfc_tree.specs.Held.{shown, SameView, SameHold, SameOwn, HashKeeps, hash_lands}
+use Rattle.ivfc_tree.specs.ViewLaws.{view_cells, place_inside}
+use Rattle.ivfc_tree.specs.KeepLaws.{HashLands-before}
 
 -- what stays in the base stays in the view
-pub view_stays : (base new : State) (part : ℕ) (master : List ℕ) (difi : Difi) (state : IvfcState) (refusal : Option Bad) → HasTree base.shape difi (length master) → Stays base new refusal → Stays (view_state base part master difi state) (view_state new part master difi state) refusal
+pub view_stays : (base new : State) (part : ℕ) (master : List ℕ) (difi : Difi) (state : IvfcState) (refusal : Option Bad)
+    → HasTree base.shape difi (length master) → Stays base new refusal
+    → Stays (view_state base part master difi state) (view_state new part master difi state) refusal
 view_stays base new part master difi state refusal tree stays = record {
   space = record {
     shape = ap (λ (shape : Shape). (view_state (record base { shape = shape }) part master difi state).shape) stays.space.shape;
     faults = stays.space.faults;
     cause = stays.space.cause;
     told = stays.space.told;
-    twins = λ told. UnlessDisk-map refusal (λ _. record { bottom = λ x h. refl; is_fixed = λ x h. refl }) (stays.space.twins told);
+    twins = λ told. UnlessDisk-always refusal (record { bottom = λ x h. refl; is_fixed = λ x h. refl });
   };
-  cells = λ told. UnlessDisk-map refusal
-      (λ (same : SameCells base new). λ x inside.
-      rw (state-same base.shape difi master tree new.cells base.cells same state 4 (x / block_size difi.ivfc4) (block_of_there difi x inside), same ((level_of difi 4).at + x) (place_inside base.shape difi (length master) x tree inside)) refl) (stays.cells told);
+  cells = λ told. UnlessDisk-map refusal (view_cells base new part master difi state state tree (λ level block. refl)) (stays.cells told);
 }
 
-pub same_view_stays : (base new : State) (part part_new : ℕ) (master master_new : List ℕ) (difi difi_new : Difi) (state state_new : IvfcState) (refusal : Option Bad) → part_new ≡ part → master_new ≡ master → difi_new ≡ difi → state_new ≡ state → HasTree base.shape difi (length master) → Stays base new refusal → Stays (view_state base part master difi state) (view_state new part_new master_new difi_new state_new) refusal
-same_view_stays base new part part_new master master_new difi difi_new state state_new refusal same_part same_master same_difi same_state tree stays =
-    rw (same_part, same_master, same_difi, same_state) (view_stays base new part master difi state refusal tree stays)
+module _ {S : Type 0} (states : S → State) (keeps : Spot → S → S → Type 0) (lands : S → ℕ → Spot → Type 0) (s t : IvfcView S)
+    (refusal : Option Bad) (same : SameView s t) where
+  same_hold : SameHold s t
+  same_hold = record {
+    same_base = same.same_base;
+    same_part = same.same_part;
+    same_difi = same.same_difi;
+    same_master = same.same_master;
+    master_len = ap length same.master_now;
+    same_state = same.same_state;
+    marks = rw same.state_now (record { marks1 = refl; marks2 = refl; marks3 = refl; marks4 = refl });
+  }
+
+  same_own : (spot : Spot) → SameOwn spot s t
+  same_own (Mark part level block) = λ here. rw same.state_now refl
+  same_own Frame = (λ level block. rw same.state_now refl, same.master_now)
+  same_own spot = tt
+
+  -- a call that reads the base reads the view
+  pub hashed_read : HasTree (states s.base.now).shape s.difi.now (length s.master.now) → Reads states keeps lands s.base.now t.base.now refusal
+      → Reads (shown states) (HashKeeps keeps) (hash_lands lands) s t refusal
+      × Reads states keeps lands s.base.now t.base.now refusal × SameView s t
+  hashed_read tree reads = (
+    record {
+      stays = rw (same.same_part, same.same_difi, same.master_now, same.state_now)
+          (view_stays (states s.base.now) (states t.base.now) s.part s.master.now s.difi.now s.state.now refusal tree reads.stays);
+      frame = (same_hold, same_own Frame, reads.frame);
+      sectors = λ number. (same_hold, tt, reads.sectors number);
+      spots = λ told spot. (same_hold, same_own spot, reads.spots told spot);
+      reach = λ told. rw same.same_difi (UnlessDisk-map refusal
+          (HashLands-before (states s.base.now).shape s.difi.now tree.levels (lands s.base.now) (lands t.base.now)) (reads.reach told));
+    },
+    reads,
+    same,
+  )
 
 -- places up to the end of a block lie in it
 same_block : (at k size : ℕ) → 0 < size → k < size - at % size → (at + k) / size ≡ at / size
@@ -77,12 +99,6 @@ rest_is difi at inside =
     }
 
 module _ (base : State) (part : ℕ) (master : List ℕ) (difi : Difi) (state : IvfcState) (at : ℕ) (inside : at < difi.ivfc4.size) where
-  view : State
-  view = view_state base part master difi state
-
-  found_at : BlockState
-  found_at = block_state base.cells master difi state 4 (at / block_size difi.ivfc4)
-
   -- a good block's cells are bytes
   pub good_cell : Holds ≡ block_state base.cells master difi state 4 (at / block_size difi.ivfc4) → (k : ℕ) → k < rest_of difi at → (view_state base part master difi state).cells (at + k) ≡ Byte (value_of (base.cells ((level_of difi 4).at + (at + k))))
   good_cell good k h = rw ((rest_is difi at inside).block k h, ← good) refl
@@ -156,10 +172,3 @@ module _ (base mid : State) (part : ℕ) (master : List ℕ) (difi : Difi) (stat
   view_piece (Err Disk) h = record { some = tt; bounded = tt; inside = tt; bytes = λ told. tt; damaged = λ told. tt; plain = λ plain. tt }
   view_piece (Err (Damaged part level block)) h =
       absurd (h.plain (subst (λ (shape : Shape). IsTrue shape.plain) (sym stays.space.shape) tree.levels.plain))
-
--- what a call that succeeds keeps, one keeps that is refused for a damaged cell
-pub not_disk : (old new : State) (part level block : ℕ) → Stays old new None → Stays old new (Some (Damaged part level block))
-not_disk old new part level block stays = record {
-  space = record { shape = stays.space.shape; faults = stays.space.faults; cause = tt; told = stays.space.told; twins = stays.space.twins };
-  cells = stays.cells;
-}

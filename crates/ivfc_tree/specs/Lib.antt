@@ -3,3 +3,5 @@ pub mod Marks
 pub mod Paths
 pub mod View
 pub mod Held
+pub mod ViewLaws
+pub mod KeepLaws

@@ -7,7 +7,8 @@ use Rattle.ivfc_tree.specs.declared.state.IvfcState.{IvfcState}
 -- the marks of a level's blocks
 abbrev pub marks_of : IvfcState → ℕ → List Bool
 marks_of state level =
-    if level == 1 then state.put1.items else (if level == 2 then state.put2.items else (if level == 3 then state.put3.items else state.put4.items))
+    if level == 1 then state.put1.items
+    else (if level == 2 then state.put2.items else (if level == 3 then state.put3.items else state.put4.items))
 
 -- a block past the last mark is not marked
 abbrev pub is_marked : IvfcState → ℕ → ℕ → Bool
@@ -23,3 +24,14 @@ pub record IsMadeFor (difi : Difi) (state : IvfcState) : Type 0 where
 -- nothing was put or cleared
 abbrev pub HasNoMarks : IvfcState → Type 0
 HasNoMarks state = (level block : ℕ) → is_marked state level block ≡ false
+
+-- the same blocks were put or cleared
+abbrev pub SameMarks : IvfcState → IvfcState → Type 0
+SameMarks old new = (level block : ℕ) → is_marked new level block ≡ is_marked old level block
+
+-- as many marks of each level
+pub record AsManyMarks (old new : IvfcState) : Type 0 where
+  pub marks1 : length new.put1.items ≡ length old.put1.items
+  pub marks2 : length new.put2.items ≡ length old.put2.items
+  pub marks3 : length new.put3.items ≡ length old.put3.items
+  pub marks4 : length new.put4.items ≡ length old.put4.items

@@ -1,8 +1,9 @@
 -- Hash paths: a block is good where it, and each block above it up to the master hash, has the digest that its entry says.
-use Rattle.std.specs.Prelude.{◌≡◌, ◌≢◌, ℕ, zero, suc, ◌<◌, ◌≤◌, ◌==◌, bytes_eq, List, if◌then◌else◌}
+use Rattle.std.specs.Prelude.{◌≡◌, ◌≢◌, ℕ, zero, suc, ◌/◌, ◌<◌, ◌≤◌, Bool, false, ◌==◌, bytes_eq, List, if◌then◌else◌}
 use Rattle.sha2.specs.Sha256.{sha256}
 use Rattle.save_bytes.specs.Cells.{Cell, Byte, Blank, Spoilt}
 use Rattle.difi.specs.declared.descriptor.Difi.{Difi}
+use Rattle.difi.specs.Places.{block_size}
 use Rattle.ivfc_tree.specs.declared.path.BlockState.{BlockState}
 use Rattle.ivfc_tree.specs.declared.path.BlockState.TheVariants.{Holds, NeverWritten, Fails}
 use Rattle.ivfc_tree.specs.declared.state.IvfcState.{IvfcState}
@@ -13,6 +14,10 @@ use Rattle.ivfc_tree.specs.Marks.{is_marked}
 unfoldable pub block_above : Difi → ℕ → ℕ → ℕ → ℕ
 block_above difi zero block upper = block
 block_above difi (suc level) block upper = if upper == suc level then block else block_above difi level (parent_of difi level block) upper
+
+-- the block of a level on the path of byte x of level four
+abbrev pub path_block : Difi → ℕ → ℕ → ℕ
+path_block difi x level = block_above difi 4 (x / block_size difi.ivfc4) level
 
 -- a block's entry is that of a written block, and is the block's digest
 pub record IsHashed (cells : ℕ → Cell) (master : List ℕ) (difi : Difi) (level block : ℕ) : Type 0 where
@@ -51,20 +56,21 @@ after Holds own = own
 after (NeverWritten level block) own = NeverWritten level block
 after (Fails level block) own = Fails level block
 
--- the same as a value
-unfoldable pub path_state : (ℕ → Cell) → List ℕ → Difi → ℕ → ℕ → BlockState
-path_state cells master difi zero block = Holds
-path_state cells master difi (suc level) block =
-    after (path_state cells master difi level (parent_of difi level block))
+-- the same as a value, where blocks that are marked count as good
+unfoldable pub marked_state : (ℕ → Cell) → List ℕ → Difi → (ℕ → ℕ → Bool) → ℕ → ℕ → BlockState
+marked_state cells master difi marked zero block = Holds
+marked_state cells master difi marked (suc level) block =
+    if marked (suc level) block then Holds
+    else after (marked_state cells master difi marked level (parent_of difi level block))
     (judged (suc level) block (hash_entry cells master difi (suc level) block) (sha256 (padded_block cells difi (suc level) block)))
 
--- and where blocks that were put or cleared count as good
-unfoldable pub block_state : (ℕ → Cell) → List ℕ → Difi → IvfcState → ℕ → ℕ → BlockState
-block_state cells master difi state zero block = Holds
-block_state cells master difi state (suc level) block =
-    if is_marked state (suc level) block then Holds
-    else after (block_state cells master difi state level (parent_of difi level block))
-    (judged (suc level) block (hash_entry cells master difi (suc level) block) (sha256 (padded_block cells difi (suc level) block)))
+-- where none is
+abbrev pub path_state : (ℕ → Cell) → List ℕ → Difi → ℕ → ℕ → BlockState
+path_state cells master difi = marked_state cells master difi (λ level block. false)
+
+-- and where those are that were put or cleared
+abbrev pub block_state : (ℕ → Cell) → List ℕ → Difi → IvfcState → ℕ → ℕ → BlockState
+block_state cells master difi state = marked_state cells master difi (is_marked state)
 
 -- the cell of a byte of a part, by the state of its block
 abbrev pub cell_in : BlockState → ℕ → ℕ → Cell

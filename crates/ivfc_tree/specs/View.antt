@@ -7,10 +7,10 @@ use Rattle.save_bytes.specs.CellNumbers.{value_of}
 use Rattle.save_bytes.specs.State.{State, Shape}
 use Rattle.save_bytes.specs.Refusals.{IfDamaged}
 use Rattle.difi.specs.declared.descriptor.Difi.{Difi}
-use Rattle.difi.specs.Places.{block_size, blocks_of}
+use Rattle.difi.specs.Places.{extent_of, block_size, blocks_of}
 use Rattle.difi.specs.Contents.{view_size}
 use Rattle.difi.specs.Conditions.{has_bad_log, has_bad_level, has_overlapping_levels, has_too_few_entries}
-use Rattle.difi.specs.Sound.{IsBetween, HasBlockSizes, HasHashLevels}
+use Rattle.difi.specs.Sound.{AreApart, IsBetween, HasBlockSizes, HasHashLevels}
 use Rattle.ivfc_tree.specs.declared.path.BlockState.{BlockState}
 use Rattle.ivfc_tree.specs.declared.path.BlockState.TheVariants.{Holds, NeverWritten, Fails}
 use Rattle.ivfc_tree.specs.declared.state.IvfcState.{IvfcState}
@@ -40,13 +40,17 @@ can_view base difi master_len state =
     && ((length state.put1.items == blocks_of difi.ivfc1) && ((length state.put2.items == blocks_of difi.ivfc2)
     && ((length state.put3.items == blocks_of difi.ivfc3) && (length state.put4.items == blocks_of difi.ivfc4))))))))))))
 
--- what follows where the base's size is a number of 64 bits: each level lies in the base, in blocks of 2 ^ 9 to 2 ^ 16 bytes
+-- what follows where the base's size is a number of 64 bits: the levels lie in the base, apart from each other, in blocks
+-- of 2 ^ 9 to 2 ^ 16 bytes
 pub record HasLevels (base : Shape) (difi : Difi) : Type 0 where
   pub sound : IsTrue base.sound
   pub plain : IsTrue base.plain
+  pub single : IsFalse base.doubled
   pub small : base.size < 2 ^ 64
   pub logs : (level : ℕ) → IsLevel level → IsBetween 9 16 (level_of difi level).log
   pub inside : (level : ℕ) → IsLevel level → (level_of difi level).at + (level_of difi level).size ≤ base.size
+  pub apart : (upper level : ℕ) → 1 ≤ upper → upper < level → level ≤ 4
+      → AreApart (extent_of (level_of difi upper)) (extent_of (level_of difi level))
 
 -- and the level above each level, or the master hash, has an entry for each of its blocks
 pub record HasTree (base : Shape) (difi : Difi) (master_len : ℕ) : Type 0 where

@@ -4,11 +4,13 @@ ghost use Rattle.std.proofs.lemmas.Bool.{false≢true};
 ghost use Rattle.std.specs.Result.{result_err};
 ghost use Rattle.save_bytes.specs.Memory.{bytes_state, memory_shape};
 ghost use Rattle.save_bytes.specs.MemoryLaws.{memory_size_fits};
+ghost use Rattle.save_bytes.specs.State.{IsInside};
 ghost use Rattle.save_bytes.specs.Reads.{Reads};
 ghost use Rattle.difi.specs.Contents.{view_size};
 ghost use Rattle.difi.specs.Sound.{HasBlockSizes, HasHashLevels};
 ghost use Rattle.ivfc_tree.specs.Levels.{HasBlock};
 ghost use Rattle.ivfc_tree.specs.View.{CanView, IsVerified, view_state};
+ghost use Rattle.ivfc_tree.specs.Held.{shown, HashKeeps, hash_lands};
 
 use super::*;
 use difi::{Difi, Extent2, LevelPlace};
@@ -374,6 +376,24 @@ fn good_in<S: Space>(
     view.verify(at, most)
 }
 
+/// How many bytes from a place on are good, after a block's status was asked for.
+fn good_after_status<S: Space>(
+    view: &mut IvfcView<'_, S>,
+    block: u64,
+    at: u64,
+    most: usize,
+) -> Result<usize, Bad>
+    requires there { HasBlock view.old.difi.now 4 block }
+    requires inside { IsInside (shown S.state view.old).shape at 1 }
+    requires some { 1 ≤ most }
+    ensures { Reads (shown S.state) (HashKeeps S.keeps) (hash_lands S.lands) view.old view.new (result_err result) }
+{
+    match view.status(4, block) {
+        Ok(_) => view.verify(at, most),
+        Err(bad) => Err(bad),
+    }
+}
+
 /// The same twice by one view, over a small tree in a space that tells nothing.
 fn good_in_silence(
     alloc: Global,
@@ -737,6 +757,7 @@ fn digests_of_another_program_are_good(rt: HostRuntime) -> Result<(), Fail> {
     assert_eq!(rt; view.piece(0, 9)?, b"Hello".as_slice());
     assert_eq!(rt; view.piece(3, 9)?, b"lo".as_slice());
     assert_eq!(rt; view.status(4, 0)?, Status::Good);
+    assert_eq!(rt; good_after_status(&mut view, 0, 1, 3)?, 3);
     for place in 0..101usize {
         let fault = [(1, 0), (2, 0), (3, 0), (4, 0)][place / 32];
         let mut base = small_base();

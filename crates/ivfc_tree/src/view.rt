@@ -7,12 +7,11 @@ ghost use Rattle.std.specs.Result.{result_err};
 ghost use Rattle.save_bytes.specs.State.{IsInside};
 ghost use Rattle.save_bytes.specs.Refusals.{NeverDamaged};
 ghost use Rattle.save_bytes.specs.Answers.{IsPiece};
-ghost use Rattle.save_bytes.specs.Stays.{Stays};
 ghost use Rattle.save_bytes.specs.Reads.{Reads};
 ghost use Rattle.ivfc_tree.specs.Levels.{HasBlock};
 ghost use Rattle.ivfc_tree.specs.Paths.{block_state};
 ghost use Rattle.ivfc_tree.specs.View.{CanView, IsVerified, status_of, rest_of};
-ghost use Rattle.ivfc_tree.specs.Held.{shown, IsViewOf, SameView};
+ghost use Rattle.ivfc_tree.specs.Held.{shown, IsViewOf, SameView, HashKeeps, hash_lands};
 ghost use Rattle.ivfc_tree.specs.contracts.view.IvfcView.{the_row};
 ghost use mir.Syntax.{named};
 
@@ -73,6 +72,22 @@ impl<'a, S: Space> IvfcView<'a, S> {
         self.difi.ivfc4.size
     }
 
+    // What the path of a block comes to.
+    fn found(&mut self, level: u8, block: u64) -> Result<BlockState, Bad>
+        requires sound { IsTrue (shown S.state self.old).shape.sound }
+        requires there { HasBlock self.old.difi.now level block }
+        ensures found { IsTrue (shown S.state self.old).told → IfOk result (λ found. found
+            ≡ block_state (S.state self.old.base.now).cells self.old.master.now self.old.difi.now self.old.state.now level block) }
+        ensures plain { NeverDamaged (result_err result) }
+        ensures reads { Reads (shown S.state) (HashKeeps S.keeps) (hash_lands S.lands) self.old self.new (result_err result) }
+        ensures base { Reads S.state S.keeps S.lands self.old.base.now self.new.base.now (result_err result) }
+        ensures same { SameView self.old self.new }
+    {
+        let base = &mut *self.base;
+        let master = &mut *self.master;
+        block_state(base, self.difi, master, &*self.state, level, block)
+    }
+
     /// Tries the hash path of the byte at `at`, and answers how many bytes from there on are good by it: at least 1
     /// and at most `most`. `Damaged` comes exactly where the byte has no hash path, and names the topmost block that
     /// fails.
@@ -80,25 +95,21 @@ impl<'a, S: Space> IvfcView<'a, S> {
         requires inside { IsInside (shown S.state self.old).shape at 1 }
         requires some { 1 ≤ most }
         ensures verified { IsVerified (shown S.state self.old) at most result }
-        ensures stays { Stays (shown S.state self.old) (shown S.state self.new) (result_err result) }
-        ensures reads { Reads S.state S.keeps S.lands self.old.base.now self.new.base.now (result_err result) }
+        ensures reads { Reads (shown S.state) (HashKeeps S.keeps) (hash_lands S.lands) self.old self.new (result_err result) }
+        ensures base { Reads S.state S.keeps S.lands self.old.base.now self.new.base.now (result_err result) }
         ensures same { SameView self.old self.new }
     {
         let block = at / block_size(&self.difi.ivfc4);
-        let base = &mut *self.base;
-        let master = &mut *self.master;
-        let found = match block_state(base, self.difi, master, &*self.state, 4, block) {
+        let rest = rest_of_block(self.difi, at).min(most as u64) as usize;
+        let part = self.part;
+        let found = match self.found(4, block) {
             Ok(found) => found,
             Err(bad) => return Err(bad),
         };
         match found {
-            BlockState::Holds => Ok(rest_of_block(self.difi, at).min(most as u64) as usize),
+            BlockState::Holds => Ok(rest),
             BlockState::NeverWritten { level, block } | BlockState::Fails { level, block } => {
-                Err(Bad::Damaged {
-                    part: self.part,
-                    level,
-                    block,
-                })
+                Err(Bad::Damaged { part, level, block })
             }
         }
     }
@@ -110,15 +121,15 @@ impl<'a, S: Space> IvfcView<'a, S> {
         requires some { 1 ≤ most }
         ensures piece { IsPiece (shown S.state self.old) at most result }
         ensures* after { sem 𝓛 (Rests (the_row (record { mir = named 0; lft = [] }) S.row) self.entry (λ new.
-            Stays (shown S.state self.old) (shown S.state new) (result_err result)
+            Reads (shown S.state) (HashKeeps S.keeps) (hash_lands S.lands) self.old new (result_err result)
             × Reads S.state S.keeps S.lands self.old.base.now new.base.now (result_err result)
             × SameView self.old new)) }
     {
+        let place = level_of(self.difi, 4).at + at;
         let most = match self.verify(at, most) {
             Ok(most) => most,
             Err(bad) => return Err(bad),
         };
-        let place = level_of(self.difi, 4).at + at;
         let base = &mut *self.base;
         base.piece(place, most)
     }
@@ -130,21 +141,16 @@ impl<'a, S: Space> IvfcView<'a, S> {
         ensures status { IsTrue (shown S.state self.old).told → IfOk result (λ status. status
             ≡ status_of (block_state (S.state self.old.base.now).cells self.old.master.now self.old.difi.now self.old.state.now level block)) }
         ensures plain { NeverDamaged (result_err result) }
-        ensures stays { Stays (shown S.state self.old) (shown S.state self.new) (result_err result) }
-        ensures reads { Reads S.state S.keeps S.lands self.old.base.now self.new.base.now (result_err result) }
+        ensures reads { Reads (shown S.state) (HashKeeps S.keeps) (hash_lands S.lands) self.old self.new (result_err result) }
+        ensures base { Reads S.state S.keeps S.lands self.old.base.now self.new.base.now (result_err result) }
         ensures same { SameView self.old self.new }
     {
-        let base = &mut *self.base;
-        let master = &mut *self.master;
-        let found = match block_state(base, self.difi, master, &*self.state, level, block) {
-            Ok(found) => found,
-            Err(bad) => return Err(bad),
-        };
-        Ok(match found {
-            BlockState::Holds => Status::Good,
-            BlockState::NeverWritten { .. } => Status::Blank,
-            BlockState::Fails { .. } => Status::Bad,
-        })
+        match self.found(level, block) {
+            Ok(BlockState::Holds) => Ok(Status::Good),
+            Ok(BlockState::NeverWritten { .. }) => Ok(Status::Blank),
+            Ok(BlockState::Fails { .. }) => Ok(Status::Bad),
+            Err(bad) => Err(bad),
+        }
     }
 }
 

@@ -1,4 +1,4 @@
-use Rattle.std.proofs.Common.{◌+◌, None, IsTrue, sym, subst, arith}
+use Rattle.std.proofs.Common.{◌+◌, None, arith}
 use Rattle.save_bytes.proofs.CellLemmas.{bytes_in-same}
 use Rattle.save_bytes.proofs.CallLemmas.{Reads-join, Reads-same}
 use Rattle.ivfc_tree.proofs.HashLemmas.{hashed_none, hashed_more}

@@ -1,9 +1,9 @@
-use Rattle.std.proofs.Common.{◌<◌, IsTrue, sym, ◌∙◌, subst, arith}
+use Rattle.std.proofs.Common.{◌<◌, sym, ◌∙◌, arith}
 use Rattle.std.specs.Result.{result_err}
 use Rattle.save_bytes.proofs.CallLemmas.{Reads-join, IfOk-map}
 use Rattle.ivfc_tree.proofs.LevelLemmas.{parent_of_there}
 use Rattle.ivfc_tree.proofs.StepLemmas.{step-marked, step-first, step-holds, step-fault}
-use Rattle.ivfc_tree.proofs.SameLemmas.{judged-same}
+use Rattle.ivfc_tree.specs.ViewLaws.{judged-same}
 use Rattle.ivfc_tree.proofs.path.+block_state.Goals as goal
 
 pub returns-then-is_marked-clause-state : goal.returns-then-is_marked-clause-state

@@ -1,8 +1,8 @@
-use Rattle.std.proofs.Common.{None, Some, IsTrue, sym, ◌∙◌, ap, subst}
+use Rattle.std.proofs.Common.{None, Some, sym, ◌∙◌, ap}
 use Rattle.sha2.specs.Sha256.{sha256}
 use Rattle.save_bytes.proofs.CallLemmas.{Reads-join}
 use Rattle.ivfc_tree.proofs.StepLemmas.{judged_good, judged_bad}
-use Rattle.ivfc_tree.proofs.SameLemmas.{block-same}
+use Rattle.ivfc_tree.specs.ViewLaws.{block-same}
 use Rattle.ivfc_tree.proofs.path.judge.Goals as goal
 
 pub returns-in-Err-block_digest-clause-reads : goal.returns-in-Err-block_digest-clause-reads

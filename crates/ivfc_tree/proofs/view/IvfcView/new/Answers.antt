@@ -1,5 +1,5 @@
 use Rattle.std.proofs.Common.{length}
-use Rattle.ivfc_tree.proofs.LevelLemmas.{can_view-true}
+use Rattle.ivfc_tree.specs.ViewLaws.{can_view-true}
 use Rattle.ivfc_tree.proofs.view.IvfcView.new.Goals as goal
 
 pub returns-clause-sound : goal.returns-clause-sound
