@@ -10,7 +10,7 @@ use Rattle.name_buckets.specs.declared.table.EntryKind.{EntryKind}
 use Rattle.name_buckets.specs.declared.table.TableInfo.{TableInfo}
 use Rattle.name_buckets.specs.Kinds.{entry_size, link_offset}
 use Rattle.name_buckets.specs.Tables.{Table, table_in, entry_place, bucket_place}
-use Rattle.name_buckets.specs.Layout.{IsWithin, HasCounts, HasTable, IsNeeded, OfZero, BlamesNeeded, IsReadAt, AtZero, AtPlace, BlamesRead}
+use Rattle.name_buckets.specs.Layout.{IsWithin, HasCounts, HasTable, TellsTable, IsNeeded, OfZero, BlamesNeeded, IsReadAt, AtZero, AtPlace, BlamesRead}
 use Rattle.save_bytes.proofs.CellLemmas.{bytes_in-same}
 use Rattle.name_buckets.proofs.EntryLemmas.{link_last, entry_long}
 
@@ -21,70 +21,71 @@ pub record SameEntry (old new : Table) (e : ℕ) : Type 0 where
   pub link : new.link e ≡ old.link e
 
 module _ (old new : State) (stays : Stays old new None) where
-  pub same_size : new.shape.size ≡ old.shape.size
+  same_size : new.shape.size ≡ old.shape.size
   same_size = ap (λ (shape : Shape). shape.size) stays.space.shape
 
-  pub was_told : IsTrue new.told → IsTrue old.told
-  was_told told = subst IsTrue stays.space.told told
-
-  pub now_told : IsTrue old.told → IsTrue new.told
-  now_told told = subst IsTrue (sym stays.space.told) told
-
   -- numbers and bytes of the space
-  pub number_stays : (n at : ℕ) → IsTrue old.told → at + n ≤ old.shape.size → number_in n new.cells at ≡ number_in n old.cells at
-  number_stays n at told fits =
-      ap (λ (bytes : List ℕ). number_at n bytes 0) (bytes_in-same new.cells old.cells at at n (λ k h. stays.cells told (at + k) (omega (arith, fits, h))))
-
   bytes_stay : (n at : ℕ) → IsTrue old.told → at + n ≤ old.shape.size → bytes_in new.cells at n ≡ bytes_in old.cells at n
   bytes_stay n at told fits = bytes_in-same new.cells old.cells at at n (λ k h. stays.cells told (at + k) (omega (arith, fits, h)))
 
-  module _ (kind : EntryKind) (info : TableInfo) (table : HasTable old kind info) where
-    pub had_counts : HasCounts new info → HasCounts old info
-    had_counts known = record {
-      told = was_told known.told;
-      bytes = λ k h. rw (sym (stays.cells (was_told known.told) (info.table_at + k) (omega (arith, h, table.zero, entry_long kind)))) (known.bytes k h);
-    }
+  number_stays : (n at : ℕ) → IsTrue old.told → at + n ≤ old.shape.size → number_in n new.cells at ≡ number_in n old.cells at
+  number_stays n at told fits = ap (λ (bytes : List ℕ). number_at n bytes 0) (bytes_stay n at told fits)
+
+  module _ (kind : EntryKind) (info : TableInfo) (table : HasTable old.shape kind info) where
+    had_counts : IsTrue old.told → HasCounts new.cells info → HasCounts old.cells info
+    had_counts told known k h =
+        rw (sym (stays.cells told (info.table_at + k) (omega (arith, h, table.zero, entry_long kind)))) (known k h)
 
     pub count_stays : IsTrue old.told → (table_in new.cells kind info).count ≡ (table_in old.cells kind info).count
     count_stays told = number_stays 4 info.table_at told (omega (arith, table.zero, entry_long kind))
 
-    pub most_stays : IsTrue old.told → (table_in new.cells kind info).most ≡ (table_in old.cells kind info).most
+    most_stays : IsTrue old.told → (table_in new.cells kind info).most ≡ (table_in old.cells kind info).most
     most_stays told = number_stays 4 (info.table_at + 4) told (omega (arith, table.zero, entry_long kind))
 
     -- the table still lies in the space
-    pub HasTable-stays : HasTable new kind info
-    HasTable-stays = record {
-      sound = subst (λ (shape : Shape). IsTrue shape.sound) (sym stays.space.shape) table.sound;
-      some = table.some;
-      buckets = omega (arith, same_size, table.buckets);
-      zero = omega (arith, same_size, table.zero);
-      entries = λ known e h. omega (arith, same_size, table.entries (had_counts known) e (omega (arith, h, most_stays (had_counts known).told)));
-      least = λ known. omega (arith, count_stays (had_counts known).told, table.least (had_counts known));
-      most = λ known. omega (arith, count_stays (had_counts known).told, most_stays (had_counts known).told, table.most (had_counts known));
+    pub HasTable-stays : HasTable new.shape kind info
+    HasTable-stays = subst (λ (shape : Shape). HasTable shape kind info) (sym stays.space.shape) table
+
+    -- and is told as a whole
+    pub tells_later : TellsTable old kind info → TellsTable new kind info
+    tells_later tells = record {
+      told = stays.space.told tells.told;
+      entries = λ known e h. omega (
+        arith,
+        same_size,
+        tells.entries (had_counts tells.told known) e (omega (arith, h, most_stays tells.told)),
+      );
+      least = λ known. omega (arith, count_stays tells.told, tells.least (had_counts tells.told known));
+      most = λ known. omega (arith, count_stays tells.told, most_stays tells.told, tells.most (had_counts tells.told known));
     }
 
-    module _ (known : HasCounts old info) (e : ℕ) (below : e < (table_in old.cells kind info).count) where
+    module _ (tells : TellsTable old kind info) (known : HasCounts old.cells info) (e : ℕ)
+        (below : e < (table_in old.cells kind info).count) where
       -- an entry lies in the space, and is as it was
       pub entry_fits : entry_place kind info e + entry_size kind ≤ old.shape.size
-      entry_fits = table.entries known e (omega (arith, below, table.most known))
+      entry_fits = tells.entries known e (omega (arith, below, tells.most known))
 
       pub entry_stays : SameEntry (table_in old.cells kind info) (table_in new.cells kind info) e
       entry_stays = record {
-        parent = number_stays 4 (entry_place kind info e) known.told (omega (arith, entry_fits, entry_long kind));
-        name = bytes_stay 16 (entry_place kind info e + 4) known.told (omega (arith, entry_fits, entry_long kind));
-        link = number_stays 4 (entry_place kind info e + link_offset kind) known.told (omega (arith, entry_fits, link_last kind));
+        parent = number_stays 4 (entry_place kind info e) tells.told (omega (arith, entry_fits, entry_long kind));
+        name = bytes_stay 16 (entry_place kind info e + 4) tells.told (omega (arith, entry_fits, entry_long kind));
+        link = number_stays 4 (entry_place kind info e + link_offset kind) tells.told (omega (arith, entry_fits, link_last kind));
       }
 
       -- a last word that was read is the entry's
-      pub last_word : (word offset : ℕ) → offset ≡ link_offset kind → word ≡ number_in 4 new.cells (entry_place kind info e + offset) → word ≡ (table_in old.cells kind info).link e
+      pub last_word : (word offset : ℕ) → offset ≡ link_offset kind → word ≡ number_in 4 new.cells (entry_place kind info e + offset)
+          → word ≡ (table_in old.cells kind info).link e
       last_word word offset there is = is ∙ rw there entry_stays.link
 
     -- a bucket's head is as it was
-    pub head_stays : (bucket : ℕ) → IsTrue old.told → bucket < info.buckets → (table_in new.cells kind info).head bucket ≡ (table_in old.cells kind info).head bucket
+    pub head_stays : (bucket : ℕ) → IsTrue old.told → bucket < info.buckets
+        → (table_in new.cells kind info).head bucket ≡ (table_in old.cells kind info).head bucket
     head_stays bucket told below = number_stays 4 (bucket_place info bucket) told (omega (arith, below, table.buckets))
 
     -- a cell that was read and is no byte is one that is needed
-    pub needed_read : IsTrue old.told → (from n part level block : ℕ) → from + n ≤ old.shape.size → ((x : ℕ) → IsWithin from n x → IsNeeded kind info (table_in old.cells kind info) x) → BlamesRead kind info from n new.cells part level block → BlamesNeeded kind info old.cells part level block
+    pub needed_read : IsTrue old.told → (from n part level block : ℕ) → from + n ≤ old.shape.size
+        → ((x : ℕ) → IsWithin from n x → IsNeeded kind info (table_in old.cells kind info) x)
+        → BlamesRead kind info from n new.cells part level block → BlamesNeeded kind info old.cells part level block
     needed_read told from n part level block fits needed h = go h.at h.read h.blames
       where
         go : (x : ℕ) → IsReadAt kind info from n x → Blames (new.cells x) part level block → BlamesNeeded kind info old.cells part level block

@@ -3,14 +3,13 @@ use Rattle.std.specs.Prelude.{◌≡◌, ℕ, Option}
 use Rattle.std.specs.Borrow.{MutBor}
 use Rattle.save_bytes.specs.declared.space.Bad.{Bad}
 use Rattle.save_bytes.specs.State.{State}
-use Rattle.save_bytes.specs.Refusals.{UnlessDisk}
 use Rattle.save_bytes.specs.Spots.{Spot}
 use Rattle.save_bytes.specs.Reads.{Reads}
 use Rattle.name_buckets.specs.declared.table.EntryKind.{EntryKind}
 use Rattle.name_buckets.specs.declared.table.TableInfo.{TableInfo}
 use Rattle.name_buckets.specs.declared.view.Entries.{Entries}
 use Rattle.name_buckets.specs.Tables.{Tables, tables_in, info_of}
-use Rattle.name_buckets.specs.Layout.{HasTables}
+use Rattle.name_buckets.specs.Layout.{HasTables, TellsTable}
 
 -- what a contract sees of the space, its tables, and where one stands
 abbrev pub space_of : {S : Type 0} → (S → State) → Entries S → State
@@ -22,9 +21,13 @@ tables_of states entries = tables_in (states entries.space.now).cells entries.di
 abbrev pub place_of : {S : Type 0} → Entries S → EntryKind → TableInfo
 place_of entries kind = info_of entries.dirs entries.files kind
 
--- the tables lie in the space as they should
+-- both tables lie in the space
 abbrev pub IsLaidOut : {S : Type 0} → (S → State) → Entries S → Type 0
-IsLaidOut states entries = HasTables (states entries.space.now) entries.dirs entries.files
+IsLaidOut states entries = HasTables (states entries.space.now).shape entries.dirs entries.files
+
+-- the cells are told, and where it can be counted, a table lies in the space as a whole
+abbrev pub Tells : {S : Type 0} → (S → State) → Entries S → EntryKind → Type 0
+Tells states entries kind = TellsTable (states entries.space.now) kind (info_of entries.dirs entries.files kind)
 
 -- the entries hold this space and these places
 pub record IsEntriesIn {S : Type 0} (entries : Entries S) (space : MutBor S) (dirs files : TableInfo) : Type 0 where
@@ -39,8 +42,9 @@ pub record SameEntries {S : Type 0} (old new : Entries S) : Type 0 where
   pub same_dirs : new.dirs ≡ old.dirs
   pub same_files : new.files ≡ old.files
 
--- a call that only reads: no cell changes, each spot of the bottom is left alone, and the tables lie as they should
-pub record ReadsEntries {S : Type 0} (states : S → State) (keeps : Spot → S → S → Type 0) (lands : S → ℕ → Spot → Type 0) (old new : Entries S) (refusal : Option Bad) : Type 0 where
+-- a call that only reads: no cell changes, each spot of the bottom is left alone, and the tables lie in the space
+pub record ReadsEntries {S : Type 0} (states : S → State) (keeps : Spot → S → S → Type 0) (lands : S → ℕ → Spot → Type 0)
+    (old new : Entries S) (refusal : Option Bad) : Type 0 where
   pub reads : Reads states keeps lands old.space.now new.space.now refusal
   pub same : SameEntries old new
-  pub laid_out : UnlessDisk refusal (IsLaidOut states new)
+  pub laid_out : IsLaidOut states new

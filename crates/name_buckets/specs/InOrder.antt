@@ -17,13 +17,6 @@ pub record HasEntriesBefore (bytes : List ℕ) (at size least end : ℕ) : Type 
   pub least_is : least ≤ number_at 4 bytes at
   pub most_is : number_at 4 bytes at ≤ number_at 4 bytes (at + 4)
 
--- the buckets and the first entries follow each other, up to a place
-pub record StartInOrder (dirs files : TableInfo) (end : ℕ) : Type 0 where
-  pub dir_buckets : HasBucketsBefore dirs files.buckets_at
-  pub file_buckets : HasBucketsBefore files dirs.table_at
-  pub dirs_fit : dirs.table_at + 0x28 ≤ files.table_at
-  pub files_fit : files.table_at + 0x30 ≤ end
-
 pub record FollowInOrder (bytes : List ℕ) (dirs files : TableInfo) : Type 0 where
   pub dir_buckets : HasBucketsBefore dirs files.buckets_at
   pub file_buckets : HasBucketsBefore files dirs.table_at

@@ -1,7 +1,7 @@
 -- Where tables and buckets must lie in a space, and which of its bytes they need.
-use Rattle.std.specs.Prelude.{◌≡◌, ℕ, ◌+◌, ◌*◌, ◌<◌, ◌≤◌, false, IsTrue, List, Contains}
+use Rattle.std.specs.Prelude.{ℕ, ◌+◌, ◌*◌, ◌<◌, ◌≤◌, IsTrue, List, Contains}
 use Rattle.save_bytes.specs.Cells.{Cell, IsByte, Blames}
-use Rattle.save_bytes.specs.State.{State}
+use Rattle.save_bytes.specs.State.{Shape, State}
 use Rattle.name_buckets.specs.declared.table.EntryKind.{EntryKind}
 use Rattle.name_buckets.specs.declared.table.TableInfo.{TableInfo}
 use Rattle.name_buckets.specs.Kinds.{entry_size, link_offset, least_freed}
@@ -13,41 +13,28 @@ pub record IsWithin (at n x : ℕ) : Type 0 where
   pub from : at ≤ x
   pub before : x < at + n
 
--- the count and the most of a table are told, and can be read
-pub record HasCounts (s : State) (info : TableInfo) : Type 0 where
-  pub told : IsTrue s.told
-  pub bytes : (k : ℕ) → k < 8 → IsByte (s.cells (info.table_at + k))
+-- the count and the most of a table can be read
+abbrev pub HasCounts : (ℕ → Cell) → TableInfo → Type 0
+HasCounts cells info = (k : ℕ) → k < 8 → IsByte (cells (info.table_at + k))
 
--- a table and its buckets lie in a sound space: the buckets, entry 0 and, where they can be counted, all entries
-pub record HasTable (s : State) (kind : EntryKind) (info : TableInfo) : Type 0 where
-  pub sound : IsTrue s.shape.sound
+-- a table and its buckets lie in a sound space: the buckets, and of the entries entry 0
+pub record HasTable (shape : Shape) (kind : EntryKind) (info : TableInfo) : Type 0 where
+  pub sound : IsTrue shape.sound
   pub some : 1 ≤ info.buckets
-  pub buckets : info.buckets_at + 4 * info.buckets ≤ s.shape.size
-  pub zero : info.table_at + entry_size kind ≤ s.shape.size
-  pub entries : HasCounts s info → (e : ℕ) → e < (table_in s.cells kind info).most → entry_place kind info e + entry_size kind ≤ s.shape.size
-  pub least : HasCounts s info → least_freed kind ≤ (table_in s.cells kind info).count
-  pub most : HasCounts s info → (table_in s.cells kind info).count ≤ (table_in s.cells kind info).most
+  pub buckets : info.buckets_at + 4 * info.buckets ≤ shape.size
+  pub zero : info.table_at + entry_size kind ≤ shape.size
 
--- the four ranges: the buckets and the table of each kind
-pub data Range : Type 0 where
-  Buckets : (kind : EntryKind) → Range
-  Entries : (kind : EntryKind) → Range
+-- both tables do
+abbrev pub HasTables : Shape → TableInfo → TableInfo → Type 0
+HasTables shape dirs files = (kind : EntryKind) → HasTable shape kind (info_of dirs files kind)
 
--- a place lies in a range; in a table's there are entry 0 and, where they can be counted, all entries
-pub data LiesIn (s : State) (info : EntryKind → TableInfo) (x : ℕ) : Range → Type 0 where
-  InBuckets : {kind : EntryKind} → IsWithin (info kind).buckets_at (4 * (info kind).buckets) x → LiesIn s info x (Buckets kind)
-  InZero : {kind : EntryKind} → IsWithin (info kind).table_at (entry_size kind) x → LiesIn s info x (Entries kind)
-  InEntry : {kind : EntryKind} → HasCounts s (info kind) → (e : ℕ) → e < (table_in s.cells kind (info kind)).most
-      → IsWithin (entry_place kind (info kind) e) (entry_size kind) x → LiesIn s info x (Entries kind)
-
--- Both tables lie in a space of which each place may be written. No two ranges overlap, and among their places no two
--- are twins and none is fixed.
-pub record HasTables (s : State) (dirs files : TableInfo) : Type 0 where
-  pub first : s.shape.first ≡ 0
-  pub table : (kind : EntryKind) → HasTable s kind (info_of dirs files kind)
-  pub apart : (one other : Range) (x : ℕ) → LiesIn s (info_of dirs files) x one → LiesIn s (info_of dirs files) x other → one ≡ other
-  pub single : IsTrue s.told → (one other : Range) (x y : ℕ) → LiesIn s (info_of dirs files) x one → LiesIn s (info_of dirs files) y other → s.bottom x ≡ s.bottom y → x ≡ y
-  pub free : IsTrue s.told → (range : Range) (x : ℕ) → LiesIn s (info_of dirs files) x range → s.is_fixed x ≡ false
+-- The cells are told, and where the entries of a table can be counted, all of them lie in the space.
+pub record TellsTable (s : State) (kind : EntryKind) (info : TableInfo) : Type 0 where
+  pub told : IsTrue s.told
+  pub entries : HasCounts s.cells info → (e : ℕ) → e < (table_in s.cells kind info).most
+      → entry_place kind info e + entry_size kind ≤ s.shape.size
+  pub least : HasCounts s.cells info → least_freed kind ≤ (table_in s.cells kind info).count
+  pub most : HasCounts s.cells info → (table_in s.cells kind info).count ≤ (table_in s.cells kind info).most
 
 -- the bytes that a table and its buckets need: entry 0, the buckets, each used entry, the last word of each freed one
 pub data IsNeeded (kind : EntryKind) (info : TableInfo) (t : Table) (x : ℕ) : Type 0 where

@@ -10,7 +10,7 @@ use Rattle.name_buckets.specs.declared.table.EntryFault.TheVariants as fault
 use Rattle.name_buckets.specs.Tables.{Table, Tables}
 use Rattle.name_buckets.specs.Used.{named_entries}
 use Rattle.name_buckets.specs.Rules.{IsFreedList, IsChildList}
-use Rattle.name_buckets.specs.Layout.{BlamesNeeded}
+use Rattle.name_buckets.specs.Layout.{TellsTable, BlamesNeeded}
 
 -- the refusal of a space that an answer passes on
 abbrev pub bad_of : {A : Type 0} → Result A EntryFault → Option Bad
@@ -35,10 +35,11 @@ NeverNoEntry (Err (fault.NoEntry most)) = ⊥
 
 -- Why a reading call is refused: for a damaged cell only where it is needed, as far as a rule holds; for a rule only
 -- where it fails.
-pub record HasCause {A : Type 0} (s : State) (kind : EntryKind) (info : TableInfo) (Rule : Type 0) (Fails : ℕ → ℕ → Type 0) (result : Result A EntryFault) : Type 0 where
-  pub damaged : IsTrue s.told → Rule → IfDamaged (bad_of result) (BlamesNeeded kind info s.cells)
+pub record HasCause {A : Type 0} (s : State) (kind : EntryKind) (info : TableInfo) (Rule : Type 0) (Fails : ℕ → ℕ → Type 0)
+    (result : Result A EntryFault) : Type 0 where
+  pub damaged : TellsTable s kind info → Rule → IfDamaged (bad_of result) (BlamesNeeded kind info s.cells)
   pub plain : IsTrue s.shape.plain → NeverDamaged (bad_of result)
-  pub broken : IsTrue s.told → IfBroken result Fails
+  pub broken : TellsTable s kind info → IfBroken result Fails
   pub never_full : NeverNoEntry result
 
 -- the entry with this parent and name, the root left out

@@ -5,7 +5,7 @@ ghost use Rattle.name_buckets.specs.InOrder.{untold_state};
 ghost use Rattle.name_buckets.specs.InOrder.{HasEntriesBefore, FollowInOrder};
 ghost use Rattle.name_buckets.specs.Rules.{IsOrderly};
 ghost use Rattle.name_buckets.specs.Layout.{HasCounts};
-ghost use Rattle.name_buckets.specs.Held.{space_of, tables_of, place_of, IsLaidOut};
+ghost use Rattle.name_buckets.specs.Held.{space_of, tables_of, place_of, IsLaidOut, Tells};
 
 use super::*;
 use save_bytes::{Bad, MemSpace, Name, Space, set_u32, set_u64, u32_at};
@@ -129,7 +129,7 @@ fn found_name<S: Space>(
     name: &Name,
 ) -> Result<Option<Name>, EntryFault>
     requires { IsLaidOut S.state entries.old }
-    ensures { HasCounts (space_of S.state entries.old) (place_of entries.old kind)
+    ensures { Tells S.state entries.old kind → HasCounts (space_of S.state entries.old).cells (place_of entries.old kind)
         → IsOrderly (tables_of S.state entries.old)
         → IfOk result (λ found. IfSome found (λ its. its.0 ≡ name.now.0)) }
 {
@@ -374,9 +374,13 @@ impl Space for Untold {
 
     ghost keeps_join = { λ _ _ _ _ _ _. tt };
 
+    ghost keeps_hold = { λ _ _ _. tt };
+
     ghost keeps_shape = { λ _ _ _. refl };
 
     ghost keeps_cells = { λ _ _ _ _ told. absurd (false≢true told) };
+
+    ghost keeps_lands = { λ _ _ _ _ told. absurd (false≢true told) };
 
     fn len(&self) -> u64 {
         4096

@@ -1,6 +1,6 @@
 //! The entries of the tables in a space.
 
-ghost use Rattle.std.specs.Prelude.{◌≡◌, ◌<◌, IsTrue, IfOk};
+ghost use Rattle.std.specs.Prelude.{◌≡◌, ◌<◌, IfOk};
 ghost use Rattle.name_buckets.specs.declared.table.EntryKind.TheVariants.{Dir, File};
 ghost use Rattle.name_buckets.specs.Kinds.{table_number, bucket_table};
 ghost use Rattle.name_buckets.specs.Hash.{bucket_number};
@@ -9,7 +9,7 @@ ghost use Rattle.name_buckets.specs.Used.{used_entries};
 ghost use Rattle.name_buckets.specs.Rules.{HasFreedList, HasBucketLists, NamesWrongly, IsBrokenBucket};
 ghost use Rattle.name_buckets.specs.Layout.{HasTables};
 ghost use Rattle.name_buckets.specs.Replies.{bad_of, HasCause, IsFound, IsRoom, IsFirstChild, IsNextChild};
-ghost use Rattle.name_buckets.specs.Held.{space_of, tables_of, place_of, IsLaidOut, IsEntriesIn, ReadsEntries};
+ghost use Rattle.name_buckets.specs.Held.{space_of, tables_of, place_of, IsLaidOut, Tells, IsEntriesIn, ReadsEntries};
 
 use crate::fields::{fields_in, name_in, word_in};
 use crate::find::find_in;
@@ -36,7 +36,7 @@ pub struct Entries<'a, S: Space> {
 impl<'a, S: Space> Entries<'a, S> {
     /// The entries of the tables that stand at these places.
     pub fn new(space: &'a mut S, dirs: TableInfo, files: TableInfo) -> Entries<'a, S>
-        requires { HasTables (S.state space.old) dirs files }
+        requires { HasTables (S.state space.old).shape dirs files }
         ensures holds { IsEntriesIn result space.entry dirs files }
         ensures laid_out { IsLaidOut S.state result }
     {
@@ -52,7 +52,7 @@ impl<'a, S: Space> Entries<'a, S> {
         name: &Name,
     ) -> Result<Option<u32>, EntryFault>
         requires { IsLaidOut S.state self.old }
-        ensures found { IsTrue (space_of S.state self.old).told → HasBucketLists kind ((tables_of S.state self.old).table kind)
+        ensures found { Tells S.state self.old kind → HasBucketLists kind ((tables_of S.state self.old).table kind)
             → IfOk result (IsFound kind ((tables_of S.state self.old).table kind) parent name.now.0) }
         ensures cause { let t = (tables_of S.state self.old).table kind in
             HasCause (space_of S.state self.old) kind (place_of self.old kind) (HasBucketLists kind t)
@@ -68,9 +68,9 @@ impl<'a, S: Space> Entries<'a, S> {
     /// A directory's first entry of a kind, and 0 where it has none. The list of its entries begins there.
     pub fn first(&mut self, kind: EntryKind, dir: u32) -> Result<u32, EntryFault>
         requires { IsLaidOut S.state self.old }
-        ensures word { IsTrue (space_of S.state self.old).told → dir < ((tables_of S.state self.old).table Dir).count
+        ensures word { Tells S.state self.old Dir → dir < ((tables_of S.state self.old).table Dir).count
             → IfOk result (λ first. first ≡ (tables_of S.state self.old).first kind dir) }
-        ensures child { IsTrue (space_of S.state self.old).told → dir < ((tables_of S.state self.old).table Dir).count
+        ensures child { Tells S.state self.old Dir → dir < ((tables_of S.state self.old).table Dir).count
             → IfOk result (IsFirstChild (tables_of S.state self.old) kind dir) }
         ensures cause { HasCause (space_of S.state self.old) Dir (place_of self.old Dir)
             (used_entries ((tables_of S.state self.old).table Dir) dir) (λ _ _. ⊥) result }
@@ -84,9 +84,9 @@ impl<'a, S: Space> Entries<'a, S> {
     /// The entry behind this one in the list of its directory, and 0 behind the last.
     pub fn next(&mut self, kind: EntryKind, entry: u32) -> Result<u32, EntryFault>
         requires { IsLaidOut S.state self.old }
-        ensures word { IsTrue (space_of S.state self.old).told → entry < ((tables_of S.state self.old).table kind).count
+        ensures word { Tells S.state self.old kind → entry < ((tables_of S.state self.old).table kind).count
             → IfOk result (λ next. next ≡ ((tables_of S.state self.old).table kind).sibling entry) }
-        ensures child { IsTrue (space_of S.state self.old).told → entry < ((tables_of S.state self.old).table kind).count
+        ensures child { Tells S.state self.old kind → entry < ((tables_of S.state self.old).table kind).count
             → IfOk result (IsNextChild (tables_of S.state self.old) kind entry) }
         ensures cause { HasCause (space_of S.state self.old) kind (place_of self.old kind)
             (used_entries ((tables_of S.state self.old).table kind) entry) (λ _ _. ⊥) result }
@@ -100,7 +100,7 @@ impl<'a, S: Space> Entries<'a, S> {
     /// The name of an entry.
     pub fn name(&mut self, kind: EntryKind, entry: u32) -> Result<Name, EntryFault>
         requires { IsLaidOut S.state self.old }
-        ensures name { IsTrue (space_of S.state self.old).told → entry < ((tables_of S.state self.old).table kind).count
+        ensures name { Tells S.state self.old kind → entry < ((tables_of S.state self.old).table kind).count
             → IfOk result (λ name. name.0 ≡ ((tables_of S.state self.old).table kind).name entry) }
         ensures cause { HasCause (space_of S.state self.old) kind (place_of self.old kind)
             (used_entries ((tables_of S.state self.old).table kind) entry) (λ _ _. ⊥) result }
@@ -114,9 +114,9 @@ impl<'a, S: Space> Entries<'a, S> {
     /// What a file's entry says of its contents.
     pub fn fields(&mut self, entry: u32) -> Result<FileFields, EntryFault>
         requires { IsLaidOut S.state self.old }
-        ensures start { IsTrue (space_of S.state self.old).told → entry < ((tables_of S.state self.old).table File).count
+        ensures start { Tells S.state self.old File → entry < ((tables_of S.state self.old).table File).count
             → IfOk result (λ fields. fields.start ≡ (tables_of S.state self.old).start entry) }
-        ensures wide { IsTrue (space_of S.state self.old).told → entry < ((tables_of S.state self.old).table File).count
+        ensures wide { Tells S.state self.old File → entry < ((tables_of S.state self.old).table File).count
             → IfOk result (λ fields. fields.wide ≡ (tables_of S.state self.old).wide entry) }
         ensures cause { HasCause (space_of S.state self.old) File (place_of self.old File)
             (used_entries ((tables_of S.state self.old).table File) entry) (λ _ _. ⊥) result }
@@ -131,7 +131,7 @@ impl<'a, S: Space> Entries<'a, S> {
     /// list that they should.
     pub fn free(&mut self, kind: EntryKind) -> Result<u32, EntryFault>
         requires { IsLaidOut S.state self.old }
-        ensures room { IsTrue (space_of S.state self.old).told → IfOk result (IsRoom kind ((tables_of S.state self.old).table kind)) }
+        ensures room { Tells S.state self.old kind → IfOk result (IsRoom kind ((tables_of S.state self.old).table kind)) }
         ensures cause { let t = (tables_of S.state self.old).table kind in
             HasCause (space_of S.state self.old) kind (place_of self.old kind) (HasFreedList kind t)
             (λ table entry. (table ≡ table_number kind) × NamesWrongly kind t entry) result }

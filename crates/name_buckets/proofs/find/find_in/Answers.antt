@@ -5,7 +5,7 @@ use Rattle.name_buckets.specs.Kinds.{entry_size}
 use Rattle.name_buckets.specs.Tables.{table_in, entry_place, bucket_place}
 use Rattle.name_buckets.specs.Layout.{OfBucket, OfUsed}
 use Rattle.name_buckets.proofs.EntryLemmas.{least_some}
-use Rattle.name_buckets.proofs.StayLemmas.{now_told, count_stays, head_stays, HasTable-stays, entry_fits, entry_stays, needed_read, fault_read}
+use Rattle.name_buckets.proofs.StayLemmas.{tells_later, count_stays, head_stays, HasTable-stays, entry_fits, entry_stays, needed_read, fault_read}
 use Rattle.save_bytes.proofs.SpaceLemmas.{IfDamaged-map}
 use Rattle.name_buckets.proofs.CauseLemmas.{passed_on, bad_cause, broken_cause, plain_stays}
 use Rattle.name_buckets.proofs.FindLemmas.{HasPassed-none, HasPassed-more, Matches-stays, Matches-was, passed_stands, match_found, none_found, broken_past, broken_long}
@@ -17,7 +17,7 @@ returns-in_err-entry-clause-reads g c =
     let bad = c.in_err-entry.field-0.0 in
     rw (passed_on _ bad c.from_residual-in_err-entry.ensures.1)
     (Reads-join space.state space.keeps space.lands g.met.S.Space.keeps_join c.args.space.now c.read_counts.new.space c.space_u32.new.space (Some bad) c.in_ok-count.ensures.reads
-    (record { stays = c.in_err-entry.ensures.stays; unmoved = c.in_err-entry.ensures.unmoved }))
+    c.in_err-entry.ensures.reads)
 
 pub returns-in_err-entry-clause-cause : goal.returns-in_err-entry-clause-cause
 returns-in_err-entry-clause-cause g c =
@@ -32,9 +32,9 @@ returns-in_err-entry-clause-cause g c =
     let there : info.buckets_at + 4 * c.from.result ≡ bucket_place info number = rw c.from.ensures refl in
     rw (passed_on _ bad c.from_residual-in_err-entry.ensures.1)
     (bad_cause old kind info _ _ bad
-    (λ told rule. IfDamaged-map (Some bad)
-    (λ part level block first. needed_read old mid stays kind info c.requires told (bucket_place info number) 4 part level block (omega (arith, c.bucket-number.ensures.below, c.requires.buckets)) (λ x within. OfBucket number c.bucket-number.ensures.below within) (fault_read kind info mid.cells (bucket_place info number) 4 part level block first))
-    (rw there at read.damaged (now_told old mid stays told)))
+    (λ tells rule. IfDamaged-map (Some bad)
+    (λ part level block first. needed_read old mid stays kind info c.requires tells.told (bucket_place info number) 4 part level block (omega (arith, c.bucket-number.ensures.below, c.requires.buckets)) (λ x within. OfBucket number c.bucket-number.ensures.below within) (fault_read kind info mid.cells (bucket_place info number) 4 part level block first))
+    (rw there at read.damaged (stays.space.told tells.told)))
     (λ plain. read.plain (plain_stays old.shape mid.shape stays.space.shape plain)))
 
 pub loop-step-init : goal.loop-step-init
@@ -48,17 +48,17 @@ loop-step-init g c =
     let below : own < info.buckets = rw (sym c.bucket-number.ensures.number) c.bucket-number.ensures.below in
     let there : info.buckets_at + 4 * c.from.result ≡ bucket_place info own = rw (c.from.ensures, c.bucket-number.ensures.number) refl in
     record {
-      reads = Reads-join space.state space.keeps space.lands g.met.S.Space.keeps_join c.args.space.now c.read_counts.new.space c.space_u32.new.space None c.in_ok-count.ensures.reads (record { stays = c.in_ok-entry.ensures.stays; unmoved = c.in_ok-entry.ensures.unmoved });
-      passed = λ told. HasPassed-none c.args.kind (table_in old.cells c.args.kind info) c.args.parent c.args.name.now.0 own c.in_ok-entry.entry
-          ((rw there at c.in_ok-entry.ensures.number (now_told old mid stays told)) ∙ head_stays old mid stays c.args.kind info c.requires own told below);
+      reads = Reads-join space.state space.keeps space.lands g.met.S.Space.keeps_join c.args.space.now c.read_counts.new.space c.space_u32.new.space None c.in_ok-count.ensures.reads c.in_ok-entry.ensures.reads;
+      passed = λ tells. HasPassed-none c.args.kind (table_in old.cells c.args.kind info) c.args.parent c.args.name.now.0 own c.in_ok-entry.entry
+          ((rw there at c.in_ok-entry.ensures.number (stays.space.told tells.told)) ∙ head_stays old mid stays c.args.kind info c.requires own tells.told below);
     }
 
 pub returns-then-entry-eq0-clause-found : goal.returns-then-entry-eq0-clause-found
-returns-then-entry-eq0-clause-found g c = λ told lists.
+returns-then-entry-eq0-clause-found g c = λ tells lists.
     let t = table_in (g.S.Space.state c.args.space.now).cells c.args.kind c.args.info in
     let own = bucket_number c.args.parent c.args.name.now.0 c.args.info.buckets in
     let below : own < c.args.info.buckets = rw (sym c.bucket-number.ensures.number) c.bucket-number.ensures.below in
-    none_found c.args.kind t c.args.parent c.args.name.now.0 own c.loop-step._step (rw c.if-entry-eq0.true at c.loop-step.invariant.passed told) refl below lists
+    none_found c.args.kind t c.args.parent c.args.name.now.0 own c.loop-step._step (rw c.if-entry-eq0.true at c.loop-step.invariant.passed tells) refl below lists
 
 pub returns-then-entry-count-clause-cause : goal.returns-then-entry-count-clause-cause
 returns-then-entry-count-clause-cause g c =
@@ -67,11 +67,11 @@ returns-then-entry-count-clause-cause g c =
     let own = bucket_number c.args.parent c.args.name.now.0 c.args.info.buckets in
     let below : own < c.args.info.buckets = rw (sym c.bucket-number.ensures.number) c.bucket-number.ensures.below in
     broken_cause old c.args.kind c.args.info _ _ c.bucket_table.result c.bucket-number.result
-    (λ told. (
+    (λ tells. (
       c.bucket_table.ensures,
       c.bucket-number.ensures.number,
       rw c.bucket-number.ensures.number
-          (broken_past c.args.kind t c.args.parent c.args.name.now.0 own c.loop-step._step c.loop-step.entry (c.loop-step.invariant.passed told) c.if-entry-eq0.false below (omega (arith, c.if-entry-count.true, c.in_ok-count.ensures.count told))),
+          (broken_past c.args.kind t c.args.parent c.args.name.now.0 own c.loop-step._step c.loop-step.entry (c.loop-step.invariant.passed tells) c.if-entry-eq0.false below (omega (arith, c.if-entry-count.true, c.in_ok-count.ensures.count tells.told))),
     ))
 
 pub look_at-requires : goal.look_at-requires
@@ -92,10 +92,10 @@ returns-in_err-look_at-clause-cause g c =
     let stays = c.loop-step.invariant.reads.stays in
     rw (passed_on _ bad c.from_residual-in_err-look_at.ensures.1)
     (bad_cause old kind info _ _ bad
-    (λ told rule.
-    let used = (passed_stands kind t c.args.parent c.args.name.now.0 own c.loop-step._step e (rule own below).0 (c.loop-step.invariant.passed told) c.if-entry-eq0.false (rule own below).1).used in
-    let fits = entry_fits old mid stays kind info c.requires (c.in_ok-count.ensures.known told) e used.below in
-    IfDamaged-map (Some bad) (λ part level block. needed_read old mid stays kind info c.requires told (entry_place kind info e) (entry_size kind) part level block fits (λ x within. OfUsed e used within)) (c.in_err-look_at.ensures.damaged (now_told old mid stays told)))
+    (λ tells rule.
+    let used = (passed_stands kind t c.args.parent c.args.name.now.0 own c.loop-step._step e (rule own below).0 (c.loop-step.invariant.passed tells) c.if-entry-eq0.false (rule own below).1).used in
+    let fits = entry_fits old mid stays kind info c.requires tells (c.in_ok-count.ensures.known tells.told) e used.below in
+    IfDamaged-map (Some bad) (λ part level block. needed_read old mid stays kind info c.requires tells.told (entry_place kind info e) (entry_size kind) part level block fits (λ x within. OfUsed e used within)) (c.in_err-look_at.ensures.damaged (stays.space.told tells.told)))
     (λ plain. c.in_err-look_at.ensures.plain (plain_stays old.shape mid.shape stays.space.shape plain)))
 
 pub returns-in_err-look_at-clause-reads : goal.returns-in_err-look_at-clause-reads
@@ -106,7 +106,7 @@ returns-in_err-look_at-clause-reads g c =
     (Reads-join space.state space.keeps space.lands g.met.S.Space.keeps_join c.args.space.now c.loop-step.space c.look_at.new.space (Some bad) c.loop-step.invariant.reads c.in_err-look_at.ensures.reads)
 
 pub returns-in-Found-clause-found : goal.returns-in-Found-clause-found
-returns-in-Found-clause-found g c = λ told lists.
+returns-in-Found-clause-found g c = λ tells lists.
     let old = g.S.Space.state c.args.space.now in
     let mid = g.S.Space.state c.loop-step.space in
     let kind = c.args.kind in
@@ -115,11 +115,11 @@ returns-in-Found-clause-found g c = λ told lists.
     let stays = c.loop-step.invariant.reads.stays in
     let own = bucket_number c.args.parent c.args.name.now.0 info.buckets in
     let below : own < info.buckets = rw (sym c.bucket-number.ensures.number) c.bucket-number.ensures.below in
-    let in_table : c.loop-step.entry < t.count = omega (arith, c.if-entry-count.false, c.in_ok-count.ensures.count told) in
-    let in_mid : c.loop-step.entry < (table_in mid.cells kind info).count = omega (arith, in_table, count_stays old mid stays kind info c.requires told) in
-    let matches = rw c.in-Found.is at c.in_ok-look_at.ensures.look (now_told old mid stays told) in_mid in
-    match_found kind t c.args.parent c.args.name.now.0 own c.loop-step._step c.loop-step.entry (c.loop-step.invariant.passed told) c.if-entry-eq0.false below
-    (Matches-stays kind t (table_in mid.cells kind info) c.args.parent c.args.name.now.0 c.loop-step.entry (entry_stays old mid stays kind info c.requires (c.in_ok-count.ensures.known told) c.loop-step.entry in_table) matches)
+    let in_table : c.loop-step.entry < t.count = omega (arith, c.if-entry-count.false, c.in_ok-count.ensures.count tells.told) in
+    let in_mid : c.loop-step.entry < (table_in mid.cells kind info).count = omega (arith, in_table, count_stays old mid stays kind info c.requires tells.told) in
+    let matches = rw c.in-Found.is at c.in_ok-look_at.ensures.look (tells_later old mid stays kind info c.requires tells) in_mid in
+    match_found kind t c.args.parent c.args.name.now.0 own c.loop-step._step c.loop-step.entry (c.loop-step.invariant.passed tells) c.if-entry-eq0.false below
+    (Matches-stays kind t (table_in mid.cells kind info) c.args.parent c.args.name.now.0 c.loop-step.entry (entry_stays old mid stays kind info c.requires tells (c.in_ok-count.ensures.known tells.told) c.loop-step.entry in_table) matches)
     lists
 
 pub returns-in-Found-clause-reads : goal.returns-in-Found-clause-reads
@@ -139,12 +139,12 @@ loop-step-preserved g c =
     let own = bucket_number c.args.parent c.args.name.now.0 info.buckets in
     record {
       reads = Reads-join space.state space.keeps space.lands g.met.S.Space.keeps_join c.args.space.now c.loop-step.space c.look_at.new.space None c.loop-step.invariant.reads c.in_ok-look_at.ensures.reads;
-      passed = λ told.
-          (let in_table : c.loop-step.entry < t.count = omega (arith, c.if-entry-count.false, c.in_ok-count.ensures.count told) in
-          let in_mid : c.loop-step.entry < (table_in mid.cells kind info).count = omega (arith, in_table, count_stays old mid stays kind info c.requires told) in
-          let look = rw c.in-Other.is at c.in_ok-look_at.ensures.look (now_told old mid stays told) in_mid in
-          let same = entry_stays old mid stays kind info c.requires (c.in_ok-count.ensures.known told) c.loop-step.entry in_table in
-          HasPassed-more kind t c.args.parent c.args.name.now.0 own c.loop-step._step c.loop-step.entry c.in-Other.next (c.loop-step.invariant.passed told) c.if-entry-eq0.false
+      passed = λ tells.
+          (let in_table : c.loop-step.entry < t.count = omega (arith, c.if-entry-count.false, c.in_ok-count.ensures.count tells.told) in
+          let in_mid : c.loop-step.entry < (table_in mid.cells kind info).count = omega (arith, in_table, count_stays old mid stays kind info c.requires tells.told) in
+          let look = rw c.in-Other.is at c.in_ok-look_at.ensures.look (tells_later old mid stays kind info c.requires tells) in_mid in
+          let same = entry_stays old mid stays kind info c.requires tells (c.in_ok-count.ensures.known tells.told) c.loop-step.entry in_table in
+          HasPassed-more kind t c.args.parent c.args.name.now.0 own c.loop-step._step c.loop-step.entry c.in-Other.next (c.loop-step.invariant.passed tells) c.if-entry-eq0.false
           (λ matches. look.0 (Matches-was kind t (table_in mid.cells kind info) c.args.parent c.args.name.now.0 c.loop-step.entry same matches))
           (look.1 ∙ same.link));
     }
@@ -158,11 +158,11 @@ returns-clause-cause g c =
     let own = bucket_number c.args.parent c.args.name.now.0 info.buckets in
     let below : own < info.buckets = rw (sym c.bucket-number.ensures.number) c.bucket-number.ensures.below in
     broken_cause old kind info _ _ c.bucket_table.result c.bucket-number.result
-    (λ told. (
+    (λ tells. (
       c.bucket_table.ensures,
       c.bucket-number.ensures.number,
-      (let counted = c.in_ok-count.ensures.count told in
-          let some : 1 ≤ t.count = omega (arith, least_some kind, c.requires.least (c.in_ok-count.ensures.known told)) in
+      (let counted = c.in_ok-count.ensures.count tells.told in
+          let some : 1 ≤ t.count = omega (arith, least_some kind, tells.least (c.in_ok-count.ensures.known tells.told)) in
           rw c.bucket-number.ensures.number
-          (broken_long kind t c.args.parent c.args.name.now.0 own c.loop-step._step c.loop-step.entry (c.loop-step.invariant.passed told) below (omega (arith, counted, c.loop-step-test.false)) some)),
+          (broken_long kind t c.args.parent c.args.name.now.0 own c.loop-step._step c.loop-step.entry (c.loop-step.invariant.passed tells) below (omega (arith, counted, c.loop-step-test.false)) some)),
     ))

@@ -4,7 +4,7 @@ use Rattle.name_buckets.specs.Kinds.{table_number, link_offset}
 use Rattle.name_buckets.specs.Tables.{table_in, entry_place}
 use Rattle.name_buckets.specs.Rules.{CanBeFreed}
 use Rattle.name_buckets.proofs.EntryLemmas.{least_some, link_last}
-use Rattle.name_buckets.proofs.StayLemmas.{now_told, count_stays, HasTable-stays, entry_fits, last_word, needed_read}
+use Rattle.name_buckets.proofs.StayLemmas.{tells_later, count_stays, HasTable-stays, entry_fits, last_word, needed_read}
 use Rattle.save_bytes.proofs.SpaceLemmas.{IfDamaged-map}
 use Rattle.name_buckets.proofs.CauseLemmas.{passed_on, bad_cause, broken_cause, plain_stays}
 use Rattle.name_buckets.proofs.FreeLemmas.{HasFollowed-more, followed_below, followed_needed, room_counted, wrong_number, named_before}
@@ -27,13 +27,13 @@ returns-in_err-next-clause-cause g c =
     let stays = c.loop-freed.invariant.reads.stays in
     rw (passed_on _ bad c.from_residual-in_err-next.ensures.1)
     (bad_cause old kind info _ _ bad
-    (λ told rule.
-    let known = c.in_ok-counts.ensures.known told in
-    let some : 1 ≤ t.count = omega (arith, least_some kind, c.requires.least known) in
-    let followed = c.loop-freed.invariant.followed told in
-    let fits = entry_fits old mid stays kind info c.requires known from (followed_below kind t c.loop-freed.freed from some followed) in
-    IfDamaged-map (Some bad) (λ part level block. needed_read old mid stays kind info c.requires told (entry_place kind info from + link_offset kind) 4 part level block (omega (arith, fits, link_last kind)) (λ x within. followed_needed kind info t c.loop-freed.freed from x followed rule within))
-    (rw c.link_offset.ensures at c.in_err-next.ensures.damaged (now_told old mid stays told)))
+    (λ tells rule.
+    let known = c.in_ok-counts.ensures.known tells.told in
+    let some : 1 ≤ t.count = omega (arith, least_some kind, tells.least known) in
+    let followed = c.loop-freed.invariant.followed tells in
+    let fits = entry_fits old mid stays kind info c.requires tells known from (followed_below kind t c.loop-freed.freed from some followed) in
+    IfDamaged-map (Some bad) (λ part level block. needed_read old mid stays kind info c.requires tells.told (entry_place kind info from + link_offset kind) 4 part level block (omega (arith, fits, link_last kind)) (λ x within. followed_needed kind info t c.loop-freed.freed from x followed rule within))
+    (rw c.link_offset.ensures at c.in_err-next.ensures.damaged (stays.space.told tells.told)))
     (λ plain. c.in_err-next.ensures.plain (plain_stays old.shape mid.shape stays.space.shape plain)))
 
 pub returns-in_err-next-clause-reads : goal.returns-in_err-next-clause-reads
@@ -44,7 +44,7 @@ returns-in_err-next-clause-reads g c =
     (Reads-join space.state space.keeps space.lands g.met.S.Space.keeps_join c.args.space.now c.loop-freed.space c.entry_word.new.space (Some bad) c.loop-freed.invariant.reads c.in_err-next.ensures.reads)
 
 pub returns-then-next-eq0-clause-free : goal.returns-then-next-eq0-clause-free
-returns-then-next-eq0-clause-free g c = λ told.
+returns-then-next-eq0-clause-free g c = λ tells.
     let old = g.S.Space.state c.args.space.now in
     let mid = g.S.Space.state c.loop-freed.space in
     let kind = c.args.kind in
@@ -52,14 +52,14 @@ returns-then-next-eq0-clause-free g c = λ told.
     let t = table_in old.cells kind info in
     let from = c.loop-freed.from in
     let stays = c.loop-freed.invariant.reads.stays in
-    let known = c.in_ok-counts.ensures.known told in
-    let some : 1 ≤ t.count = omega (arith, least_some kind, c.requires.least known) in
-    let followed = c.loop-freed.invariant.followed told in
+    let known = c.in_ok-counts.ensures.known tells.told in
+    let some : 1 ≤ t.count = omega (arith, least_some kind, tells.least known) in
+    let followed = c.loop-freed.invariant.followed tells in
     let below = followed_below kind t c.loop-freed.freed from some followed in
-    let in_mid : from < (table_in mid.cells kind info).count = omega (arith, below, count_stays old mid stays kind info c.requires told) in
-    let next = last_word old mid stays kind info c.requires known from below c.in_ok-next.next c.link_offset.result c.link_offset.ensures (c.in_ok-next.ensures.word (now_told old mid stays told) in_mid) in
+    let in_mid : from < (table_in mid.cells kind info).count = omega (arith, below, count_stays old mid stays kind info c.requires tells.told) in
+    let next = last_word old mid stays kind info c.requires tells known from below c.in_ok-next.next c.link_offset.result c.link_offset.ensures (c.in_ok-next.ensures.word (tells_later old mid stays kind info c.requires tells) in_mid) in
     room_counted kind t c.loop-freed.freed from (c.saturating_sub.result + c.loop-freed.freed) followed (sym next ∙ c.if-next-eq0.true)
-    (rw (c.saturating_sub.ensures, c.in_ok-counts.ensures.count told, c.in_ok-counts.ensures.most told) refl)
+    (rw (c.saturating_sub.ensures, c.in_ok-counts.ensures.count tells.told, c.in_ok-counts.ensures.most tells.told) refl)
 
 pub returns-then-next-eq0-clause-reads : goal.returns-then-next-eq0-clause-reads
 returns-then-next-eq0-clause-reads g c =
@@ -83,15 +83,15 @@ returns-then-next-least_freed-clause-cause g c =
     let stays = c.loop-freed.invariant.reads.stays in
     rw c.names_wrongly.ensures
     (broken_cause old kind info _ _ (table_number kind) from
-    (λ told. (
+    (λ tells. (
       refl,
-      (let known = c.in_ok-counts.ensures.known told in
-          let some : 1 ≤ t.count = omega (arith, least_some kind, c.requires.least known) in
-          let followed = c.loop-freed.invariant.followed told in
+      (let known = c.in_ok-counts.ensures.known tells.told in
+          let some : 1 ≤ t.count = omega (arith, least_some kind, tells.least known) in
+          let followed = c.loop-freed.invariant.followed tells in
           let below = followed_below kind t c.loop-freed.freed from some followed in
-          let in_mid : from < (table_in mid.cells kind info).count = omega (arith, below, count_stays old mid stays kind info c.requires told) in
-          let next = last_word old mid stays kind info c.requires known from below c.in_ok-next.next c.link_offset.result c.link_offset.ensures (c.in_ok-next.ensures.word (now_told old mid stays told) in_mid) in
-          let counted = c.in_ok-counts.ensures.count told in
+          let in_mid : from < (table_in mid.cells kind info).count = omega (arith, below, count_stays old mid stays kind info c.requires tells.told) in
+          let next = last_word old mid stays kind info c.requires tells known from below c.in_ok-next.next c.link_offset.result c.link_offset.ensures (c.in_ok-next.ensures.word (tells_later old mid stays kind info c.requires tells) in_mid) in
+          let counted = c.in_ok-counts.ensures.count tells.told in
           let cannot : ¬ CanBeFreed kind t c.in_ok-next.next = λ can.
           elim c.then-next-least_freed.branch [
             | then-next-least_freed-via-then-next-least_freed w ↦ omega (arith, can.0, w.if-next-least_freed.true, c.least_freed.ensures)
@@ -113,15 +113,15 @@ loop-freed-preserved g c =
     let stays = c.loop-freed.invariant.reads.stays in
     record {
       reads = Reads-join space.state space.keeps space.lands g.met.S.Space.keeps_join c.args.space.now c.loop-freed.space c.entry_word.new.space None c.loop-freed.invariant.reads c.in_ok-next.ensures.reads;
-      followed = λ told.
-          (let known = c.in_ok-counts.ensures.known told in
-          let some : 1 ≤ t.count = omega (arith, least_some kind, c.requires.least known) in
-          let followed = c.loop-freed.invariant.followed told in
+      followed = λ tells.
+          (let known = c.in_ok-counts.ensures.known tells.told in
+          let some : 1 ≤ t.count = omega (arith, least_some kind, tells.least known) in
+          let followed = c.loop-freed.invariant.followed tells in
           let below = followed_below kind t c.loop-freed.freed from some followed in
-          let in_mid : from < (table_in mid.cells kind info).count = omega (arith, below, count_stays old mid stays kind info c.requires told) in
-          let next = last_word old mid stays kind info c.requires known from below c.in_ok-next.next c.link_offset.result c.link_offset.ensures (c.in_ok-next.ensures.word (now_told old mid stays told) in_mid) in
+          let in_mid : from < (table_in mid.cells kind info).count = omega (arith, below, count_stays old mid stays kind info c.requires tells.told) in
+          let next = last_word old mid stays kind info c.requires tells known from below c.in_ok-next.next c.link_offset.result c.link_offset.ensures (c.in_ok-next.ensures.word (tells_later old mid stays kind info c.requires tells) in_mid) in
           HasFollowed-more kind t c.loop-freed.freed from c.in_ok-next.next followed next c.if-next-eq0.false
-          (omega (arith, c.if-next-least_freed.false, c.least_freed.ensures), omega (arith, c.if-next-counts.false, c.in_ok-counts.ensures.count told)));
+          (omega (arith, c.if-next-least_freed.false, c.least_freed.ensures), omega (arith, c.if-next-counts.false, c.in_ok-counts.ensures.count tells.told)));
     }
 
 pub returns-clause-cause : goal.returns-clause-cause
@@ -132,8 +132,8 @@ returns-clause-cause g c =
     let t = table_in old.cells kind info in
     rw c.names_wrongly-2.ensures
     (broken_cause old kind info _ _ (table_number kind) c.loop-freed.from
-    (λ told. (
+    (λ tells. (
       refl,
-      (let some : 1 ≤ t.count = omega (arith, least_some kind, c.requires.least (c.in_ok-counts.ensures.known told)) in
-          named_before kind t c.loop-freed.freed c.loop-freed.from (c.loop-freed.invariant.followed told) (omega (arith, c.loop-freed-test.false, c.in_ok-counts.ensures.count told)) some),
+      (let some : 1 ≤ t.count = omega (arith, least_some kind, tells.least (c.in_ok-counts.ensures.known tells.told)) in
+          named_before kind t c.loop-freed.freed c.loop-freed.from (c.loop-freed.invariant.followed tells) (omega (arith, c.loop-freed-test.false, c.in_ok-counts.ensures.count tells.told)) some),
     )))

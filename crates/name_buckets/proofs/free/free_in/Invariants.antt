@@ -1,5 +1,6 @@
-use Rattle.std.proofs.Common.{IsTrue, None}
+use Rattle.std.proofs.Common.{None}
 use Rattle.save_bytes.specs.Reads.{Reads}
+use Rattle.name_buckets.specs.Layout.{TellsTable}
 use Rattle.name_buckets.specs.Tables.{table_in}
 use Rattle.name_buckets.proofs.FreeLemmas.{HasFollowed}
 use Rattle.name_buckets.proofs.free.free_in.Given as goal
@@ -7,5 +8,6 @@ use Rattle.name_buckets.proofs.free.free_in.Given as goal
 abbrev pub invariant-loop-freed : goal.invariant-loop-freed
 invariant-loop-freed g l = record {
   reads : Reads g.S.Space.state g.S.Space.keeps g.S.Space.lands l.fn.space l.space None;
-  followed : IsTrue (g.S.Space.state l.fn.space).told → HasFollowed l.kind (table_in (g.S.Space.state l.fn.space).cells l.kind l.info) l.freed l.from;
+  followed : TellsTable (g.S.Space.state l.fn.space) l.kind l.info
+      → HasFollowed l.kind (table_in (g.S.Space.state l.fn.space).cells l.kind l.info) l.freed l.from;
 }

@@ -9,4 +9,4 @@ pub returns-clause-cause : goal.returns-clause-cause
 returns-clause-cause g c = rw c.info-info.ensures at c.find_in.ensures.cause
 
 pub returns-clause-reads : goal.returns-clause-reads
-returns-clause-reads g c = entries_read _ _ _ _ _ _ c.requires refl refl refl c.find_in.ensures.reads
+returns-clause-reads g c = entries_read _ _ _ _ _ c.requires _ refl refl refl c.find_in.ensures.reads

@@ -3,4 +3,4 @@ use Rattle.name_buckets.proofs.HeldLemmas.{entries_read}
 use Rattle.name_buckets.proofs.view.Entries.name.Goals as goal
 
 pub returns-clause-reads : goal.returns-clause-reads
-returns-clause-reads g c = entries_read _ _ _ _ _ _ c.requires refl refl refl c.name_in.ensures.reads
+returns-clause-reads g c = entries_read _ _ _ _ _ c.requires _ refl refl refl c.name_in.ensures.reads

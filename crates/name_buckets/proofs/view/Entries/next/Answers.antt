@@ -6,7 +6,7 @@ use Rattle.name_buckets.proofs.HeldLemmas.{entries_read}
 use Rattle.name_buckets.proofs.view.Entries.next.Goals as goal
 
 pub returns-clause-reads : goal.returns-clause-reads
-returns-clause-reads g c = entries_read _ _ _ _ _ _ c.requires refl refl refl c.word_in.ensures.reads
+returns-clause-reads g c = entries_read _ _ _ _ _ c.requires _ refl refl refl c.word_in.ensures.reads
 
 pub returns-clause-child : goal.returns-clause-child
 returns-clause-child g c = λ told below.
