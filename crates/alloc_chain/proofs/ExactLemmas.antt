@@ -15,9 +15,9 @@ use Rattle.alloc_chain.specs.declared.fault.ChainFault.TheVariants.{Broken, Shor
 use Rattle.alloc_chain.specs.declared.fault.ChainFault.TheVariants.{Bad as Refused}
 use Rattle.alloc_chain.specs.declared.node.Node.{Node}
 use Rattle.alloc_chain.specs.declared.node.Lead.{Lead}
-use Rattle.alloc_chain.specs.declared.node.Lead.TheVariants.{Follows, OpensFree}
+use Rattle.alloc_chain.specs.declared.node.Lead.TheVariants.{Opens, OpensFree, Follows}
 use Rattle.alloc_chain.specs.Table.{table_in, word_v, index_of, HasWords, HasFault}
-use Rattle.alloc_chain.specs.Chains.{IsInner, IsNode, start_of, AreNodes, lead_after, entries_of, occurrences, IsLinked}
+use Rattle.alloc_chain.specs.Chains.{IsInner, IsChain, IsNode, start_of, AreNodes, lead_after, entries_of, occurrences, IsLinked}
 use Rattle.alloc_chain.specs.Faults.{IsLong, IsHead, IsSecond, IsFaulty, FailsAt, IsShared, IsBroken, IsFreeBroken, IsFreeNeeded, FaultsOnly}
 use Rattle.alloc_chain.specs.Faults.IsFaulty.{AtFirst, AtSecond, AtLast}
 use Rattle.alloc_chain.specs.Faults.IsBroken.{Unlike, Shared}
@@ -186,3 +186,15 @@ no_free_break table count list few linked once entry (InList broken) = no_break 
 pub no_free_need : (table : ℕ → ℕ → Cell) (count : ℕ) (list : List ℕ) → count < 2 ^ 31 → HasWords table 0 → IsLinked table count OpensFree (index_of (word_v table 0)) list → (entry part level block : ℕ) → IsFreeNeeded table count entry → ¬ HasFault table entry part level block
 no_free_need table count list few words linked entry part level block (Root is) fault = no_words table 0 part level block words (subst (λ (e : ℕ). HasFault table e part level block) is fault)
 no_free_need table count list few words linked entry part level block (Listed fails) fault = no_failure table count few OpensFree (index_of (word_v table 0)) list linked entry fails
+
+-- a call on a chain that is as it should be is done, or fails for the disk's sake
+pub chain_done : {A : Type 0} (P : A → Type 0) (s : State) (info : ChainInfo) (first : ℕ) (list : List ℕ) (result : Result A ChainFault)
+    → info.count < 2 ^ 31 → IsTrue s.told → IsChain s info first list
+    → FaultsOnly s info (IsBroken (table_in s.cells info) info.count Opens first) (FailsAt (table_in s.cells info) info.count Opens first)
+    (result_err result) → IfOk result P → DoneUnlessDisk result P
+chain_done P s info first list result few told chain faults ok =
+    let table = table_in s.cells info in
+    let linked = chain.linked in
+    done_unless_disk s info told P result
+    (no_break table info.count few Opens first list linked (chain_few table info.count Opens first list linked chain.once))
+    (λ entry part level block fails _. no_failure table info.count few Opens first list linked entry fails) faults ok

@@ -9,7 +9,8 @@ pub mod ReadLemmas
 pub mod ExactLemmas
 pub mod WalkLemmas
 pub mod ShownLemmas
-pub mod JoinLemmas
 pub mod ViewLemmas
+pub mod RunLemmas
+pub mod PutLemmas
+pub mod BehindLemmas
 pub mod PieceLemmas
-pub mod LaterLemmas

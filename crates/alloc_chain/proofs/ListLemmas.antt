@@ -63,6 +63,14 @@ module _ (table : ℕ → ℕ → Cell) (count : ℕ) where
           behind = passed ∙ simp (entries_of-append, length-append, append-nil, length-range_with_len) (ap (λ (n : ℕ). n + (node.last + 1 - node.first)) reached.behind);
         }
 
+    -- so by a node that was read, and what names the one behind it
+    pub reached_step : (cursor behind : Cursor) (node : Node) (next : ℕ) → IsReached table count lead first cursor
+        → IsNode table count cursor.lead node next → next ≤ count → node.first ≡ cursor.next → behind.lead ≡ Follows node.first
+        → behind.next ≡ next → behind.passed ≡ cursor.passed + (node.last + 1 - node.first) → IsReached table count lead first behind
+    reached_step cursor behind node next reached is_node inside starts led named passed =
+        reached_more cursor behind node reached (subst (λ (n : ℕ). IsNode table count cursor.lead node n) (sym named) is_node)
+        (omega (arith, named)) starts led passed
+
     -- behind the last one
     pub reached_end : (cursor : Cursor) → IsReached table count lead first cursor → cursor.next ≡ 0 → HasLength table count lead first cursor.passed
     reached_end cursor reached none = (
@@ -120,48 +128,57 @@ module _ (table : ℕ → ℕ → Cell) (count : ℕ) where
       faulty = subst (λ (l : Lead). IsFaulty table count l cursor.next entry) reached.led faulty;
     }
 
--- a fault of the node behind a cursor is one of the list
-pub list_faults : (s t : State) (info : ChainInfo) (lead : Lead) (first : ℕ) (cursor : Cursor) (fault : Option ChainFault) → HasTable s.shape info → Stays s t None → (IsTrue s.told → IsReached (table_in s.cells info) info.count lead first cursor) → IsEntry info.count cursor.next → FaultsOnly t info (λ e. HasWords (table_in t.cells info) e × IsFaulty (table_in t.cells info) info.count cursor.lead cursor.next e) (IsFaulty (table_in t.cells info) info.count cursor.lead cursor.next) fault → FaultsOnly s info (IsBroken (table_in s.cells info) info.count lead first) (FailsAt (table_in s.cells info) info.count lead first) fault
-list_faults s t info lead first cursor fault table stays reached named faults =
-    let faulty = λ (told : IsTrue s.told) (e : ℕ) (h : IsFaulty (table_in t.cells info) info.count cursor.lead cursor.next e).
-    fails_at (table_in s.cells info) info.count lead first cursor (reached told) named e (subst (λ (c : ℕ → ℕ → Cell). IsFaulty c info.count cursor.lead cursor.next e) (table_stays s t info table stays told) h) in
-    FaultsOnly-later s t info fault table stays
-    (λ told e breaks. Unlike (subst (λ (c : ℕ → ℕ → Cell). HasWords c e) (table_stays s t info table stays told) breaks.0) (faulty told e breaks.1))
-    faulty
-    faults
+module _ (s t : State) (info : ChainInfo) (lead : Lead) (table : HasTable s.shape info) (stays : Stays s t None) where
+  -- a fault of the node behind a cursor is one of the list
+  pub list_faults : (first : ℕ) (cursor : Cursor) (fault : Option ChainFault) → IsEntry info.count cursor.next
+      → FaultsOnly t info
+      (λ e. HasWords (table_in t.cells info) e × IsFaulty (table_in t.cells info) info.count cursor.lead cursor.next e)
+      (IsFaulty (table_in t.cells info) info.count cursor.lead cursor.next) fault
+      → FaultsOnly s info
+      (λ e. IsReached (table_in s.cells info) info.count lead first cursor → IsBroken (table_in s.cells info) info.count lead first e)
+      (λ e. IsReached (table_in s.cells info) info.count lead first cursor → FailsAt (table_in s.cells info) info.count lead first e) fault
+  list_faults first cursor fault named faults =
+      let faulty = λ (told : IsTrue s.told) (e : ℕ) (h : IsFaulty (table_in t.cells info) info.count cursor.lead cursor.next e)
+      (reached : IsReached (table_in s.cells info) info.count lead first cursor).
+      fails_at (table_in s.cells info) info.count lead first cursor reached named e
+      (subst (λ (c : ℕ → ℕ → Cell). IsFaulty c info.count cursor.lead cursor.next e) (table_stays s t info table stays told) h) in
+      FaultsOnly-later s t info fault table stays
+      (λ told e breaks reached. Unlike
+      (subst (λ (c : ℕ → ℕ → Cell). HasWords c e) (table_stays s t info table stays told) breaks.0) (faulty told e breaks.1 reached))
+      faulty
+      faults
 
--- the faults of the list, named by a later call
-pub list_faults_later : (s t : State) (info : ChainInfo) (lead : Lead) (first from : ℕ) (fault : Option ChainFault) → from ≡ first → HasTable s.shape info → Stays s t None → FaultsOnly t info (IsBroken (table_in t.cells info) info.count lead from) (FailsAt (table_in t.cells info) info.count lead from) fault → FaultsOnly s info (IsBroken (table_in s.cells info) info.count lead first) (FailsAt (table_in s.cells info) info.count lead first) fault
-list_faults_later s t info lead first from fault same table stays faults =
-    let here : FaultsOnly t info (IsBroken (table_in t.cells info) info.count lead first) (FailsAt (table_in t.cells info) info.count lead first) fault = subst (λ (f : ℕ). FaultsOnly t info (IsBroken (table_in t.cells info) info.count lead f) (FailsAt (table_in t.cells info) info.count lead f) fault) same faults in
-    FaultsOnly-later s t info fault table stays
-    (λ told e. subst (λ (c : ℕ → ℕ → Cell). IsBroken c info.count lead first e) (table_stays s t info table stays told))
-    (λ told e. subst (λ (c : ℕ → ℕ → Cell). FailsAt c info.count lead first e) (table_stays s t info table stays told))
-    here
+  -- what a later call says of a list up to a place, where that place was reached
+  pub said_later : (Q : (ℕ → ℕ → Cell) → ℕ → Type 0) (first : ℕ) (cursor : Cursor) → cursor.first ≡ first
+      → (IsTrue t.told → IsReached (table_in t.cells info) info.count lead cursor.first cursor → Q (table_in t.cells info) cursor.first)
+      → IsTrue s.told → IsReached (table_in s.cells info) info.count lead first cursor → Q (table_in s.cells info) first
+  said_later Q first cursor same says told =
+      let here = subst (λ (c : ℕ → ℕ → Cell). IsReached c info.count lead cursor.first cursor → Q c cursor.first)
+      (table_stays s t info table stays told) (says (stays.space.told told)) in
+      subst (λ (f : ℕ). IsReached (table_in s.cells info) info.count lead f cursor → Q (table_in s.cells info) f) same here
 
--- one more node, read in a later state
-pub reached_step : (s t : State) (info : ChainInfo) (lead : Lead) (first : ℕ) (cursor behind : Cursor) (node : Node) (next : ℕ) → HasTable s.shape info → Stays s t None → (IsTrue s.told → IsReached (table_in s.cells info) info.count lead first cursor) → (IsTrue t.told → IsNode (table_in t.cells info) info.count cursor.lead node next) → next ≤ info.count → node.first ≡ cursor.next → behind.lead ≡ Follows node.first → behind.next ≡ next → behind.passed ≡ cursor.passed + (node.last + 1 - node.first) → IsTrue s.told → IsReached (table_in s.cells info) info.count lead first behind
-reached_step s t info lead first cursor behind node next table stays reached is_node inside starts led named passed told =
-    let here : IsNode (table_in s.cells info) info.count cursor.lead node next = subst (λ (c : ℕ → ℕ → Cell). IsNode c info.count cursor.lead node next) (table_stays s t info table stays told) (is_node (subst IsTrue (sym stays.space.told) told)) in
-    let there : IsNode (table_in s.cells info) info.count cursor.lead node behind.next = subst (λ (n : ℕ). IsNode (table_in s.cells info) info.count cursor.lead node n) (sym named) here in
-    reached_more (table_in s.cells info) info.count lead first cursor behind node (reached told) there (omega arith) starts led passed
+  -- the faults of a list, named by a later call
+  pub list_faults_later : (first : ℕ) (cursor : Cursor) (fault : Option ChainFault) → cursor.first ≡ first
+      → (IsTrue s.told → IsReached (table_in s.cells info) info.count lead first cursor)
+      → FaultsOnly t info
+      (λ e. IsReached (table_in t.cells info) info.count lead cursor.first cursor
+      → IsBroken (table_in t.cells info) info.count lead cursor.first e)
+      (λ e. IsReached (table_in t.cells info) info.count lead cursor.first cursor
+      → FailsAt (table_in t.cells info) info.count lead cursor.first e) fault
+      → FaultsOnly s info (IsBroken (table_in s.cells info) info.count lead first) (FailsAt (table_in s.cells info) info.count lead first) fault
+  list_faults_later first cursor fault same reached =
+      FaultsOnly-later s t info fault table stays
+      (λ told e broken. said_later (λ c f. IsBroken c info.count lead f e) first cursor same (λ _. broken) told (reached told))
+      (λ told e fails. said_later (λ c f. FailsAt c info.count lead f e) first cursor same (λ _. fails) told (reached told))
 
--- a place that was reached is so in a later state
-pub reached_later : (s t : State) (info : ChainInfo) (lead : Lead) (first from : ℕ) (cursor : Cursor) → from ≡ first → HasTable s.shape info → Stays s t None → (IsTrue s.told → IsReached (table_in s.cells info) info.count lead first cursor) → IsTrue t.told → IsReached (table_in t.cells info) info.count lead from cursor
-reached_later s t info lead first from cursor same table stays reached told =
-    let was = subst IsTrue stays.space.told told in
-    let there : IsReached (table_in t.cells info) info.count lead first cursor = subst (λ (c : ℕ → ℕ → Cell). IsReached c info.count lead first cursor) (sym (table_stays s t info table stays was)) (reached was) in
-    subst (λ (f : ℕ). IsReached (table_in t.cells info) info.count lead f cursor) (sym same) there
-
--- a place that was reached in a later state
-pub reached_before : (s t : State) (info : ChainInfo) (lead : Lead) (first from : ℕ) (cursor : Cursor) → from ≡ first → HasTable s.shape info → Stays s t None → (IsTrue t.told → IsReached (table_in t.cells info) info.count lead from cursor) → IsTrue s.told → IsReached (table_in s.cells info) info.count lead first cursor
-reached_before s t info lead first from cursor same table stays reached told =
-    let there : IsReached (table_in s.cells info) info.count lead from cursor = subst (λ (c : ℕ → ℕ → Cell). IsReached c info.count lead from cursor) (table_stays s t info table stays told) (reached (subst IsTrue (sym stays.space.told) told)) in
-    subst (λ (f : ℕ). IsReached (table_in s.cells info) info.count lead f cursor) same there
-
--- the rest of a run that was read in a later state
-pub rest_before : (s t : State) (info : ChainInfo) (lead : Lead) (first from passed pos skipped : ℕ) (run : Run) → from ≡ first → HasTable s.shape info → Stays s t None → (IsTrue t.told → IsRestOfNode (table_in t.cells info) info.count lead from passed run) → passed + skipped ≡ pos → skipped < run.len → IsTrue s.told → IsRestOfNode (table_in s.cells info) info.count lead first pos (record { block = run.block + skipped; len = run.len - skipped })
-rest_before s t info lead first from passed pos skipped run same table stays rest is less told =
-    let there : IsRestOfNode (table_in s.cells info) info.count lead from passed run = subst (λ (c : ℕ → ℕ → Cell). IsRestOfNode c info.count lead from passed run) (table_stays s t info table stays told) (rest (subst IsTrue (sym stays.space.told) told)) in
-    let here : IsRestOfNode (table_in s.cells info) info.count lead first passed run = subst (λ (f : ℕ). IsRestOfNode (table_in s.cells info) info.count lead f passed run) same there in
-    subst (λ (p : ℕ). IsRestOfNode (table_in s.cells info) info.count lead first p (record { block = run.block + skipped; len = run.len - skipped })) is (rest_of_run (table_in s.cells info) info.count lead first passed skipped run here less)
+  -- the rest of a run that was read in a later state
+  pub rest_later : (first : ℕ) (cursor : Cursor) (pos skipped : ℕ) (run : Run) → cursor.first ≡ first
+      → (IsTrue t.told → IsReached (table_in t.cells info) info.count lead cursor.first cursor
+      → IsRestOfNode (table_in t.cells info) info.count lead cursor.first cursor.passed run)
+      → cursor.passed + skipped ≡ pos → skipped < run.len → IsTrue s.told → IsReached (table_in s.cells info) info.count lead first cursor
+      → IsRestOfNode (table_in s.cells info) info.count lead first pos (record { block = run.block + skipped; len = run.len - skipped })
+  rest_later first cursor pos skipped run same rest is less told reached =
+      let here = said_later (λ c f. IsRestOfNode c info.count lead f cursor.passed run) first cursor same rest told reached in
+      let part : Run = record { block = run.block + skipped; len = run.len - skipped } in
+      subst (λ (p : ℕ). IsRestOfNode (table_in s.cells info) info.count lead first p part) is
+      (rest_of_run (table_in s.cells info) info.count lead first cursor.passed skipped run here less)

@@ -16,7 +16,7 @@ module _ (base mid : State) (info : ChainInfo) (first blocks at most place n : �
   told_below told = let parts = and_parts base.told (is_shown base info first blocks) told in parts.0
 
   told_mid : IsTrue (shown_state info first blocks base).told → IsTrue mid.told
-  told_mid told = subst IsTrue (sym stays.space.told) (told_below told)
+  told_mid told = stays.space.told (told_below told)
 
   -- a cell of the run
   run_cell : IsTrue (shown_state info first blocks base).told → (k : ℕ) → k < n → (shown_state info first blocks base).cells (at + k) ≡ mid.cells (place + k)

@@ -79,12 +79,6 @@ pub record HasBlocks (base : State) (info : ChainInfo) (first blocks : ℕ) : Ty
   pub enough : blocks ≤ len
   pub few : len ≤ info.count
 
--- what is needed of the base and, where the cells are told, of the chain
-pub record CanShow (base : State) (info : ChainInfo) (first blocks : ℕ) : Type 0 where
-  pub table : HasTable base.shape info
-  pub fits : base.shape.size + blocks * info.block < 2 ^ 64
-  pub chain : IsTrue base.told → HasBlocks base info first blocks
-
 -- Where the bytes from `at` on lie in the base, and how many lie there in one piece: as many as are asked for, up to the
 -- end of the base or of a node.
 pub record IsLocated (base : State) (info : ChainInfo) (first blocks at most : ℕ) (result : Result (ℕ × ℕ) Bad) : Type 0 where

@@ -4,12 +4,11 @@ ghost use Rattle.std.specs.Prelude.{◌≡◌, ℕ, IsTrue, List, refl};
 ghost use Rattle.std.proofs.Common.{◌∙◌, sym};
 ghost use Rattle.std.proofs.lemmas.Bool.{false≢true};
 ghost use Rattle.save_bytes.specs.State.{State};
-ghost use Rattle.save_bytes.specs.Spots.{Frame};
 ghost use Rattle.alloc_chain.specs.declared.node.Lead.TheVariants.{Opens};
 ghost use Rattle.alloc_chain.specs.Table.{table_in};
 ghost use Rattle.alloc_chain.specs.Chains.{IsLinked};
-ghost use Rattle.alloc_chain.specs.Shown.{chain_list, place_of, ShownLands, CanShow};
-ghost use Rattle.alloc_chain.specs.ShownLaws.{with_blocks, shown_size_fits, shown_told, shown_twins, shown_shape};
+ghost use Rattle.alloc_chain.specs.Shown.{chain_list, HasBlocks, place_of, ShownLands};
+ghost use Rattle.alloc_chain.specs.ShownLaws.{HasRoom, with_blocks, shown_size_fits, shown_told, shown_twins, shown_shape};
 ghost use Rattle.alloc_chain.specs.Behind.{seen, IsSpaceOver};
 
 use crate::info::ChainInfo;
@@ -27,11 +26,12 @@ pub struct ChainSpace<'a, S: Space> {
 impl<'a, S: Space> ChainSpace<'a, S> {
     /// The base, and behind it the first `blocks` blocks of the chain that begins with entry `first`.
     pub fn new(base: &'a mut S, info: ChainInfo, first: u32, blocks: u32) -> ChainSpace<'a, S>
-        requires { CanShow (S.state base.old) info first blocks }
+        requires { HasRoom (S.state base.old).shape info blocks }
         ensures holds { IsSpaceOver result base.entry info first blocks }
         ensures sound { IsTrue (seen S.state result).shape.sound }
-        ensures told { (seen S.state result).told ≡ (S.state base.old).told }
-        ensures chain { IsTrue (S.state base.old).told → (list : List ℕ)
+        ensures told { HasBlocks (S.state base.old) info first blocks
+            → (seen S.state result).told ≡ (S.state base.old).told }
+        ensures chain { HasBlocks (S.state base.old) info first blocks → (list : List ℕ)
             → IsLinked (table_in (S.state base.old).cells info) info.count Opens first list
             → chain_list (S.state base.old) info first ≡ list }
     {
@@ -62,10 +62,14 @@ impl<S: Space> Space for ChainSpace<'_, S> {
 
     ghost keeps_join = { λ spot s t u h k. (k.0 ∙ h.0, k.1 ∙ h.1, S.keeps_join spot s.base.now t.base.now u.base.now h.2 k.2) };
 
+    ghost keeps_hold = { λ s t h. (h.0, h.1, S.keeps_hold s.base.now t.base.now h.2) };
+
     ghost keeps_shape = { λ s t h. shown_shape s.shown t.shown (S.state s.base.now) (S.state t.base.now) h.1
         (S.keeps_shape s.base.now t.base.now h.2) };
 
     ghost keeps_cells = { λ s t sound single told still kept. absurd (false≢true (sym single)) };
+
+    ghost keeps_lands = { λ s t sound single. absurd (false≢true (sym single)) };
 
     fn len(&self) -> u64 {
         self.base.len().saturating_add(shown_len(self.shown))

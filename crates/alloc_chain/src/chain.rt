@@ -52,15 +52,14 @@ impl<'a, S: Space> Chain<'a, S> {
 
     /// How many blocks the chain has that begins with entry `first`.
     pub fn length(&mut self, first: u32) -> Result<u32, ChainFault>
-        requires table { HasTable (below S.state self.old).shape self.old.info }
-        requires first { IsTrue (below S.state self.old).told → IsEntry self.old.info.count first }
+        requires { HasTable (below S.state self.old).shape self.old.info }
         ensures length { IsTrue (below S.state self.old).told
             → IfOk result (HasLength (table_of S.state self.old) self.old.info.count Opens first) }
         ensures small { IfOk result (λ n. n ≤ self.old.info.count) }
         ensures exact { IsTrue (below S.state self.old).told → (list : List ℕ)
             → IsChain (below S.state self.old) self.old.info first list → DoneUnlessDisk result (λ n. n ≡ length list) }
-        ensures faults { let table = table_of S.state self.old in
-            FaultsOnly (below S.state self.old) self.old.info (IsBroken table self.old.info.count Opens first)
+        ensures faults { let table = table_of S.state self.old in FaultsOnly (below S.state self.old) self.old.info
+            (λ e. IsEntry self.old.info.count first → IsBroken table self.old.info.count Opens first e)
             (FailsAt table self.old.info.count Opens first) (result_err result) }
         ensures reads { Reads S.state S.keeps S.lands self.old.base.now self.new.base.now (refusal_of (result_err result)) }
         ensures same { SameChain self.old self.new }
@@ -70,20 +69,19 @@ impl<'a, S: Space> Chain<'a, S> {
     }
 
     /// The data blocks from block number `pos` of the chain on that lie side by side in one node: the rest of the node
-    /// that has the block. The chain begins with entry `first`, and has more than `pos` blocks.
+    /// that has the block. The chain begins with entry `first`; `Broken` comes where it has no such block too.
     pub fn run_at(&mut self, first: u32, pos: u32) -> Result<Run, ChainFault>
-        requires table { HasTable (below S.state self.old).shape self.old.info }
-        requires first { IsTrue (below S.state self.old).told → IsEntry self.old.info.count first }
-        requires pos { IsTrue (below S.state self.old).told
-            → HasPosition (table_of S.state self.old) self.old.info.count Opens first pos }
+        requires { HasTable (below S.state self.old).shape self.old.info }
         ensures some { IfOk result (λ run. 1 ≤ run.len) }
         ensures inside { IfOk result (λ run. run.block + run.len ≤ self.old.info.count) }
         ensures run { IsTrue (below S.state self.old).told
             → IfOk result (IsRestOfNode (table_of S.state self.old) self.old.info.count Opens first pos) }
         ensures exact { IsTrue (below S.state self.old).told → (list : List ℕ)
-            → IsChain (below S.state self.old) self.old.info first list → DoneUnlessDisk result (IsRunIn list pos) }
-        ensures faults { let table = table_of S.state self.old in
-            FaultsOnly (below S.state self.old) self.old.info (IsBroken table self.old.info.count Opens first)
+            → IsChain (below S.state self.old) self.old.info first list → pos < length list
+            → DoneUnlessDisk result (IsRunIn list pos) }
+        ensures faults { let table = table_of S.state self.old in FaultsOnly (below S.state self.old) self.old.info
+            (λ e. IsEntry self.old.info.count first → HasPosition table self.old.info.count Opens first pos
+            → IsBroken table self.old.info.count Opens first e)
             (FailsAt table self.old.info.count Opens first) (result_err result) }
         ensures reads { Reads S.state S.keeps S.lands self.old.base.now self.new.base.now (refusal_of (result_err result)) }
         ensures same { SameChain self.old self.new }
@@ -97,23 +95,24 @@ impl<'a, S: Space> Chain<'a, S> {
     pub fn run_behind(&mut self, cursor: Cursor) -> Result<(Run, Cursor), ChainFault>
         requires table { HasTable (below S.state self.old).shape self.old.info }
         requires not_at_end { ¬ IsAtEnd cursor }
-        requires place { IsTrue (below S.state self.old).told
-            → IsPlaceIn (table_of S.state self.old) self.old.info.count cursor }
         ensures some { IfOk result (λ step. 1 ≤ step.0.len) }
         ensures inside { IfOk result (λ step. step.0.block + step.0.len ≤ self.old.info.count) }
         ensures first { IfOk result (λ step. step.1.first ≡ cursor.first) }
         ensures passed { IfOk result (λ step. step.1.passed ≡ cursor.passed + step.0.len) }
         ensures bounded { IfOk result (λ step. step.1.passed ≤ self.old.info.count) }
-        ensures place { IsTrue (below S.state self.old).told
-            → IfOk result (λ step. IsPlaceIn (table_of S.state self.old) self.old.info.count step.1) }
+        ensures place { let table = table_of S.state self.old in IsTrue (below S.state self.old).told
+            → IsPlaceIn table self.old.info.count cursor → IfOk result (λ step. IsPlaceIn table self.old.info.count step.1) }
         ensures run { let table = table_of S.state self.old in IsTrue (below S.state self.old).told
+            → IsPlaceIn table self.old.info.count cursor
             → IfOk result (λ step. IsRestOfNode table self.old.info.count Opens cursor.first cursor.passed step.0) }
-        ensures exact { IsTrue (below S.state self.old).told → (list : List ℕ)
+        ensures exact { IsTrue (below S.state self.old).told
+            → IsPlaceIn (table_of S.state self.old) self.old.info.count cursor → (list : List ℕ)
             → IsChain (below S.state self.old) self.old.info cursor.first list
             → DoneUnlessDisk result (λ step. IsRunIn list cursor.passed step.0) }
-        ensures faults { let table = table_of S.state self.old in
-            FaultsOnly (below S.state self.old) self.old.info (IsBroken table self.old.info.count Opens cursor.first)
-            (FailsAt table self.old.info.count Opens cursor.first) (result_err result) }
+        ensures faults { let table = table_of S.state self.old in FaultsOnly (below S.state self.old) self.old.info
+            (λ e. IsPlaceIn table self.old.info.count cursor → IsBroken table self.old.info.count Opens cursor.first e)
+            (λ e. IsPlaceIn table self.old.info.count cursor → FailsAt table self.old.info.count Opens cursor.first e)
+            (result_err result) }
         ensures reads { Reads S.state S.keeps S.lands self.old.base.now self.new.base.now (refusal_of (result_err result)) }
         ensures same { SameChain self.old self.new }
     {

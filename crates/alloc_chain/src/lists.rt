@@ -61,16 +61,15 @@ pub(crate) fn chain_len<S: Space>(
     info: ChainInfo,
     first: u32,
 ) -> Result<u32, ChainFault>
-    requires table { HasTable (S.state base.old).shape info }
-    requires first { IsTrue (S.state base.old).told → IsEntry info.count first }
+    requires { HasTable (S.state base.old).shape info }
     ensures length { IsTrue (S.state base.old).told
         → IfOk result (HasLength (table_in (S.state base.old).cells info) info.count Opens first) }
     ensures small { IfOk result (λ n. n ≤ info.count) }
     ensures exact { IsTrue (S.state base.old).told → (list : List ℕ)
         → IsChain (S.state base.old) info first list → DoneUnlessDisk result (λ n. n ≡ length list) }
-    ensures faults { let table = table_in (S.state base.old).cells info in
-        FaultsOnly (S.state base.old) info (IsBroken table info.count Opens first) (FailsAt table info.count Opens first)
-        (result_err result) }
+    ensures faults { let table = table_in (S.state base.old).cells info in FaultsOnly (S.state base.old) info
+        (λ e. IsEntry info.count first → IsBroken table info.count Opens first e)
+        (FailsAt table info.count Opens first) (result_err result) }
     ensures reads { Reads S.state S.keeps S.lands base.old base.new (refusal_of (result_err result)) }
 {
     if first > info.count {
@@ -86,19 +85,16 @@ pub(crate) fn chain_run<S: Space>(
     first: u32,
     pos: u32,
 ) -> Result<Run, ChainFault>
-    requires table { HasTable (S.state base.old).shape info }
-    requires first { IsTrue (S.state base.old).told → IsEntry info.count first }
-    requires pos { IsTrue (S.state base.old).told
-        → HasPosition (table_in (S.state base.old).cells info) info.count Opens first pos }
+    requires { HasTable (S.state base.old).shape info }
     ensures some { IfOk result (λ run. 1 ≤ run.len) }
     ensures inside { IfOk result (λ run. run.block + run.len ≤ info.count) }
     ensures run { IsTrue (S.state base.old).told
         → IfOk result (IsRestOfNode (table_in (S.state base.old).cells info) info.count Opens first pos) }
     ensures exact { IsTrue (S.state base.old).told → (list : List ℕ)
-        → IsChain (S.state base.old) info first list → DoneUnlessDisk result (IsRunIn list pos) }
-    ensures faults { let table = table_in (S.state base.old).cells info in
-        FaultsOnly (S.state base.old) info (IsBroken table info.count Opens first) (FailsAt table info.count Opens first)
-        (result_err result) }
+        → IsChain (S.state base.old) info first list → pos < length list → DoneUnlessDisk result (IsRunIn list pos) }
+    ensures faults { let table = table_in (S.state base.old).cells info in FaultsOnly (S.state base.old) info
+        (λ e. IsEntry info.count first → HasPosition table info.count Opens first pos → IsBroken table info.count Opens first e)
+        (FailsAt table info.count Opens first) (result_err result) }
     ensures reads { Reads S.state S.keeps S.lands base.old base.new (refusal_of (result_err result)) }
 {
     if first > info.count {
@@ -119,21 +115,22 @@ pub(crate) fn next_run<S: Space>(
 ) -> Result<(Run, Cursor), ChainFault>
     requires table { HasTable (S.state base.old).shape info }
     requires not_at_end { ¬ IsAtEnd cursor }
-    requires place { IsTrue (S.state base.old).told → IsPlaceIn (table_in (S.state base.old).cells info) info.count cursor }
     ensures some { IfOk result (λ step. 1 ≤ step.0.len) }
     ensures inside { IfOk result (λ step. step.0.block + step.0.len ≤ info.count) }
     ensures first { IfOk result (λ step. step.1.first ≡ cursor.first) }
     ensures passed { IfOk result (λ step. step.1.passed ≡ cursor.passed + step.0.len) }
     ensures bounded { IfOk result (λ step. step.1.passed ≤ info.count) }
-    ensures place { IsTrue (S.state base.old).told
-        → IfOk result (λ step. IsPlaceIn (table_in (S.state base.old).cells info) info.count step.1) }
+    ensures place { let table = table_in (S.state base.old).cells info in IsTrue (S.state base.old).told
+        → IsPlaceIn table info.count cursor → IfOk result (λ step. IsPlaceIn table info.count step.1) }
     ensures run { let table = table_in (S.state base.old).cells info in IsTrue (S.state base.old).told
+        → IsPlaceIn table info.count cursor
         → IfOk result (λ step. IsRestOfNode table info.count Opens cursor.first cursor.passed step.0) }
-    ensures exact { IsTrue (S.state base.old).told → (list : List ℕ)
-        → IsChain (S.state base.old) info cursor.first list → DoneUnlessDisk result (λ step. IsRunIn list cursor.passed step.0) }
-    ensures faults { let table = table_in (S.state base.old).cells info in
-        FaultsOnly (S.state base.old) info (IsBroken table info.count Opens cursor.first)
-        (FailsAt table info.count Opens cursor.first) (result_err result) }
+    ensures exact { let table = table_in (S.state base.old).cells info in IsTrue (S.state base.old).told
+        → IsPlaceIn table info.count cursor → (list : List ℕ) → IsChain (S.state base.old) info cursor.first list
+        → DoneUnlessDisk result (λ step. IsRunIn list cursor.passed step.0) }
+    ensures faults { let table = table_in (S.state base.old).cells info in FaultsOnly (S.state base.old) info
+        (λ e. IsPlaceIn table info.count cursor → IsBroken table info.count Opens cursor.first e)
+        (λ e. IsPlaceIn table info.count cursor → FailsAt table info.count Opens cursor.first e) (result_err result) }
     ensures reads { Reads S.state S.keeps S.lands base.old base.new (refusal_of (result_err result)) }
 {
     let count = info.count;

@@ -78,10 +78,8 @@ fn shared_entry<S: Space>(
     requires next { end.next ≤ info.count }
     requires passed { end.passed ≤ 2 * info.count }
     requires many { info.count < end.passed }
-    requires reached { IsTrue (S.state base.old).told
-        → IsReached (table_in (S.state base.old).cells info) info.count lead first end }
-    ensures shared { IsTrue (S.state base.old).told
-        → IfOk result (IsShared (table_in (S.state base.old).cells info) info.count lead first) }
+    ensures shared { let table = table_in (S.state base.old).cells info in IsTrue (S.state base.old).told
+        → IsReached table info.count lead first end → IfOk result (IsShared table info.count lead first) }
     ensures faults { let table = table_in (S.state base.old).cells info in
         FaultsOnly (S.state base.old) info (IsBroken table info.count lead first) (FailsAt table info.count lead first)
         (result_err result) }
@@ -118,11 +116,9 @@ pub(crate) fn shared_fault<S: Space>(
     requires next { end.next ≤ info.count }
     requires passed { end.passed ≤ 2 * info.count }
     requires many { info.count < end.passed }
-    requires reached { IsTrue (S.state base.old).told
-        → IsReached (table_in (S.state base.old).cells info) info.count lead first end }
-    ensures faults { let table = table_in (S.state base.old).cells info in
-        FaultsOnly (S.state base.old) info (IsBroken table info.count lead first) (FailsAt table info.count lead first)
-        (Some result) }
+    ensures faults { let table = table_in (S.state base.old).cells info in FaultsOnly (S.state base.old) info
+        (λ e. IsReached table info.count lead first end → IsBroken table info.count lead first e)
+        (FailsAt table info.count lead first) (Some result) }
     ensures reads { Reads S.state S.keeps S.lands base.old base.new (refusal_of (Some result)) }
 {
     match shared_entry(base, info, lead, first, end) {

@@ -1,9 +1,9 @@
 //! A space behind which the bytes of a chain's blocks lie once more.
 
-ghost use Rattle.std.specs.Prelude.{◌≡◌, ℕ, ◌+◌, ◌-◌, ◌*◌, ◌^◌, ◌<◌, ◌≤◌, IsTrue, List, length, take, IfOk, OnOk, IfSome, IsSomeAnd, MatchResult, Some, None};
+ghost use Rattle.std.specs.Prelude.{◌≡◌, ℕ, ◌+◌, ◌-◌, ◌*◌, ◌^◌, ◌<◌, ◌≤◌, IsTrue, IsFalse, List, length, take, IfOk, IfSome, IsSomeAnd, MatchResult, Some, None};
 ghost use Rattle.std.specs.Result.{result_err};
 ghost use Rattle.save_bytes.specs.Cells.{IsUnspoilt};
-ghost use Rattle.save_bytes.specs.State.{IsInside, IsWritable};
+ghost use Rattle.save_bytes.specs.State.{IsInside, IsWritable, CanPut};
 ghost use Rattle.save_bytes.specs.Answers.{IsReady};
 ghost use Rattle.save_bytes.specs.Refusals.{NeverDamaged};
 ghost use Rattle.save_bytes.specs.Puts.{Puts};
@@ -11,6 +11,7 @@ ghost use Rattle.save_bytes.specs.Reads.{Reads};
 ghost use Rattle.save_bytes.specs.Spots.{MovesOnly};
 ghost use Rattle.alloc_chain.specs.Runs.{IsRunIn};
 ghost use Rattle.alloc_chain.specs.Shown.{chain_list, is_shown, place_of, can_show, shown_state, ShownLands, IsLocated};
+ghost use Rattle.alloc_chain.specs.ShownLaws.{with_blocks};
 
 use crate::info::{ChainInfo, Run};
 use crate::node::Lead;
@@ -144,19 +145,15 @@ fn is_good<S: Space>(base: &mut S, shown: Shown) -> Result<bool, Bad>
 
 // Puts the front of some bytes at `at`, as many as lie there in one piece of the base, and says how many.
 fn put_run<S: Space>(base: &mut S, shown: Shown, at: u64, bytes: &[u8]) -> Result<usize, Bad>
-    requires writable { IsWritable (shown_state shown.info shown.first shown.blocks (S.state base.old)) at (length bytes.now) }
+    requires writable { IsWritable (with_blocks shown (S.state base.old)).shape at (length bytes.now) }
     requires some { 1 ≤ length bytes.now }
-    requires good { IsTrue (S.state base.old).told → IsTrue (is_shown (S.state base.old) shown.info shown.first shown.blocks) }
     ensures count { IfOk result (λ n. (1 ≤ n) × (n ≤ length bytes.now)) }
-    ensures never { let old = shown_state shown.info shown.first shown.blocks (S.state base.old) in IsTrue old.told
+    ensures never { let old = with_blocks shown (S.state base.old) in CanPut old at (length bytes.now)
         → ((k : ℕ) → k < length bytes.now → IsUnspoilt (old.cells (at + k))) → NeverDamaged (result_err result) }
     ensures plain { IsTrue (S.state base.old).shape.plain → NeverDamaged (result_err result) }
-    ensures good { IsTrue (S.state base.new).told
-        → OnOk result (IsTrue (is_shown (S.state base.new) shown.info shown.first shown.blocks)) }
-    ensures puts { let states = shown_state shown.info shown.first shown.blocks in
-        MatchResult result (λ n. Puts (states (S.state base.old)) at (take n bytes.now) (states (S.state base.new)) None)
-        (λ bad. Puts (states (S.state base.old)) at bytes.now (states (S.state base.new)) (Some bad)) }
-    ensures moves { let was = shown_state shown.info shown.first shown.blocks (S.state base.old) in
+    ensures puts { let old = with_blocks shown (S.state base.old) in let new = with_blocks shown (S.state base.new) in
+        MatchResult result (λ n. Puts old at (take n bytes.now) new None) (λ bad. Puts old at bytes.now new (Some bad)) }
+    ensures moves { let was = with_blocks shown (S.state base.old) in
         let lands = ShownLands S.state S.lands shown.info shown.first in
         MatchResult result (λ n. MovesOnly S.keeps lands was base.old at n base.new None)
         (λ bad. MovesOnly S.keeps lands was base.old at (length bytes.now) base.new (Some bad)) }
@@ -172,20 +169,34 @@ fn put_run<S: Space>(base: &mut S, shown: Shown, at: u64, bytes: &[u8]) -> Resul
     }
 }
 
-// Puts bytes at `at`, where none of the places is spoilt.
-fn put_runs<S: Space>(base: &mut S, shown: Shown, at: u64, bytes: &[u8]) -> Result<(), Bad>
-    requires writable { IsWritable (shown_state shown.info shown.first shown.blocks (S.state base.old)) at (length bytes.now) }
-    requires good { IsTrue (S.state base.old).told → IsTrue (is_shown (S.state base.old) shown.info shown.first shown.blocks) }
-    requires unspoilt { let old = shown_state shown.info shown.first shown.blocks (S.state base.old) in IsTrue old.told
-        → (k : ℕ) → k < length bytes.now → IsUnspoilt (old.cells (at + k)) }
-    ensures never { IsTrue (shown_state shown.info shown.first shown.blocks (S.state base.old)).told → NeverDamaged (result_err result) }
+/// Puts bytes at `at`. It is refused as `ready_runs` is, and then changes nothing. A chain that is not as it should be
+/// gets no bytes.
+pub(crate) fn put_shown<S: Space>(
+    base: &mut S,
+    shown: Shown,
+    at: u64,
+    bytes: &[u8],
+) -> Result<(), Bad>
+    requires { IsWritable (with_blocks shown (S.state base.old)).shape at (length bytes.now) }
+    ensures ready { let old = with_blocks shown (S.state base.old) in
+        CanPut old at (length bytes.now) → IsReady old at (length bytes.now) (result_err result) }
     ensures plain { IsTrue (S.state base.old).shape.plain → NeverDamaged (result_err result) }
-    ensures puts { let states = shown_state shown.info shown.first shown.blocks in
-        Puts (states (S.state base.old)) at bytes.now (states (S.state base.new)) (result_err result) }
-    ensures moves { let was = shown_state shown.info shown.first shown.blocks (S.state base.old) in
-        MovesOnly S.keeps (ShownLands S.state S.lands shown.info shown.first) was base.old at (length bytes.now) base.new
-        (result_err result) }
+    ensures puts { Puts (with_blocks shown (S.state base.old)) at bytes.now (with_blocks shown (S.state base.new)) (result_err result) }
+    ensures moves { MovesOnly S.keeps (ShownLands S.state S.lands shown.info shown.first) (with_blocks shown (S.state base.old))
+        base.old at (length bytes.now) base.new (result_err result) }
+    ensures broken { IsTrue (S.state base.old).told
+        → IsFalse (is_shown (S.state base.old) shown.info shown.first shown.blocks)
+        → Reads S.state S.keeps S.lands base.old base.new (result_err result) }
 {
+    match is_good(base, shown) {
+        Ok(true) => {}
+        Ok(false) => return Ok(()),
+        Err(bad) => return Err(bad),
+    }
+    match ready_runs(base, shown, at, bytes.len() as u64) {
+        Ok(()) => {}
+        Err(bad) => return Err(bad),
+    }
     let mut done = 0;
     while done < bytes.len() {
         match put_run(base, shown, at + done as u64, &bytes[done..]) {
@@ -194,31 +205,4 @@ fn put_runs<S: Space>(base: &mut S, shown: Shown, at: u64, bytes: &[u8]) -> Resu
         }
     }
     Ok(())
-}
-
-/// Puts bytes at `at`. It is refused as `ready_runs` is, and then changes nothing.
-pub(crate) fn put_shown<S: Space>(
-    base: &mut S,
-    shown: Shown,
-    at: u64,
-    bytes: &[u8],
-) -> Result<(), Bad>
-    requires { IsWritable (shown_state shown.info shown.first shown.blocks (S.state base.old)) at (length bytes.now) }
-    ensures ready { IsReady (shown_state shown.info shown.first shown.blocks (S.state base.old)) at (length bytes.now) (result_err result) }
-    ensures puts { let states = shown_state shown.info shown.first shown.blocks in
-        Puts (states (S.state base.old)) at bytes.now (states (S.state base.new)) (result_err result) }
-    ensures moves { let was = shown_state shown.info shown.first shown.blocks (S.state base.old) in
-        MovesOnly S.keeps (ShownLands S.state S.lands shown.info shown.first) was base.old at (length bytes.now) base.new
-        (result_err result) }
-{
-    // A chain that is not as it should be stays so: else a put could make it good, and its bytes told.
-    match is_good(base, shown) {
-        Ok(true) => {}
-        Ok(false) => return Ok(()),
-        Err(bad) => return Err(bad),
-    }
-    match ready_runs(base, shown, at, bytes.len() as u64) {
-        Ok(()) => put_runs(base, shown, at, bytes),
-        Err(bad) => Err(bad),
-    }
 }

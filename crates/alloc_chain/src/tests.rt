@@ -1,15 +1,10 @@
-ghost use Rattle.std.specs.Prelude.{refl, ◌≡◌, ℕ, ◌+◌, ◌*◌, ◌^◌, ◌<◌, ◌≤◌, false, length, IsTrue};
-ghost use Rattle.std.proofs.Common.{◌∙◌};
-ghost use Rattle.std.proofs.lemmas.Bool.{false≢true};
-ghost use Rattle.std.specs.Result.{result_err};
-ghost use Rattle.save_bytes.specs.State.{State, IsInside, IsWritable};
+ghost use Rattle.std.specs.Prelude.{◌≡◌, ◌+◌, ◌*◌, ◌≤◌, length};
 ghost use Rattle.save_bytes.specs.Spots.{Frame};
-ghost use Rattle.save_bytes.specs.Puts.{Puts};
-ghost use Rattle.alloc_chain.specs.Table.{HasTable, IsEntry};
+ghost use Rattle.alloc_chain.specs.Table.{HasTable};
 ghost use Rattle.alloc_chain.specs.Held.{below, SameChain};
 
 use super::*;
-use save_bytes::{Bad, Floor, MemSpace, Space, set_u32, space_copy};
+use save_bytes::{Bad, MemSpace, Space, set_u32, space_copy};
 use std::test::Fail;
 
 /// The flag of a word.
@@ -38,53 +33,6 @@ const THOUSAND: ChainInfo = ChainInfo {
     region_at: 0,
     block: 8,
 };
-
-// A space that tells nothing of its cells.
-#[derive(Drop)]
-struct Untold<'a, F> {
-    base: &'a mut F,
-}
-
-impl<F: Floor> Space for Untold<'_, F> {
-    ghost state = { λ v. record (F.state v.base.now) { told = false } };
-
-    ghost keeps = { λ spot s t. (t.base.ghost_name ≡ s.base.ghost_name) × F.keeps spot s.base.now t.base.now };
-
-    ghost lands = { λ v. F.lands v.base.now };
-
-    ghost size_fits = { λ v. F.size_fits v.base.now };
-
-    ghost plain_bytes = { λ v plain told. absurd (false≢true told) };
-
-    ghost no_twins = { λ v single. record { apart = (F.no_twins v.base.now single).apart; free = (F.no_twins v.base.now single).free } };
-
-    ghost keeps_same = { λ spot v. (refl, F.keeps_same spot v.base.now) };
-
-    ghost keeps_join = { λ spot s t u h k. (k.0 ∙ h.0, F.keeps_join spot s.base.now t.base.now u.base.now h.1 k.1) };
-
-    ghost keeps_shape = { λ s t h. F.keeps_shape s.base.now t.base.now h.1 };
-
-    ghost keeps_cells = { λ s t sound single told. absurd (false≢true told) };
-
-    fn len(&self) -> u64 {
-        self.base.len()
-    }
-
-    fn piece(&mut self, at: u64, most: usize) -> Result<&[u8], Bad> {
-        let base = &mut *self.base;
-        base.piece(at, most)
-    }
-
-    fn ready(&mut self, at: u64, n: u64) -> Result<(), Bad> {
-        let base = &mut *self.base;
-        base.ready(at, n)
-    }
-
-    fn put(&mut self, at: u64, bytes: &[u8]) -> Result<(), Bad> {
-        let base = &mut *self.base;
-        base.put(at, bytes)
-    }
-}
 
 // Sets the two words of an entry of a table that begins at 0.
 fn set_entry(bytes: &mut [u8], entry: usize, u: u32, v: u32)
@@ -132,8 +80,7 @@ fn counts(bytes: &mut [u8]) -> (Result<u32, ChainFault>, Result<u32, ChainFault>
 
 // The run that has a block of a chain, where the chain has so many.
 fn run_of<S: Space>(chain: &mut Chain<S>, first: u32, pos: u32) -> Result<Option<Run>, ChainFault>
-    requires table { HasTable (below S.state chain.old).shape chain.old.info }
-    requires first { IsTrue (below S.state chain.old).told → IsEntry chain.old.info.count first }
+    requires { HasTable (below S.state chain.old).shape chain.old.info }
     ensures same { SameChain chain.old chain.new }
     ensures frame { S.keeps Frame chain.old.base.now chain.new.base.now }
 {
@@ -161,6 +108,17 @@ fn a_chain_of_two_nodes_has_their_blocks(rt: HostRuntime) -> Result<(), Fail> {
         assert_eq!(rt; run_of(&mut chain, 3, pos)?, want, "from {pos}");
     }
     Ok(())
+}
+
+#[test]
+fn a_chain_has_no_run_behind_its_end(rt: HostRuntime) {
+    let mut bytes = two_nodes();
+    for (first, pos) in [(3, 4), (3, 9), (10, 0)] {
+        let mut space = MemSpace::new(&mut bytes, 16);
+        let mut chain = Chain::new(&mut space, NINE);
+        let want = Err(ChainFault::Broken { entry: first });
+        assert_eq!(rt; chain.run_at(first, pos), want);
+    }
 }
 
 #[test]
@@ -196,9 +154,7 @@ fn the_flag_of_the_first_free_node_is_not_looked_at(rt: HostRuntime) -> Result<(
 }
 
 // The answer on a chain of the table of 9 entries with some entries set.
-fn length_with(entries: &[(usize, u32, u32)], first: u32) -> Result<u32, ChainFault>
-    requires { IsEntry 9 first }
-{
+fn length_with(entries: &[(usize, u32, u32)], first: u32) -> Result<u32, ChainFault> {
     let mut bytes = [0; 116];
     for (entry, u, v) in entries {
         if *entry <= 9 {
@@ -287,8 +243,7 @@ fn two_free_nodes_that_name_each_other_are_broken(rt: HostRuntime) {
 
 // How many blocks the runs of a chain have, from front to end, and how many runs there are. At most 1,000 are read.
 fn by_runs<S: Space>(chain: &mut Chain<S>, first: u32) -> Result<(u64, u32), ChainFault>
-    requires table { HasTable (below S.state chain.old).shape chain.old.info }
-    requires first { IsEntry chain.old.info.count first }
+    requires { HasTable (below S.state chain.old).shape chain.old.info }
 {
     let mut place = Cursor::of_chain(first);
     for runs in 0..1000 {
@@ -327,8 +282,7 @@ fn shown_bytes(bytes: &mut [u8], out: &mut [u8]) -> Result<u64, Bad>
     requires out { length out.old ≤ 16 }
 {
     let mut memory = MemSpace::new(bytes, 16);
-    let mut base = Untold { base: &mut memory };
-    let mut space = ChainSpace::new(&mut base, NINE, 3, 4);
+    let mut space = ChainSpace::new(&mut memory, NINE, 3, 4);
     space_copy(&mut space, 116, out)?;
     Ok(space.len())
 }
@@ -340,8 +294,7 @@ fn put_shown_bytes(bytes: &mut [u8], at: u64, put: &[u8]) -> Result<(), Bad>
     ensures len { length bytes.new ≡ 116 }
 {
     let mut memory = MemSpace::new(bytes, 16);
-    let mut base = Untold { base: &mut memory };
-    let mut space = ChainSpace::new(&mut base, NINE, 3, 4);
+    let mut space = ChainSpace::new(&mut memory, NINE, 3, 4);
     space.ready(at, put.len() as u64)?;
     space.put(at, put)
 }

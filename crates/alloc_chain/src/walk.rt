@@ -106,8 +106,6 @@ pub(crate) fn advance<S: Space>(
     requires next { IsEntry info.count cursor.next }
     requires first { cursor.first ≤ info.count }
     requires passed { cursor.passed ≤ info.count }
-    requires reached { IsTrue (S.state base.old).told
-        → IsReached (table_in (S.state base.old).cells info) info.count lead cursor.first cursor }
     ensures some { IfOk result (λ step. 1 ≤ step.0.len) }
     ensures inside { IfOk result (λ step. step.0.block + step.0.len ≤ info.count) }
     ensures first { IfOk result (λ step. step.1.first ≡ cursor.first) }
@@ -115,12 +113,15 @@ pub(crate) fn advance<S: Space>(
     ensures passed { IfOk result (λ step. step.1.passed ≡ cursor.passed + step.0.len) }
     ensures bounded { IfOk result (λ step. step.1.passed ≤ info.count) }
     ensures reached { let table = table_in (S.state base.old).cells info in IsTrue (S.state base.old).told
+        → IsReached table info.count lead cursor.first cursor
         → IfOk result (λ step. IsReached table info.count lead cursor.first step.1) }
     ensures run { let table = table_in (S.state base.old).cells info in IsTrue (S.state base.old).told
+        → IsReached table info.count lead cursor.first cursor
         → IfOk result (λ step. IsRestOfNode table info.count lead cursor.first cursor.passed step.0) }
-    ensures faults { let table = table_in (S.state base.old).cells info in
-        FaultsOnly (S.state base.old) info (IsBroken table info.count lead cursor.first)
-        (FailsAt table info.count lead cursor.first) (result_err result) }
+    ensures faults { let table = table_in (S.state base.old).cells info in FaultsOnly (S.state base.old) info
+        (λ e. IsReached table info.count lead cursor.first cursor → IsBroken table info.count lead cursor.first e)
+        (λ e. IsReached table info.count lead cursor.first cursor → FailsAt table info.count lead cursor.first e)
+        (result_err result) }
     ensures reads { Reads S.state S.keeps S.lands base.old base.new (refusal_of (result_err result)) }
 {
     let link = match read_node(base, info, cursor.lead, cursor.next) {

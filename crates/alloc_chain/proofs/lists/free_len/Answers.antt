@@ -32,7 +32,7 @@ returns-clause-length g c = λ told.
     let table = table_in old.cells info in
     let stays = c.in-Ok.ensures.reads.stays in
     let first = c.in-Ok.ensures.first told in
-    let there = c.list_len.ensures.length (subst IsTrue (sym stays.space.told) told) in
+    let there = c.list_len.ensures.length (stays.space.told told) in
     let here : IfOk c.list_len.result (HasLength table info.count OpensFree c.in-Ok.first) = subst (λ (t : ℕ → ℕ → Cell). IfOk c.list_len.result (HasLength t info.count OpensFree c.in-Ok.first)) (table_stays old mid info c.requires stays told) there in
     subst (λ (f : ℕ). IfOk c.list_len.result (HasLength table info.count OpensFree f)) first.1 here
 

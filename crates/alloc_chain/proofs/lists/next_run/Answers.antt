@@ -1,18 +1,25 @@
+use Rattle.std.specs.Result.{result_err}
 use Rattle.alloc_chain.specs.declared.node.Lead.TheVariants.{Opens}
 use Rattle.alloc_chain.specs.Table.{table_in}
 use Rattle.alloc_chain.specs.Runs.{IsRunIn}
 use Rattle.save_bytes.proofs.CallLemmas.{IfOk-map}
-use Rattle.alloc_chain.proofs.ExactLemmas.{no_failure, no_break, chain_few, run_in, done_unless_disk}
+use Rattle.alloc_chain.proofs.FaultLemmas.{FaultsOnly-map}
+use Rattle.alloc_chain.proofs.ExactLemmas.{run_in, chain_done}
 use Rattle.alloc_chain.proofs.lists.next_run.Goals as goal
 
 pub returns-clause-exact : goal.returns-clause-exact
-returns-clause-exact g c = λ told list chain.
+returns-clause-exact g c = λ told place list chain.
     let s = g.S.Space.state c.args.base.now in
     let info = c.args.info in
-    let table = table_in s.cells info in
+    let cursor = c.args.cursor in
     let few = c.requires.table.few in
-    done_unless_disk s info told (λ step. IsRunIn list c.args.cursor.passed step.0) c.advance.result
-    (no_break table info.count few Opens c.args.cursor.first list chain.linked (chain_few table info.count Opens c.args.cursor.first list chain.linked chain.once))
-    (λ entry part level block fails _. no_failure table info.count few Opens c.args.cursor.first list chain.linked entry fails)
-    c.advance.ensures.faults
-    (IfOk-map c.advance.result (λ step. run_in table info.count few Opens c.args.cursor.first list chain.linked c.args.cursor.passed step.0) (c.advance.ensures.run told))
+    chain_done (λ step. IsRunIn list cursor.passed step.0) s info cursor.first list c.advance.result few told chain
+    (FaultsOnly-map s info (result_err c.advance.result) (λ _ e broken. broken place.reached) (λ _ e fails. fails place.reached)
+    c.advance.ensures.faults)
+    (IfOk-map c.advance.result (λ step. run_in (table_in s.cells info) info.count few Opens cursor.first list chain.linked
+    cursor.passed step.0) (c.advance.ensures.run told place.reached))
+
+pub returns-clause-faults : goal.returns-clause-faults
+returns-clause-faults g c =
+    FaultsOnly-map (g.S.Space.state c.args.base.now) c.args.info (result_err c.advance.result)
+    (λ told e broken place. broken place.reached) (λ told e fails place. fails place.reached) c.advance.ensures.faults

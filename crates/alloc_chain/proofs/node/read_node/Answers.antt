@@ -35,9 +35,9 @@ returns-in-Ok-read_last-clause-node g c = λ told.
     let mid_same = table_stays old mid info c.requires.table stays told in
     let late_same = table_stays old late info c.requires.table both told in
     let head = c.in-Ok.ensures.head told in
-    let second = c.in-Ok-read_second.ensures.second (subst IsTrue (sym stays.space.told) told) in
+    let second = c.in-Ok-read_second.ensures.second (stays.space.told told) in
     let last = c.in-Ok-read_second.last in
-    let inner = c.in-Ok-read_last.ensures.last (subst IsTrue (sym both.space.told) told) in
+    let inner = c.in-Ok-read_last.ensures.last (both.space.told told) in
     long_node (table_in old.cells info) info.count c.args.lead c.args.first last c.in-Ok.v c.requires.entry.some (c.in-Ok.ensures.flag c.if-v-lt-FLAG.false) head.0 head.1
     (subst (λ (t : ℕ → ℕ → Cell). IsSecond t info.count c.args.first) mid_same second.0)
     (subst (λ (t : ℕ → ℕ → Cell). last ≡ word_v t (c.args.first + 1)) mid_same second.1)
@@ -61,7 +61,7 @@ returns-in-Err-read_last-clause-faults g c =
     let last = c.in-Ok-read_second.last in
     let fault = λ (told : IsTrue old.told) (e : ℕ) (is : e ≡ last) (isnt : ¬ IsInner (table_in late.cells info) (record { first = c.args.first; last = last }) last).
     (let head = c.in-Ok.ensures.head told in
-    let second = c.in-Ok-read_second.ensures.second (subst IsTrue (sym stays.space.told) told) in
+    let second = c.in-Ok-read_second.ensures.second (stays.space.told told) in
     last_fault (table_in old.cells info) (table_in mid.cells info) (table_in late.cells info) info.count c.args.lead c.args.first c.in-Ok.v last (table_stays old mid info table stays told) (table_stays old late info table both told) head.0 head.1 c.if-v-lt-FLAG.false second.0 second.1 e is isnt) in
     FaultsOnly-later old late info (Some c.in-Err-read_last.fault) table both
     (λ told e breaks. (subst (λ (t : ℕ → ℕ → Cell). HasWords t e) (table_stays old late info table both told) breaks.0, fault told e breaks.1 breaks.2))

@@ -6,6 +6,7 @@ use Rattle.alloc_chain.specs.Chains.{IsNode}
 use Rattle.alloc_chain.specs.Faults.{refusal_of}
 use Rattle.alloc_chain.specs.Between.{count_between}
 use Rattle.alloc_chain.proofs.TableLemmas.{table_stays}
+use Rattle.alloc_chain.proofs.FaultLemmas.{FaultsOnly-map}
 use Rattle.alloc_chain.proofs.ListLemmas.{list_faults}
 use Rattle.save_bytes.proofs.CallLemmas.{Reads-same}
 use Rattle.alloc_chain.proofs.SharedLemmas.{step_within, same_entries, counted_start, counted_more}
@@ -24,7 +25,12 @@ loop-cursor-init g c =
 
 pub returns-in-Err-clause-faults : goal.returns-in-Err-clause-faults
 returns-in-Err-clause-faults g c =
-    list_faults (g.S.Space.state c.args.base.now) (g.S.Space.state c.loop-cursor.base) c.args.info c.args.lead c.args.first c.loop-cursor.cursor (Some c.in-Err.fault) c.requires.table c.loop-cursor.invariant.reads.stays (λ told. (c.loop-cursor.invariant.reached told).0) (record { some = omega arith; inside = c.loop-cursor.invariant.next }) c.in-Err.ensures.faults
+    let before = c.loop-cursor.invariant in
+    let old = g.S.Space.state c.args.base.now in
+    FaultsOnly-map old c.args.info (Some c.in-Err.fault)
+    (λ told e broken. broken (before.reached told).0) (λ told e fails. fails (before.reached told).0)
+    (list_faults old (g.S.Space.state c.loop-cursor.base) c.args.info c.args.lead c.requires.table before.reads.stays c.args.first
+    c.loop-cursor.cursor (Some c.in-Err.fault) (record { some = omega arith; inside = before.next }) c.in-Err.ensures.faults)
 
 pub returns-in-Err-clause-reads : goal.returns-in-Err-clause-reads
 returns-in-Err-clause-reads g c =
@@ -44,7 +50,7 @@ loop-cursor-preserved g c =
     let behind = c.behind-cursor.result in
     let link = c.in-Ok.link in
     let is_node = λ (told : IsTrue old.told).
-    (let here : IsNode table info.count cursor.lead link.node link.next = subst (λ (t : ℕ → ℕ → Cell). IsNode t info.count cursor.lead link.node link.next) (table_stays old now info c.requires.table stays told) (c.in-Ok.ensures.node (subst IsTrue (sym stays.space.told) told)) in
+    (let here : IsNode table info.count cursor.lead link.node link.next = subst (λ (t : ℕ → ℕ → Cell). IsNode t info.count cursor.lead link.node link.next) (table_stays old now info c.requires.table stays told) (c.in-Ok.ensures.node (stays.space.told told)) in
     subst (λ (n : ℕ). IsNode table info.count cursor.lead link.node n) (sym c.behind-cursor.ensures.next) here) in
     record {
       next = omega (arith, c.in-Ok.ensures.next);

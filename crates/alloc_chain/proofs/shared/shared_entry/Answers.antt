@@ -3,13 +3,13 @@ use Rattle.save_bytes.specs.Cells.{Cell}
 use Rattle.save_bytes.proofs.CallLemmas.{Reads-join}
 use Rattle.alloc_chain.specs.Table.{table_in}
 use Rattle.alloc_chain.specs.Chains.{entries_of}
-use Rattle.alloc_chain.specs.Faults.{refusal_of}
+use Rattle.alloc_chain.specs.Faults.{IsBroken, FailsAt, refusal_of}
 use Rattle.alloc_chain.specs.declared.node.Lead.{Lead}
 use Rattle.alloc_chain.specs.declared.walk.Cursor.{Cursor}
 use Rattle.alloc_chain.specs.Runs.{IsReached}
 use Rattle.alloc_chain.specs.Between.{count_between}
 use Rattle.alloc_chain.proofs.TableLemmas.{table_stays}
-use Rattle.alloc_chain.proofs.ListLemmas.{list_faults_later}
+use Rattle.alloc_chain.proofs.FaultLemmas.{FaultsOnly-later}
 use Rattle.save_bytes.proofs.CallLemmas.{Reads-same}
 use Rattle.alloc_chain.proofs.SharedLemmas.{crowded_all, crowded_back}
 use Rattle.alloc_chain.proofs.shared.shared_entry.Goals as goal
@@ -28,8 +28,11 @@ returns-in-Err-clause-faults g c =
     let old = g.S.Space.state c.args.base.now in
     let now = g.S.Space.state c.loop-low.base in
     let info = c.args.info in
-    let stays = c.loop-low.invariant.reads.stays in
-    list_faults_later old now info c.args.lead c.args.first c.args.first (Some c.in-Err.fault) refl c.requires.table stays c.in-Err.ensures.faults
+    let same = table_stays old now info c.requires.table c.loop-low.invariant.reads.stays in
+    FaultsOnly-later old now info (Some c.in-Err.fault) c.requires.table c.loop-low.invariant.reads.stays
+    (λ told e. subst (λ (t : ℕ → ℕ → Cell). IsBroken t info.count c.args.lead c.args.first e) (same told))
+    (λ told e. subst (λ (t : ℕ → ℕ → Cell). FailsAt t info.count c.args.lead c.args.first e) (same told))
+    c.in-Err.ensures.faults
 
 pub returns-in-Err-clause-reads : goal.returns-in-Err-clause-reads
 returns-in-Err-clause-reads g c =
@@ -53,7 +56,7 @@ loop-low-preserved-then-between-from g c =
       low = omega arith;
       high = omega (arith, invariant.high);
       crowded = λ told whole.
-          (let is = between_in (table_in old.cells info) (table_in now.cells info) info.count c.args.lead c.args.first c.args.end c.loop-low.low middle c.in-Ok.between (table_stays old now info c.requires.table stays told) (c.in-Ok.ensures.between (subst IsTrue (sym stays.space.told) told)) whole in
+          (let is = between_in (table_in old.cells info) (table_in now.cells info) info.count c.args.lead c.args.first c.args.end c.loop-low.low middle c.in-Ok.between (table_stays old now info c.requires.table stays told) (c.in-Ok.ensures.between (stays.space.told told)) whole in
           omega (arith, is));
       reads = Reads-join space.state space.keeps space.lands g.met.S.Space.keeps_join c.args.base.now c.loop-low.base c.list_between.new.base None invariant.reads c.in-Ok.ensures.reads;
     }
@@ -73,7 +76,7 @@ loop-low-preserved g c =
       low = omega arith;
       high = invariant.high;
       crowded = λ told whole.
-          (let is = between_in (table_in old.cells info) (table_in now.cells info) info.count c.args.lead c.args.first c.args.end c.loop-low.low middle c.in-Ok.between (table_stays old now info c.requires.table stays told) (c.in-Ok.ensures.between (subst IsTrue (sym stays.space.told) told)) whole in
+          (let is = between_in (table_in old.cells info) (table_in now.cells info) info.count c.args.lead c.args.first c.args.end c.loop-low.low middle c.in-Ok.between (table_stays old now info c.requires.table stays told) (c.in-Ok.ensures.between (stays.space.told told)) whole in
           crowded_back (table_in old.cells info) info.count c.args.lead c.args.first c.args.end whole c.loop-low.low middle c.loop-low.high from below (invariant.crowded told whole) (omega (arith, is)));
       reads = Reads-join space.state space.keeps space.lands g.met.S.Space.keeps_join c.args.base.now c.loop-low.base c.list_between.new.base None invariant.reads c.in-Ok.ensures.reads;
     }

@@ -1,143 +1,155 @@
-use Rattle.std.proofs.Common.{◌≡◌, ℕ, ◌+◌, length, IsTrue, Some, None, sym, ◌∙◌, ap, subst, arith}
-use Rattle.save_bytes.specs.Cells.{IsUnspoilt}
-use Rattle.save_bytes.specs.State.{Shape, IsWritable}
-use Rattle.std.specs.Result.{result_err}
-use Rattle.std.proofs.lemmas.Bool.{false≢true}
+use Rattle.std.proofs.Common.{◌≡◌, ℕ, ◌+◌, ◌≤◌, length, IsTrue, Option, Some, None, ap, subst, arith}
+use Rattle.save_bytes.specs.declared.space.Bad.{Bad}
+use Rattle.save_bytes.specs.State.{State, Shape, CanPut}
+use Rattle.save_bytes.specs.Spots.{Spot}
+use Rattle.save_bytes.specs.Reads.{Reads}
 use Rattle.save_bytes.proofs.CallLemmas.{Reads-join}
-use Rattle.alloc_chain.specs.Shown.{shown_state, ShownLands}
-use Rattle.alloc_chain.specs.ShownLaws.{can_show-true}
-use Rattle.alloc_chain.proofs.ViewLemmas.{view_stays, view_unmoved, room_stays, shown_later}
-use Rattle.alloc_chain.proofs.JoinLemmas.{IsWritable-later, IsReady-before, IsReady-told, Puts-untold, Puts-unput, Puts-after, MovesOnly-unput, MovesOnly-after}
+use Rattle.save_bytes.proofs.JoinLemmas.{IsReady-before, IsReady-told, Puts-unput, MovesOnly-append, MovesOnly-longer, MovesOnly-read}
+use Rattle.alloc_chain.specs.declared.space.Shown.{Shown}
+use Rattle.alloc_chain.specs.Shown.{can_show, ShownLands}
+use Rattle.alloc_chain.specs.ShownLaws.{can_show-true, with_blocks}
+use Rattle.alloc_chain.proofs.ViewLemmas.{view_stays, view_reads}
+use Rattle.alloc_chain.proofs.PutLemmas.{rest, rest_len, rest_can, rest_never, rest_refused, rest_put, nothing_put}
 use Rattle.alloc_chain.proofs.space.put_shown.Goals as goal
 
-pub returns-in-Ok-false-clause-puts : goal.returns-in-Ok-false-clause-puts
-returns-in-Ok-false-clause-puts g c =
-    let info = c.args.shown.info in
-    let old = g.S.Space.state c.args.base.now in
-    let new = g.S.Space.state c.is_good.new.base in
-    let view = shown_state info c.args.shown.first c.args.shown.blocks in
-    let room = can_show-true old.shape info c.args.shown.blocks c.requires.inside.sound in
-    Puts-untold (view old) (view new) c.args.at c.args.bytes.now (λ told. false≢true (sym c.in-Ok-false.field-0-test ∙ c.in-Ok-false.ensures.told told)) (view_stays old new info c.args.shown.first c.args.shown.blocks None room c.in-Ok-false.ensures.reads.stays)
-
-pub put_runs-requires-clause-writable : goal.put_runs-requires-clause-writable
-put_runs-requires-clause-writable g c =
-    let space = g.S.Space in
-    let info = c.args.shown.info in
-    let old = space.state c.args.base.now in
-    let new = space.state c.ready_runs.new.base in
-    let view = shown_state info c.args.shown.first c.args.shown.blocks in
-    let room = can_show-true old.shape info c.args.shown.blocks c.requires.inside.sound in
-    let reads = Reads-join space.state space.keeps space.lands g.met.S.Space.keeps_join c.args.base.now c.is_good.new.base c.ready_runs.new.base None c.in-Ok-true.ensures.reads c.in-Ok.ensures.reads in
-    let stays = view_stays old new info c.args.shown.first c.args.shown.blocks None room reads.stays in
-    let none : c.args.at + 0 ≡ c.args.at = omega arith in
-    subst (λ (x : ℕ). IsWritable (view new) x (length c.args.bytes.now)) none (IsWritable-later (view old) (view new) c.args.at (length c.args.bytes.now) 0 (length c.args.bytes.now) stays.space.shape stays.space.told stays.space.twins (omega arith) c.requires)
-
-pub put_runs-requires-clause-good : goal.put_runs-requires-clause-good
-put_runs-requires-clause-good g c =
-    let space = g.S.Space in
-    let info = c.args.shown.info in
-    let old = space.state c.args.base.now in
-    let new = space.state c.ready_runs.new.base in
-    let view = shown_state info c.args.shown.first c.args.shown.blocks in
-    let room = can_show-true old.shape info c.args.shown.blocks c.requires.inside.sound in
-    let reads = Reads-join space.state space.keeps space.lands g.met.S.Space.keeps_join c.args.base.now c.is_good.new.base c.ready_runs.new.base None c.in-Ok-true.ensures.reads c.in-Ok.ensures.reads in
-    let stays = view_stays old new info c.args.shown.first c.args.shown.blocks None room reads.stays in
-    shown_later old new info c.args.shown.first c.args.shown.blocks reads.stays.space.told (λ told. c.in-Ok-true.ensures.good told c.in-Ok-true.field-0-test) stays.space.told
-
-pub put_runs-requires-clause-unspoilt : goal.put_runs-requires-clause-unspoilt
-put_runs-requires-clause-unspoilt g c = λ told k less.
-    let space = g.S.Space in
-    let info = c.args.shown.info in
-    let old = space.state c.args.base.now in
-    let mid = space.state c.is_good.new.base in
-    let new = space.state c.ready_runs.new.base in
-    let view = shown_state info c.args.shown.first c.args.shown.blocks in
-    let room = can_show-true old.shape info c.args.shown.blocks c.requires.inside.sound in
-    let later = room_stays old.shape mid.shape info c.args.shown.blocks room c.in-Ok-true.ensures.reads.stays.space.shape in
-    let stays = view_stays mid new info c.args.shown.first c.args.shown.blocks None later c.in-Ok.ensures.reads.stays in
-    let was = subst IsTrue stays.space.told told in
-    let size = ap (λ (shape : Shape). shape.size) c.in-Ok-true.ensures.reads.stays.space.shape in
-    subst IsUnspoilt (sym (stays.cells was (c.args.at + k) (omega (arith, less, size, c.requires.inside.inside)))) (c.in-Ok.ensures.ready.done was k less)
-
-pub returns-in-Ok-clause-ready : goal.returns-in-Ok-clause-ready
-returns-in-Ok-clause-ready g c =
-    let space = g.S.Space in
-    let info = c.args.shown.info in
-    let old = space.state c.args.base.now in
-    let new = space.state c.ready_runs.new.base in
-    let view = shown_state info c.args.shown.first c.args.shown.blocks in
-    let room = can_show-true old.shape info c.args.shown.blocks c.requires.inside.sound in
-    let reads = Reads-join space.state space.keeps space.lands g.met.S.Space.keeps_join c.args.base.now c.is_good.new.base c.ready_runs.new.base None c.in-Ok-true.ensures.reads c.in-Ok.ensures.reads in
-    let stays = view_stays old new info c.args.shown.first c.args.shown.blocks None room reads.stays in
-    let mid = space.state c.is_good.new.base in
-    let first = view_stays old mid info c.args.shown.first c.args.shown.blocks None room c.in-Ok-true.ensures.reads.stays in
-    let ready = IsReady-before (view old) (view mid) c.args.at (length c.args.bytes.now) None c.requires.inside.inside first c.in-Ok.ensures.ready in
-    IsReady-told (view old) c.args.at (length c.args.bytes.now) (result_err c.put_runs.result) ready
-    (λ told. c.put_runs.ensures.never (subst IsTrue (sym stays.space.told) told))
-    (λ plain. c.put_runs.ensures.plain (subst (λ (shape : Shape). IsTrue shape.plain) (sym reads.stays.space.shape) plain))
-
-pub returns-in-Ok-clause-puts : goal.returns-in-Ok-clause-puts
-returns-in-Ok-clause-puts g c =
-    let space = g.S.Space in
-    let info = c.args.shown.info in
-    let old = space.state c.args.base.now in
-    let new = space.state c.ready_runs.new.base in
-    let view = shown_state info c.args.shown.first c.args.shown.blocks in
-    let room = can_show-true old.shape info c.args.shown.blocks c.requires.inside.sound in
-    let reads = Reads-join space.state space.keeps space.lands g.met.S.Space.keeps_join c.args.base.now c.is_good.new.base c.ready_runs.new.base None c.in-Ok-true.ensures.reads c.in-Ok.ensures.reads in
-    let stays = view_stays old new info c.args.shown.first c.args.shown.blocks None room reads.stays in
-    Puts-after (view old) (view new) (view (space.state c.put_runs.new.base)) c.args.at c.args.bytes.now (result_err c.put_runs.result) c.requires.inside.inside stays c.put_runs.ensures.puts
-
-pub returns-in-Ok-clause-moves : goal.returns-in-Ok-clause-moves
-returns-in-Ok-clause-moves g c =
-    let space = g.S.Space in
-    let info = c.args.shown.info in
-    let old = space.state c.args.base.now in
-    let new = space.state c.ready_runs.new.base in
-    let view = shown_state info c.args.shown.first c.args.shown.blocks in
-    let room = can_show-true old.shape info c.args.shown.blocks c.requires.inside.sound in
-    let reads = Reads-join space.state space.keeps space.lands g.met.S.Space.keeps_join c.args.base.now c.is_good.new.base c.ready_runs.new.base None c.in-Ok-true.ensures.reads c.in-Ok.ensures.reads in
-    let stays = view_stays old new info c.args.shown.first c.args.shown.blocks None room reads.stays in
-    let unmoved = view_unmoved space.state space.keeps space.lands c.args.base.now c.ready_runs.new.base info c.args.shown.first c.args.shown.blocks None room reads.stays reads.unmoved in
-    MovesOnly-after (λ (b : g.row.S.Denot). view (space.state b)) space.keeps (ShownLands space.state space.lands info c.args.shown.first) g.met.S.Space.keeps_join c.args.base.now c.ready_runs.new.base c.put_runs.new.base c.args.at (length c.args.bytes.now) (result_err c.put_runs.result) c.requires.inside.inside stays unmoved c.put_runs.ensures.moves
+-- two calls that read, in the view
+module _ {A : Type 0} (states : A → State) (keeps : Spot → A → A → Type 0) (lands : A → ℕ → Spot → Type 0)
+    (join : (spot : Spot) (s t u : A) → keeps spot s t → keeps spot t u → keeps spot s u) (a m b : A) (shown : Shown) where
+  reads_both : (refusal : Option Bad) → IsTrue (can_show (states a).shape shown.info shown.blocks) → Reads states keeps lands a m None
+      → Reads states keeps lands m b refusal
+      → Reads (λ (x : A). with_blocks shown (states x)) keeps (ShownLands states lands shown.info shown.first) a b refusal
+  reads_both refusal sound first second =
+      view_reads states keeps lands a b shown.info shown.first shown.blocks (can_show-true (states a).shape shown.info shown.blocks sound)
+      refusal (Reads-join states keeps lands join a m b refusal first second)
 
 pub returns-in-Err-ready_runs-clause-ready : goal.returns-in-Err-ready_runs-clause-ready
-returns-in-Err-ready_runs-clause-ready g c =
-    let space = g.S.Space in
-    let info = c.args.shown.info in
-    let bad = Some c.in-Err-ready_runs.bad in
-    let old = space.state c.args.base.now in
-    let mid = space.state c.is_good.new.base in
-    let new = space.state c.ready_runs.new.base in
-    let view = shown_state info c.args.shown.first c.args.shown.blocks in
-    let room = can_show-true old.shape info c.args.shown.blocks c.requires.inside.sound in
-    let reads = Reads-join space.state space.keeps space.lands g.met.S.Space.keeps_join c.args.base.now c.is_good.new.base c.ready_runs.new.base bad c.in-Ok-true.ensures.reads c.in-Err-ready_runs.ensures.reads in
-    let first = view_stays old mid info c.args.shown.first c.args.shown.blocks None room c.in-Ok-true.ensures.reads.stays in
-    IsReady-before (view old) (view mid) c.args.at (length c.args.bytes.now) bad c.requires.inside.inside first c.in-Err-ready_runs.ensures.ready
+returns-in-Err-ready_runs-clause-ready g c = λ can.
+    let shown = c.args.shown in
+    let old = g.S.Space.state c.args.base.now in
+    let mid = g.S.Space.state c.is_good.new.base in
+    let room = can_show-true old.shape shown.info shown.blocks c.requires.inside.sound in
+    IsReady-before (with_blocks shown old) (with_blocks shown mid) c.args.at (length c.args.bytes.now) (Some c.in-Err-ready_runs.bad)
+    c.requires.inside.inside (view_stays old mid shown.info shown.first shown.blocks room None c.in-Ok-true.ensures.reads.stays)
+    c.in-Err-ready_runs.ensures.ready
 
 pub returns-in-Err-ready_runs-clause-puts : goal.returns-in-Err-ready_runs-clause-puts
 returns-in-Err-ready_runs-clause-puts g c =
     let space = g.S.Space in
-    let info = c.args.shown.info in
-    let bad = Some c.in-Err-ready_runs.bad in
-    let old = space.state c.args.base.now in
-    let mid = space.state c.is_good.new.base in
-    let new = space.state c.ready_runs.new.base in
-    let view = shown_state info c.args.shown.first c.args.shown.blocks in
-    let room = can_show-true old.shape info c.args.shown.blocks c.requires.inside.sound in
-    let reads = Reads-join space.state space.keeps space.lands g.met.S.Space.keeps_join c.args.base.now c.is_good.new.base c.ready_runs.new.base bad c.in-Ok-true.ensures.reads c.in-Err-ready_runs.ensures.reads in
-    Puts-unput (view old) (view new) c.args.at c.args.bytes.now c.in-Err-ready_runs.bad (view_stays old new info c.args.shown.first c.args.shown.blocks bad room reads.stays)
+    let bad = c.in-Err-ready_runs.bad in
+    let reads = reads_both space.state space.keeps space.lands g.met.S.Space.keeps_join c.args.base.now c.is_good.new.base
+    c.ready_runs.new.base c.args.shown (Some bad) c.requires.inside.sound c.in-Ok-true.ensures.reads c.in-Err-ready_runs.ensures.reads in
+    Puts-unput (with_blocks c.args.shown (space.state c.args.base.now)) (with_blocks c.args.shown (space.state c.ready_runs.new.base))
+    c.args.at c.args.bytes.now bad reads.stays
 
 pub returns-in-Err-ready_runs-clause-moves : goal.returns-in-Err-ready_runs-clause-moves
 returns-in-Err-ready_runs-clause-moves g c =
     let space = g.S.Space in
-    let info = c.args.shown.info in
+    let shown = c.args.shown in
+    let old = c.args.base.now in
+    let new = c.ready_runs.new.base in
     let bad = Some c.in-Err-ready_runs.bad in
-    let old = space.state c.args.base.now in
-    let mid = space.state c.is_good.new.base in
-    let new = space.state c.ready_runs.new.base in
-    let view = shown_state info c.args.shown.first c.args.shown.blocks in
-    let room = can_show-true old.shape info c.args.shown.blocks c.requires.inside.sound in
-    let reads = Reads-join space.state space.keeps space.lands g.met.S.Space.keeps_join c.args.base.now c.is_good.new.base c.ready_runs.new.base bad c.in-Ok-true.ensures.reads c.in-Err-ready_runs.ensures.reads in
-    let unmoved = view_unmoved space.state space.keeps space.lands c.args.base.now c.ready_runs.new.base info c.args.shown.first c.args.shown.blocks bad room reads.stays reads.unmoved in
-    MovesOnly-unput (λ (b : g.row.S.Denot). view (space.state b)) space.keeps (ShownLands space.state space.lands info c.args.shown.first) c.args.base.now c.ready_runs.new.base c.args.at (length c.args.bytes.now) c.in-Err-ready_runs.bad unmoved
+    MovesOnly-read (λ (x : g.row.S.Denot). with_blocks shown (space.state x)) space.keeps
+    (ShownLands space.state space.lands shown.info shown.first) g.met.S.Space.keeps_join old new c.args.at (length c.args.bytes.now) bad
+    (g.met.S.Space.keeps_hold old new)
+    (reads_both space.state space.keeps space.lands g.met.S.Space.keeps_join old c.is_good.new.base new shown bad
+    c.requires.inside.sound c.in-Ok-true.ensures.reads c.in-Err-ready_runs.ensures.reads)
+
+pub loop-done-init : goal.loop-done-init
+loop-done-init g c =
+    let space = g.S.Space in
+    let shown = c.args.shown in
+    let view = λ (x : g.row.S.Denot). with_blocks shown (space.state x) in
+    let old = c.args.base.now in
+    let mid = c.is_good.new.base in
+    let new = c.ready_runs.new.base in
+    let reads = reads_both space.state space.keeps space.lands g.met.S.Space.keeps_join old mid new shown None c.requires.inside.sound
+    c.in-Ok-true.ensures.reads c.in-Ok.ensures.reads in
+    let room = can_show-true (space.state old).shape shown.info shown.blocks c.requires.inside.sound in
+    let stays = view_stays (space.state old) (space.state mid) shown.info shown.first shown.blocks room None c.in-Ok-true.ensures.reads.stays in
+    record {
+      within = omega arith;
+      ready = IsReady-before (view old) (view mid) c.args.at (length c.args.bytes.now) None c.requires.inside.inside stays c.in-Ok.ensures.ready;
+      puts = nothing_put (view old) (view new) c.args.at reads.stays;
+      moves = MovesOnly-read view space.keeps (ShownLands space.state space.lands shown.info shown.first) g.met.S.Space.keeps_join old new
+          c.args.at 0 None (g.met.S.Space.keeps_hold old new) reads;
+    }
+
+pub overflow_add-at : goal.overflow_add-at
+overflow_add-at g c =
+    let shown = c.args.shown in
+    let room = can_show-true (g.S.Space.state c.args.base.now).shape shown.info shown.blocks c.requires.inside.sound in
+    omega (arith, room.fits, c.requires.inside.inside, c.loop-done.invariant.within)
+
+pub loop-done-preserved : goal.loop-done-preserved
+loop-done-preserved g c =
+    let space = g.S.Space in
+    let shown = c.args.shown in
+    let view = λ (x : g.row.S.Denot). with_blocks shown (space.state x) in
+    let old = c.args.base.now in
+    let now = c.loop-done.base in
+    let at = c.args.at in
+    let bytes = c.args.bytes.now in
+    let done = c.loop-done.done in
+    let n = c.in-Ok-put_run.n in
+    let before = c.loop-done.invariant in
+    let step = c.in-Ok-put_run.ensures in
+    let inside = c.requires.inside.inside in
+    let len = rest_len (view old) (view now) at bytes done before.within inside before.puts in
+    let fits : done + n ≤ length bytes = omega (arith, len, step.count.1, before.within) in
+    let size = ap (λ (shape : Shape). shape.size) before.puts.space.shape in
+    record {
+      within = fits;
+      ready = before.ready;
+      puts = rest_put (view old) (view now) at bytes done before.within inside before.puts (view c.put_run.new.base) n step.count.1 step.puts;
+      moves = MovesOnly-append view space.keeps (ShownLands space.state space.lands shown.info shown.first) g.met.S.Space.keeps_join old now
+          c.put_run.new.base at done n None (omega (arith, fits, inside)) size
+          (rest_can (view old) (view now) at bytes done before.within inside before.puts n fits) (λ can. tt) before.moves step.moves;
+    }
+
+pub returns-in-Err-put_run-clause-ready : goal.returns-in-Err-put_run-clause-ready
+returns-in-Err-put_run-clause-ready g c = λ can.
+    let view = with_blocks c.args.shown in
+    let old = view (g.S.Space.state c.args.base.now) in
+    let now = view (g.S.Space.state c.loop-done.base) in
+    let before = c.loop-done.invariant in
+    let bytes = c.args.bytes.now in
+    IsReady-told old c.args.at (length bytes) (Some c.in-Err-put_run.bad) before.ready
+    (rest_never old now c.args.at bytes c.loop-done.done before.within c.requires.inside.inside before.puts before.ready
+    (view (g.S.Space.state c.put_run.new.base)) c.in-Err-put_run.bad c.in-Err-put_run.ensures.never can)
+
+pub returns-in-Err-put_run-clause-puts : goal.returns-in-Err-put_run-clause-puts
+returns-in-Err-put_run-clause-puts g c =
+    let view = with_blocks c.args.shown in
+    let before = c.loop-done.invariant in
+    let step = c.in-Err-put_run.ensures in
+    rest_refused (view (g.S.Space.state c.args.base.now)) (view (g.S.Space.state c.loop-done.base)) c.args.at c.args.bytes.now
+    c.loop-done.done before.within c.requires.inside.inside before.puts before.ready (view (g.S.Space.state c.put_run.new.base))
+    c.in-Err-put_run.bad step.never step.puts
+
+pub returns-in-Err-put_run-clause-moves : goal.returns-in-Err-put_run-clause-moves
+returns-in-Err-put_run-clause-moves g c =
+    let space = g.S.Space in
+    let shown = c.args.shown in
+    let view = λ (x : g.row.S.Denot). with_blocks shown (space.state x) in
+    let lands = ShownLands space.state space.lands shown.info shown.first in
+    let old = c.args.base.now in
+    let now = c.loop-done.base in
+    let new = c.put_run.new.base in
+    let at = c.args.at in
+    let bytes = c.args.bytes.now in
+    let done = c.loop-done.done in
+    let bad = c.in-Err-put_run.bad in
+    let before = c.loop-done.invariant in
+    let inside = c.requires.inside.inside in
+    let behind = rest (view old) (view now) at bytes done before.within inside before.puts in
+    let len = rest_len (view old) (view now) at bytes done before.within inside before.puts in
+    let whole : done + length behind ≡ length bytes = omega (arith, len, before.within) in
+    let size = ap (λ (shape : Shape). shape.size) before.puts.space.shape in
+    MovesOnly-longer view space.keeps lands g.met.S.Space.keeps_join old new at (done + length behind) (length bytes) (Some bad)
+    (omega (arith, whole))
+    (MovesOnly-append view space.keeps lands g.met.S.Space.keeps_join old now new at done (length behind) (Some bad)
+    (omega (arith, whole, inside)) size
+    (rest_can (view old) (view now) at bytes done before.within inside before.puts (length behind) (omega (arith, whole)))
+    (λ can. rest_never (view old) (view now) at bytes done before.within inside before.puts before.ready (view new) bad
+    c.in-Err-put_run.ensures.never (subst (λ (m : ℕ). CanPut (view old) at m) whole can))
+    before.moves c.in-Err-put_run.ensures.moves)

@@ -3,7 +3,7 @@ use Rattle.std.specs.Result.{result_err}
 use Rattle.save_bytes.specs.State.{Shape, IsInside}
 use Rattle.save_bytes.proofs.CallLemmas.{Reads-join}
 use Rattle.alloc_chain.specs.ShownLaws.{can_show-true}
-use Rattle.alloc_chain.proofs.ViewLemmas.{view_stays, view_unmoved}
+use Rattle.alloc_chain.proofs.BehindLemmas.{behind_reads}
 use Rattle.alloc_chain.proofs.PieceLemmas.{view_piece}
 use Rattle.alloc_chain.proofs.behind.ChainSpaceSpace.piece.Goals as goal
 
@@ -22,14 +22,15 @@ returns g c =
     let space = c.args.self.now in
     let shown = space.shown in
     let last = c.piece.follows.lender-at-none in
-    let after = c.piece.follows.holds-at-none in
     let refusal = result_err c.piece.result in
     let room = can_show-true (base.state space.base.now).shape shown.info shown.blocks c.requires.inside.sound in
-    let reads = Reads-join base.state base.keeps base.lands g.met.S.Space.keeps_join space.base.now c.locate.new.base last refusal c.in-Ok.ensures.reads (record { stays = after.0; unmoved = after.1 }) in
-    let unmoved = view_unmoved base.state base.keeps base.lands space.base.now last shown.info shown.first shown.blocks refusal room reads.stays reads.unmoved in (
-      (refl, λ _. tt, (view_stays (base.state space.base.now) (base.state last) shown.info shown.first shown.blocks refusal room reads.stays, record { frame = (refl, refl, unmoved.frame); spots = λ told spot. (refl, refl, unmoved.spots told spot); reach = unmoved.reach })),
+    let reads = Reads-join base.state base.keeps base.lands g.met.S.Space.keeps_join space.base.now c.locate.new.base last refusal
+    c.in-Ok.ensures.reads c.piece.follows.holds-at-none in (
+      (refl, λ _. tt, behind_reads base.state base.keeps base.lands space (record space { base = record space.base { now = last } }) refusal room refl refl reads),
       record {
-        piece = view_piece (base.state space.base.now) (base.state c.locate.new.base) shown.info shown.first shown.blocks c.args.at c.args.most c.in-Ok.run'.0 c.in-Ok.run'.1 c.in-Ok.ensures.located c.in-Ok.ensures.reads.stays c.piece.result c.piece.ensures.piece;
+        piece = view_piece (base.state space.base.now) (base.state c.locate.new.base) shown.info shown.first shown.blocks c.args.at
+            c.args.most c.in-Ok.run'.0 c.in-Ok.run'.1 c.in-Ok.ensures.located c.in-Ok.ensures.reads.stays c.piece.result
+            c.piece.ensures.piece;
         after = tt;
       },
     )

@@ -1,0 +1,100 @@
+-- Calls of the base on places that lie side by side, as calls of the view.
+use Rattle.std.proofs.Common.{◌≡◌, ℕ, ◌+◌, ◌<◌, ◌≤◌, List, length, IsTrue, Option, Some, None, Ok, sym, ◌∙◌, ap, subst, arith}
+use Rattle.save_bytes.specs.declared.space.Bad.{Bad}
+use Rattle.save_bytes.specs.declared.space.Bad.TheVariants.{Disk, Damaged}
+use Rattle.save_bytes.specs.Cells.{IsUnspoilt}
+use Rattle.save_bytes.specs.State.{State, CanPut}
+use Rattle.save_bytes.specs.Answers.{IsReady}
+use Rattle.save_bytes.specs.Refusals.{NeverDamaged}
+use Rattle.save_bytes.specs.Puts.{Puts}
+use Rattle.save_bytes.specs.Spots.{Spot, Frame, Hold, MovesOnly}
+use Rattle.save_bytes.specs.Reads.{Reads}
+use Rattle.save_bytes.proofs.JoinLemmas.{CanPut-front, CanPut-later, IsReady-before, Puts-after, MovesOnly-after}
+use Rattle.save_bytes.proofs.PutLemmas.{AreUnspoilt, IsReady-unspoilt}
+use Rattle.alloc_chain.specs.declared.info.ChainInfo.{ChainInfo}
+use Rattle.alloc_chain.specs.Shown.{place_of, shown_state, ShownLands, IsLocated}
+use Rattle.alloc_chain.specs.ShownLaws.{HasRoom}
+use Rattle.alloc_chain.proofs.ViewLemmas.{base_told, view_reach, can_below, put_list, view_puts}
+
+-- an answer on a range that lies side by side in the base
+pub view_ready : (base : State) (info : ChainInfo) (first blocks at n place : ℕ) (refusal : Option Bad)
+    → (IsTrue (shown_state info first blocks base).told → (k : ℕ) → k < n → place_of base info first (at + k) ≡ place + k)
+    → IsReady base place n refusal → IsReady (shown_state info first blocks base) at n refusal
+view_ready base info first blocks at n place None places h = record {
+  done = λ told k less. subst (λ (x : ℕ). IsUnspoilt (base.cells x)) (sym (places told k less))
+      (h.done (base_told base info first blocks told) k less);
+  damaged = λ told. tt;
+  plain = λ plain. tt;
+}
+view_ready base info first blocks at n place (Some Disk) places h =
+    record { done = λ told. tt; damaged = λ told. tt; plain = λ plain. tt }
+view_ready base info first blocks at n place (Some (Damaged part level block)) places h = record {
+  done = λ told. tt;
+  damaged = λ told.
+      (let found = h.damaged (base_told base info first blocks told) in
+      record {
+        k = found.k;
+        within = found.within;
+        spoilt = ap base.cells (places told found.k found.within) ∙ found.spoilt;
+        before = λ j less. subst (λ (x : ℕ). IsUnspoilt (base.cells x))
+            (sym (places told j (omega (arith, less, found.within)))) (found.before j less);
+      });
+  plain = h.plain;
+}
+
+-- a put into the base at m, after a call that read from a on
+module _ {A : Type 0} (states : A → State) (keeps : Spot → A → A → Type 0) (lands : A → ℕ → Spot → Type 0)
+    (join : (spot : Spot) (s t u : A) → keeps spot s t → keeps spot t u → keeps spot s u)
+    (hold : (s t : A) → keeps Frame s t → keeps Hold s t) (a m b : A) (info : ChainInfo) (first blocks at most place n : ℕ)
+    (room : HasRoom (states a).shape info blocks) (run : IsLocated (states a) info first blocks at most (Ok (place, n)))
+    (bytes : List ℕ) (len : length bytes ≡ n) (reads : Reads states keeps lands a m None) where
+  abbrev view : A → State
+  view x = shown_state info first blocks (states x)
+
+  fits : place + length bytes ≤ (states a).shape.size
+  fits = omega (arith, len, run.in_base)
+
+  base_puts : (refusal : Option Bad) → Puts (states m) place bytes (states b) refusal → Puts (states a) place bytes (states b) refusal
+  base_puts = Puts-after (states a) (states m) (states b) place bytes fits reads.stays
+
+  -- puts into the view
+  pub run_puts : (refusal : Option Bad) → Puts (states m) place bytes (states b) refusal → Puts (view a) at bytes (view b) refusal
+  run_puts refusal puts =
+      view_puts (states a) (states b) info first blocks at most place n room run bytes len refusal (base_puts refusal puts)
+
+  -- touches in the view what it touches
+  pub run_moves : (refusal : Option Bad) → Puts (states m) place bytes (states b) refusal
+      → MovesOnly keeps lands (states m) m place (length bytes) b refusal
+      → MovesOnly keeps (ShownLands states lands info first) (view a) a at n b refusal
+  run_moves refusal puts moves =
+      let base = MovesOnly-after states keeps lands join a m b place (length bytes) refusal (hold a m) fits reads moves in
+      let old = states a in
+      let below = λ (can : CanPut (view a) at n). subst (λ (l : ℕ). CanPut old place l) (sym len)
+      (can_below old (states b) info first blocks at most place n room run bytes len can) in
+      record {
+        hold = base.hold;
+        spots = λ can spot misses. base.spots (below can) spot (λ k less lands_k.
+            (let here : k < n = omega (arith, less, len) in
+            misses k here (subst (λ (x : ℕ). lands a x spot) (sym (run.places can.told k here)) lands_k)));
+        damaged = λ can. base.damaged (below can);
+        reach = λ can. view_reach states keeps lands a b info first blocks room refusal can.told
+            (put_list old (states b) info first blocks at most place n room run bytes len can refusal (base_puts refusal puts))
+            (base.reach (below can));
+      }
+
+  -- and is not refused where no cell is spoilt
+  pub run_never : (refusal : Option Bad)
+      → (CanPut (states m) place (length bytes) → IsReady (states m) place (length bytes) refusal)
+      → CanPut (view a) at most → AreUnspoilt (view a) at most → NeverDamaged refusal
+  run_never refusal ready can ok =
+      let fewer : n ≤ most = run.bounded in
+      let front = CanPut-front (view a) at most n fewer can in
+      let below = can_below (states a) (states b) info first blocks at most place n room run bytes len front in
+      let told = base_told (states a) info first blocks can.told in
+      let later = CanPut-later (states a) (states m) place n run.in_base (reads.stays.space.told told)
+      (reads.stays.space.twins told) below in
+      let there = subst (λ (l : ℕ). IsReady (states m) place l refusal) len
+      (ready (subst (λ (l : ℕ). CanPut (states m) place l) (sym len) later)) in
+      let here = view_ready (states a) info first blocks at n place refusal run.places
+      (IsReady-before (states a) (states m) place n refusal run.in_base reads.stays there) in
+      IsReady-unspoilt (view a) at n refusal here can.told (λ k less. ok k (omega (arith, less, fewer)))
