@@ -1,7 +1,7 @@
 -- What a hash path comes to.
-use Rattle.std.proofs.Common.{◌≡◌, ◌≢◌, ◌⊎◌, ℕ, zero, suc, ◌<◌, ◌≤◌, Bool, true, false, List, refl, sym, ◌∙◌, arith, inl, inr, ⊎_elim}
+use Rattle.std.proofs.Common.{◌≡◌, ◌≢◌, ℕ, zero, suc, ◌<◌, ◌≤◌, Bool, true, false, List, refl, sym, ◌∙◌, arith, ⊎_elim}
 use Rattle.std.specs.Str.{bytes_eq}
-use Rattle.std.proofs.lemmas.Bool.{cases_lt, eq-eqb, ne_eqb}
+use Rattle.std.proofs.lemmas.Bool.{both_ways, cases_Bool, cases_lt, eq-eqb, ne_eqb}
 use Rattle.std.proofs.lemmas.Slice.Eq.{bytes_eq-Decides}
 use Rattle.sha2.specs.Sha256.{sha256}
 use Rattle.save_bytes.specs.Cells.{Cell}
@@ -11,83 +11,88 @@ use Rattle.ivfc_tree.specs.declared.path.BlockState.TheVariants.{Holds, NeverWri
 use Rattle.ivfc_tree.specs.declared.state.IvfcState.{IvfcState}
 use Rattle.ivfc_tree.specs.Levels.{padded_block, hash_entry, zero_entry, parent_of}
 use Rattle.ivfc_tree.specs.Marks.{HasNoMarks}
-use Rattle.ivfc_tree.specs.Paths.{block_above, IsHashed, HasHashPath, FailsFirst, IsStateOf, judged, after, marked_state, path_state, block_state}
+use Rattle.ivfc_tree.specs.Paths.{block_above, IsHashed, HasHashPath, FailsFirst, IsStateOf, own_state, after, marked_state, path_state, block_state}
 
-record Same (xs ys : List ℕ) : Type 0 where
-  same : xs ≡ ys
-  test : bytes_eq xs ys ≡ true
-
-record Other (xs ys : List ℕ) : Type 0 where
-  other : xs ≢ ys
-  test : bytes_eq xs ys ≡ false
-
-decided : (xs ys : List ℕ) (b : Bool) → bytes_eq xs ys ≡ b → Same xs ys ⊎ Other xs ys
-decided xs ys true is = inl (record { same = (bytes_eq-Decides xs ys).0 is; test = is })
-decided xs ys false is = inr (record { other = λ same. (let yes = (bytes_eq-Decides xs ys).1 same in cc); test = is })
-
--- two lists of bytes are equal, or the test tells that they are not
-bytes_cases : (xs ys : List ℕ) → Same xs ys ⊎ Other xs ys
-bytes_cases xs ys = decided xs ys (bytes_eq xs ys) refl
+differ : (xs ys : List ℕ) → bytes_eq xs ys ≡ false → xs ≢ ys
+differ xs ys other same = both_ways (bytes_eq xs ys) other ((bytes_eq-Decides xs ys).1 same)
 
 module _ (cells : ℕ → Cell) (master : List ℕ) (difi : Difi) where
+  abbrev hashed : ℕ → ℕ → Type 0
+  hashed = IsHashed cells master difi
+
+  abbrev path : ℕ → ℕ → Type 0
+  path = HasHashPath cells master difi
+
+  abbrev fails : ℕ → ℕ → ℕ → ℕ → Type 0
+  fails = FailsFirst cells master difi
+
   -- the blocks above a block of the next level
   block_above-here : (level block : ℕ) → block_above difi (suc level) block (suc level) ≡ block
   unfolding block_above
   block_above-here level block = rw (eq-eqb (suc level) (suc level) refl) refl
 
-  block_above-higher : (level block upper : ℕ) → upper < suc level → block_above difi (suc level) block upper ≡ block_above difi level (parent_of difi level block) upper
+  block_above-higher : (level block upper : ℕ) → upper < suc level
+      → block_above difi (suc level) block upper ≡ block_above difi level (parent_of difi level block) upper
   unfolding block_above
   block_above-higher level block upper below = rw (ne_eqb upper (suc level) (λ same. absurd (omega (arith, same, below)))) refl
 
   -- with a path above it, a block that is hashed has a path
-  path_more : (level block : ℕ) → HasHashPath cells master difi level (parent_of difi level block) → IsHashed cells master difi (suc level) block → HasHashPath cells master difi (suc level) block
-  path_more level block path own upper some within =
+  path_more : (level block : ℕ) → path level (parent_of difi level block) → hashed (suc level) block → path (suc level) block
+  path_more level block above own upper some within =
       ⊎_elim
-      (λ (below : upper < suc level). rw (block_above-higher level block upper below) (path upper some (omega (arith, below))))
+      (λ (below : upper < suc level). rw (block_above-higher level block upper below) (above upper some (omega (arith, below))))
       (λ (last : suc level ≤ upper).
       (let here : upper ≡ suc level = omega (arith, last, within) in
       rw (here, block_above-here level block) own))
       (cases_lt upper (suc level))
 
   -- a path that fails above a block fails there for the block
-  fails_more : (level block upper at : ℕ) → FailsFirst cells master difi level (parent_of difi level block) upper at → FailsFirst cells master difi (suc level) block upper at
-  fails_more level block upper at fails = record {
-    some = fails.some;
-    above = omega (arith, fails.above);
-    there = fails.there ∙ sym (block_above-higher level block upper (omega (arith, fails.above)));
-    fails = fails.fails;
-    before = λ higher some below. rw (block_above-higher level block higher (omega (arith, below, fails.above))) (fails.before higher some below);
+  fails_more : (level block upper at : ℕ) → fails level (parent_of difi level block) upper at → fails (suc level) block upper at
+  fails_more level block upper at h = record {
+    some = h.some;
+    above = omega (arith, h.above);
+    there = h.there ∙ sym (block_above-higher level block upper (omega (arith, h.above)));
+    fails = h.fails;
+    before = λ higher some below. rw (block_above-higher level block higher (omega (arith, below, h.above))) (h.before higher some below);
   }
 
   -- with a path above it, a block that is not hashed is the first to fail
-  fails_here : (level block : ℕ) → HasHashPath cells master difi level (parent_of difi level block) → ¬ IsHashed cells master difi (suc level) block → FailsFirst cells master difi (suc level) block (suc level) block
-  fails_here level block path fails = record {
+  fails_here : (level block : ℕ) → path level (parent_of difi level block) → ¬ hashed (suc level) block → fails (suc level) block (suc level) block
+  fails_here level block above unhashed = record {
     some = omega arith;
     above = omega arith;
     there = sym (block_above-here level block);
-    fails = fails;
-    before = λ higher some below. rw (block_above-higher level block higher below) (path higher some (omega (arith, below)));
+    fails = unhashed;
+    before = λ higher some below. rw (block_above-higher level block higher below) (above higher some (omega (arith, below)));
   }
 
   -- a block with a path above it is what its entry and its digest tell
-  judged_state : (level block : ℕ) → HasHashPath cells master difi level (parent_of difi level block) → IsStateOf cells master difi (suc level) block (judged (suc level) block (hash_entry cells master difi (suc level) block) (sha256 (padded_block cells difi (suc level) block)))
-  judged_state level block path =
+  own_is : (level block : ℕ) → path level (parent_of difi level block)
+      → IsStateOf cells master difi (suc level) block (own_state cells master difi (suc level) block)
+  own_is level block above =
       let entry = hash_entry cells master difi (suc level) block in
       let digest = sha256 (padded_block cells difi (suc level) block) in
       ⊎_elim
-      (λ (none : Same entry zero_entry). rw none.test (fails_here level block path (λ hashed. absurd (hashed.written none.same)), none.same))
-      (λ (written : Other entry zero_entry). rw written.test
-      (⊎_elim
-      (λ (good : Same entry digest). rw good.test (path_more level block path (record { written = written.other; digest = good.same })))
-      (λ (bad : Other entry digest). rw bad.test (fails_here level block path (λ hashed. absurd (bad.other hashed.digest)), written.other))
-      (bytes_cases entry digest)))
-      (bytes_cases entry zero_entry)
+      (λ (none : bytes_eq entry zero_entry ≡ true).
+      let zeros = (bytes_eq-Decides entry zero_entry).0 none in
+      rw none (fails_here level block above (λ own. own.written zeros), zeros))
+      (λ (some : bytes_eq entry zero_entry ≡ false).
+      let written = differ entry zero_entry some in
+      rw some (⊎_elim
+      (λ (good : bytes_eq entry digest ≡ true).
+      rw good (path_more level block above (record { written = written; digest = (bytes_eq-Decides entry digest).0 good })))
+      (λ (bad : bytes_eq entry digest ≡ false).
+      rw bad (fails_here level block above (λ own. differ entry digest bad own.digest), written))
+      (cases_Bool (bytes_eq entry digest))))
+      (cases_Bool (bytes_eq entry zero_entry))
 
   -- what is found above a block decides, unless it holds
-  after_state : (level block : ℕ) (above own : BlockState) → IsStateOf cells master difi level (parent_of difi level block) above → (HasHashPath cells master difi level (parent_of difi level block) → IsStateOf cells master difi (suc level) block own) → IsStateOf cells master difi (suc level) block (after above own)
-  after_state level block Holds own path next = next path
-  after_state level block (NeverWritten upper at) own fails next = (fails_more level block upper at fails.0, fails.1)
-  after_state level block (Fails upper at) own fails next = (fails_more level block upper at fails.0, fails.1)
+  after_state : (level block : ℕ) (above own : BlockState) → IsStateOf cells master difi level (parent_of difi level block) above
+      → (path level (parent_of difi level block) → IsStateOf cells master difi (suc level) block own)
+      → IsStateOf cells master difi (suc level) block (after above own)
+  after_state level block Holds own found next = next found
+  after_state level block (NeverWritten upper at) own found next = (fails_more level block upper at found.0, found.1)
+  after_state level block (Fails upper at) own found next = (fails_more level block upper at found.0, found.1)
 
   -- where none is marked, what a path comes to is what the definition of a path says
   pub state_is : (marked : ℕ → ℕ → Bool) → ((level block : ℕ) → marked level block ≡ false) → (level block : ℕ)
@@ -97,10 +102,12 @@ module _ (cells : ℕ → Cell) (master : List ℕ) (difi : Difi) where
   state_is marked none (suc level) block =
       let above = parent_of difi level block in
       rw (none (suc level) block)
-      (after_state level block (marked_state cells master difi marked level above) _ (state_is marked none level above) (judged_state level block))
+      (after_state level block (marked_state cells master difi marked level above) _ (state_is marked none level above) (own_is level block))
 
   -- where nothing was put, the state of a block is what its path comes to
-  pub unmarked_state : (state : IvfcState) → HasNoMarks state → (level block : ℕ) → block_state cells master difi state level block ≡ path_state cells master difi level block
+  pub unmarked_state : (state : IvfcState) → HasNoMarks state → (level block : ℕ)
+      → block_state cells master difi state level block ≡ path_state cells master difi level block
   unfolding marked_state
   unmarked_state state unmarked zero block = refl
-  unmarked_state state unmarked (suc level) block = rw (unmarked (suc level) block, unmarked_state state unmarked level (parent_of difi level block)) refl
+  unmarked_state state unmarked (suc level) block =
+      rw (unmarked (suc level) block, unmarked_state state unmarked level (parent_of difi level block)) refl

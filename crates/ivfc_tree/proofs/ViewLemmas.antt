@@ -1,11 +1,11 @@
 -- A view as a space.
-use Rattle.std.proofs.Common.{◌≡◌, ℕ, ◌+◌, ◌-◌, ◌*◌, ◌/◌, ◌%◌, ◌<◌, ◌≤◌, min, IsTrue, List, length, Option, None, Result, Ok, Err, refl, sym, ◌∙◌, ap, subst, arith}
+use Rattle.std.proofs.Common.{◌≡◌, ℕ, ◌+◌, ◌-◌, ◌*◌, ◌/◌, ◌%◌, ◌<◌, ◌≤◌, min, IsTrue, List, length, Option, None, Result}
+use Rattle.std.proofs.Common.{Ok, Err, refl, sym, ◌∙◌, ap, subst, arith}
 use Rattle.std.proofs.lemmas.Nat.{pow_pos, div-add-mod', div-mul-add, mod_below}
 use Rattle.std.specs.Borrow.{Bor}
 use Rattle.save_bytes.specs.declared.space.Bad.{Bad}
 use Rattle.save_bytes.specs.declared.space.Bad.TheVariants.{Disk, Damaged}
 use Rattle.save_bytes.specs.Cells.{Byte, IsByte}
-use Rattle.save_bytes.specs.CellNumbers.{value_of}
 use Rattle.save_bytes.specs.State.{Shape, State, IsInside}
 use Rattle.save_bytes.specs.Answers.{IsPiece}
 use Rattle.save_bytes.specs.Stays.{Stays}
@@ -21,7 +21,7 @@ use Rattle.ivfc_tree.specs.declared.view.IvfcView.{IvfcView}
 use Rattle.ivfc_tree.specs.Levels.{level_of}
 use Rattle.ivfc_tree.specs.Paths.{block_state, cell_in}
 use Rattle.ivfc_tree.specs.View.{HasTree, view_state, rest_of, IsVerified}
-use Rattle.ivfc_tree.specs.Held.{shown, SameView, SameHold, SameOwn, HashKeeps, hash_lands}
+use Rattle.ivfc_tree.specs.Held.{shown, SameView, SameOwn, HashKeeps, hash_lands}
 use Rattle.ivfc_tree.specs.ViewLaws.{view_cells, place_inside}
 use Rattle.ivfc_tree.specs.KeepLaws.{HashLands-before}
 
@@ -42,17 +42,6 @@ view_stays base new part master difi state refusal tree stays = record {
 
 module _ {S : Type 0} (states : S → State) (keeps : Spot → S → S → Type 0) (lands : S → ℕ → Spot → Type 0) (s t : IvfcView S)
     (refusal : Option Bad) (same : SameView s t) where
-  same_hold : SameHold s t
-  same_hold = record {
-    same_base = same.same_base;
-    same_part = same.same_part;
-    same_difi = same.same_difi;
-    same_master = same.same_master;
-    master_len = ap length same.master_now;
-    same_state = same.same_state;
-    marks = rw same.state_now (record { marks1 = refl; marks2 = refl; marks3 = refl; marks4 = refl });
-  }
-
   same_own : (spot : Spot) → SameOwn spot s t
   same_own (Mark part level block) = λ here. rw same.state_now refl
   same_own Frame = (λ level block. rw same.state_now refl, same.master_now)
@@ -64,12 +53,12 @@ module _ {S : Type 0} (states : S → State) (keeps : Spot → S → S → Type 
       × Reads states keeps lands s.base.now t.base.now refusal × SameView s t
   hashed_read tree reads = (
     record {
-      stays = rw (same.same_part, same.same_difi, same.master_now, same.state_now)
+      stays = rw (same.hold.same_part, same.hold.same_difi, same.master_now, same.state_now)
           (view_stays (states s.base.now) (states t.base.now) s.part s.master.now s.difi.now s.state.now refusal tree reads.stays);
-      frame = (same_hold, same_own Frame, reads.frame);
-      sectors = λ number. (same_hold, tt, reads.sectors number);
-      spots = λ told spot. (same_hold, same_own spot, reads.spots told spot);
-      reach = λ told. rw same.same_difi (UnlessDisk-map refusal
+      frame = (same.hold, same_own Frame, reads.frame);
+      sectors = λ number. (same.hold, tt, reads.sectors number);
+      spots = λ told spot. (same.hold, same_own spot, reads.spots told spot);
+      reach = λ told. rw same.hold.same_difi (UnlessDisk-map refusal
           (HashLands-before (states s.base.now).shape s.difi.now tree.levels (lands s.base.now) (lands t.base.now)) (reads.reach told));
     },
     reads,
@@ -83,12 +72,12 @@ same_block at k size some h =
     let place : at + k ≡ at / size * size + (at % size + k) = omega arith in
     rw place (div-mul-add (at / size) size (at % size + k) (omega arith))
 
-pub record IsRest (difi : Difi) (at n : ℕ) : Type 0 where
-  pub some : 0 < n
-  pub inside : at + n ≤ difi.ivfc4.size
-  pub block : (k : ℕ) → k < n → (at + k) / block_size difi.ivfc4 ≡ at / block_size difi.ivfc4
+record IsRest (difi : Difi) (at n : ℕ) : Type 0 where
+  some : 0 < n
+  inside : at + n ≤ difi.ivfc4.size
+  block : (k : ℕ) → k < n → (at + k) / block_size difi.ivfc4 ≡ at / block_size difi.ivfc4
 
-pub rest_is : (difi : Difi) (at : ℕ) → at < difi.ivfc4.size → IsRest difi at (rest_of difi at)
+rest_is : (difi : Difi) (at : ℕ) → at < difi.ivfc4.size → IsRest difi at (rest_of difi at)
 rest_is difi at inside =
     let some = pow_pos difi.ivfc4.log in
     let below = mod_below at (block_size difi.ivfc4) some in
@@ -98,77 +87,59 @@ rest_is difi at inside =
       block = λ k h. same_block at k (block_size difi.ivfc4) some (omega (arith, h));
     }
 
-module _ (base : State) (part : ℕ) (master : List ℕ) (difi : Difi) (state : IvfcState) (at : ℕ) (inside : at < difi.ivfc4.size) where
-  -- a good block's cells are bytes
-  pub good_cell : Holds ≡ block_state base.cells master difi state 4 (at / block_size difi.ivfc4) → (k : ℕ) → k < rest_of difi at → (view_state base part master difi state).cells (at + k) ≡ Byte (value_of (base.cells ((level_of difi 4).at + (at + k))))
-  good_cell good k h = rw ((rest_is difi at inside).block k h, ← good) refl
-
-  -- what is answered of a good block
-  pub good_verified : (most n : ℕ) → 1 ≤ most → (IsTrue base.told → Holds ≡ block_state base.cells master difi state 4 (at / block_size difi.ivfc4)) → n ≡ min (rest_of difi at) most → IsVerified (view_state base part master difi state) at most (Ok n)
-  good_verified most n some good is =
-      let rest = rest_is difi at inside in
-      record {
-        some = omega (arith, is, rest.some, some);
-        bounded = omega (arith, is);
-        inside = omega (arith, is, rest.inside);
-        bytes = λ told k h. rw (good_cell (good told) k (omega (arith, is, h))) tt;
-        damaged = λ told. tt;
-      }
-
-  -- what is answered of a block that was never written, or fails
-  pub blank_verified : (most level block : ℕ) → (IsTrue base.told → NeverWritten level block ≡ block_state base.cells master difi state 4 (at / block_size difi.ivfc4)) → IsVerified (view_state base part master difi state) at most (Err (Damaged part level block))
-  blank_verified most level block is = record {
-    some = tt;
-    bounded = tt;
-    inside = tt;
-    bytes = λ told. tt;
-    damaged = λ told. rw (← is told) (refl, refl, refl);
-  }
-
-  pub bad_verified : (most level block : ℕ) → (IsTrue base.told → Fails level block ≡ block_state base.cells master difi state 4 (at / block_size difi.ivfc4)) → IsVerified (view_state base part master difi state) at most (Err (Damaged part level block))
-  bad_verified most level block is = record {
-    some = tt;
-    bounded = tt;
-    inside = tt;
-    bytes = λ told. tt;
-    damaged = λ told. rw (← is told) (refl, refl, refl);
-  }
-
 byte_cell : (found : BlockState) (part value : ℕ) → IsByte (cell_in found part value) → cell_in found part value ≡ Byte value
 byte_cell Holds part value byte = refl
 byte_cell (NeverWritten level block) part value byte = absurd byte
 byte_cell (Fails level block) part value byte = absurd byte
 
-module _ (base mid : State) (part : ℕ) (master : List ℕ) (difi : Difi) (state : IvfcState) (at most n place : ℕ) (tree : HasTree base.shape difi (length master)) (verified : IsVerified (view_state base part master difi state) at most (Ok n)) (stays : Stays base mid None) (there : place ≡ (level_of difi 4).at + at) where
-  same_size : mid.shape.size ≡ base.shape.size
-  same_size = ap (λ (shape : Shape). shape.size) stays.space.shape
-
-  pub run_inside : IsInside mid.shape place 1
-  run_inside =
-      let inside : at < difi.ivfc4.size = omega (arith, verified.some, verified.inside) in
+module _ (base : State) (part : ℕ) (master : List ℕ) (difi : Difi) (state : IvfcState) (at : ℕ) where
+  -- what is answered of a good block
+  pub good_verified : at < difi.ivfc4.size → (most n : ℕ) → 1 ≤ most
+      → (IsTrue base.told → Holds ≡ block_state base.cells master difi state 4 (at / block_size difi.ivfc4)) → n ≡ min (rest_of difi at) most
+      → IsVerified (view_state base part master difi state) at most (Ok n)
+  good_verified inside most n some good is =
+      let rest = rest_is difi at inside in
       record {
-        sound = subst (λ (shape : Shape). IsTrue shape.sound) (sym stays.space.shape) tree.levels.sound;
-        inside = omega (arith, same_size, there, place_inside base.shape difi (length master) at tree inside);
+        some = omega (arith, is, rest.some, some);
+        bounded = omega (arith, is);
+        inside = omega (arith, is, rest.inside);
+        bytes = λ told k h. rw (rest.block k (omega (arith, is, h)), ← good told) tt;
+        damaged = λ told. tt;
       }
 
-  piece_cell : (k value : ℕ) → k < n → IsTrue base.told → mid.cells (place + k) ≡ Byte value → (view_state base part master difi state).cells (at + k) ≡ Byte value
-  piece_cell k value h told is =
-      let inside : at + k < difi.ivfc4.size = omega (arith, h, verified.inside) in
-      let here : place + k ≡ (level_of difi 4).at + (at + k) = omega (arith, there) in
-      let old : base.cells ((level_of difi 4).at + (at + k)) ≡ Byte value =
-      sym (stays.cells told ((level_of difi 4).at + (at + k)) (place_inside base.shape difi (length master) (at + k) tree inside)) ∙ rw here at is in
-      byte_cell (block_state base.cells master difi state 4 ((at + k) / block_size difi.ivfc4)) part _ (verified.bytes told k h) ∙ rw old refl
+  module _ (mid : State) (most n place : ℕ) (tree : HasTree base.shape difi (length master))
+      (verified : IsVerified (view_state base part master difi state) at most (Ok n)) (stays : Stays base mid None)
+      (there : place ≡ (level_of difi 4).at + at) where
+    same_size : mid.shape.size ≡ base.shape.size
+    same_size = ap (λ (shape : Shape). shape.size) stays.space.shape
 
-  -- a piece of the base is one of the view
-  pub view_piece : (result : Result (Bor (List ℕ)) Bad) → IsPiece mid place n result → IsPiece (view_state base part master difi state) at most result
-  view_piece (Ok piece) h = record {
-    some = h.some;
-    bounded = omega (arith, h.bounded, verified.bounded);
-    inside = omega (arith, h.bounded, verified.inside);
-    bytes = λ told k below. piece_cell k _ (omega (arith, below, h.bounded)) told (h.bytes (stays.space.told told) k below);
-    damaged = λ told. tt;
-    plain = λ plain. tt;
-  }
-  view_piece (Err Disk) h = record { some = tt; bounded = tt; inside = tt; bytes = λ told. tt; damaged = λ told. tt; plain = λ plain. tt }
-  view_piece (Err (Damaged part level block)) h =
-      absurd (h.plain (subst (λ (shape : Shape). IsTrue shape.plain) (sym stays.space.shape) tree.levels.plain))
+    pub run_inside : IsInside mid.shape place 1
+    run_inside =
+        let inside : at < difi.ivfc4.size = omega (arith, verified.some, verified.inside) in
+        record {
+          sound = subst (λ (shape : Shape). IsTrue shape.sound) (sym stays.space.shape) tree.levels.sound;
+          inside = omega (arith, same_size, there, place_inside base.shape difi (length master) at tree inside);
+        }
+
+    piece_cell : (k value : ℕ) → k < n → IsTrue base.told → mid.cells (place + k) ≡ Byte value
+        → (view_state base part master difi state).cells (at + k) ≡ Byte value
+    piece_cell k value h told is =
+        let inside : at + k < difi.ivfc4.size = omega (arith, h, verified.inside) in
+        let here : place + k ≡ (level_of difi 4).at + (at + k) = omega (arith, there) in
+        let old : base.cells ((level_of difi 4).at + (at + k)) ≡ Byte value =
+        sym (stays.cells told _ (place_inside base.shape difi (length master) (at + k) tree inside)) ∙ rw here at is in
+        byte_cell (block_state base.cells master difi state 4 ((at + k) / block_size difi.ivfc4)) part _ (verified.bytes told k h) ∙ rw old refl
+
+    -- a piece of the base is one of the view
+    pub view_piece : (result : Result (Bor (List ℕ)) Bad) → IsPiece mid place n result → IsPiece (view_state base part master difi state) at most result
+    view_piece (Ok piece) h = record {
+      some = h.some;
+      bounded = omega (arith, h.bounded, verified.bounded);
+      inside = omega (arith, h.bounded, verified.inside);
+      bytes = λ told k below. piece_cell k _ (omega (arith, below, h.bounded)) told (h.bytes (stays.space.told told) k below);
+      damaged = λ told. tt;
+      plain = λ plain. tt;
+    }
+    view_piece (Err Disk) h = record { some = tt; bounded = tt; inside = tt; bytes = λ told. tt; damaged = λ told. tt; plain = λ plain. tt }
+    view_piece (Err (Damaged part level block)) h =
+        absurd (h.plain (subst (λ (shape : Shape). IsTrue shape.plain) (sym stays.space.shape) tree.levels.plain))

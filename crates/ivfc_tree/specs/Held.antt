@@ -28,16 +28,6 @@ pub record IsViewOf {S : Type 0} (view : IvfcView S) (base : MutBor S) (part : �
   pub same_state : view.state.ghost_name ≡ state.ghost_name
   pub state_now : view.state.now ≡ state.now
 
--- the same references and fields; the base may have changed, and the master hash and the state have not
-pub record SameView {S : Type 0} (old new : IvfcView S) : Type 0 where
-  pub same_base : new.base.ghost_name ≡ old.base.ghost_name
-  pub same_part : new.part ≡ old.part
-  pub same_difi : new.difi ≡ old.difi
-  pub same_master : new.master.ghost_name ≡ old.master.ghost_name
-  pub master_now : new.master.now ≡ old.master.now
-  pub same_state : new.state.ghost_name ≡ old.state.ghost_name
-  pub state_now : new.state.now ≡ old.state.now
-
 -- the same references and fields, a master hash as long, and as many marks; its bytes and they may have changed
 pub record SameHold {S : Type 0} (old new : IvfcView S) : Type 0 where
   pub same_base : new.base.ghost_name ≡ old.base.ghost_name
@@ -47,6 +37,12 @@ pub record SameHold {S : Type 0} (old new : IvfcView S) : Type 0 where
   pub master_len : length new.master.now ≡ length old.master.now
   pub same_state : new.state.ghost_name ≡ old.state.ghost_name
   pub marks : AsManyMarks old.state.now new.state.now
+
+-- the same master hash and state too; the base may have changed
+pub record SameView {S : Type 0} (old new : IvfcView S) : Type 0 where
+  pub hold : SameHold old new
+  pub master_now : new.master.now ≡ old.master.now
+  pub state_now : new.state.now ≡ old.state.now
 
 -- a block's mark was left alone, or all marks and the master hash; other spots are not in the view itself
 abbrev pub SameOwn : {S : Type 0} → Spot → IvfcView S → IvfcView S → Type 0

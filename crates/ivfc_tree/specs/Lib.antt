@@ -1,3 +1,4 @@
+pub mod Hashing
 pub mod Levels
 pub mod Marks
 pub mod Paths

@@ -50,6 +50,11 @@ abbrev pub judged : ℕ → ℕ → List ℕ → List ℕ → BlockState
 judged level block entry digest =
     if bytes_eq entry zero_entry then NeverWritten level block else (if bytes_eq entry digest then Holds else Fails level block)
 
+-- what a block's own entry and bytes tell
+abbrev pub own_state : (ℕ → Cell) → List ℕ → Difi → ℕ → ℕ → BlockState
+own_state cells master difi level block =
+    judged level block (hash_entry cells master difi level block) (sha256 (padded_block cells difi level block))
+
 -- what is said of the block above decides, unless that holds
 abbrev pub after : BlockState → BlockState → BlockState
 after Holds own = own
@@ -61,8 +66,7 @@ unfoldable pub marked_state : (ℕ → Cell) → List ℕ → Difi → (ℕ → 
 marked_state cells master difi marked zero block = Holds
 marked_state cells master difi marked (suc level) block =
     if marked (suc level) block then Holds
-    else after (marked_state cells master difi marked level (parent_of difi level block))
-    (judged (suc level) block (hash_entry cells master difi (suc level) block) (sha256 (padded_block cells difi (suc level) block)))
+    else after (marked_state cells master difi marked level (parent_of difi level block)) (own_state cells master difi (suc level) block)
 
 -- where none is
 abbrev pub path_state : (ℕ → Cell) → List ℕ → Difi → ℕ → ℕ → BlockState

@@ -1,5 +1,6 @@
 -- What a contract sees of a view through a hash tree.
-use Rattle.std.specs.Prelude.{◌≡◌, ℕ, ◌+◌, ◌-◌, ◌*◌, ◌/◌, ◌%◌, ◌^◌, ◌<◌, ◌≤◌, suc, min, Bool, false, ◌&&◌, not, ◌==◌, IsTrue, IsFalse, List, length, Result, IfOk}
+use Rattle.std.specs.Prelude.{◌≡◌, ℕ, ◌+◌, ◌-◌, ◌*◌, ◌/◌, ◌%◌, ◌^◌, ◌<◌, ◌≤◌, suc, min, Bool, false, ◌&&◌, not, ◌==◌, IsTrue, IsFalse}
+use Rattle.std.specs.Prelude.{List, length, Result, IfOk}
 use Rattle.std.specs.Result.{result_err}
 use Rattle.save_bytes.specs.declared.space.Bad.{Bad}
 use Rattle.save_bytes.specs.Cells.{Cell, IsByte, Blames}

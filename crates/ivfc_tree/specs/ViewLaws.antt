@@ -1,7 +1,6 @@
 -- The tests on a view as facts: where levels lie, and that their bytes and cells hang on the base's alone.
 use Rattle.std.proofs.Common.{◌≡◌, ℕ, zero, suc, ◌+◌, ◌-◌, ◌*◌, ◌/◌, ◌^◌, ◌<◌, ◌≤◌, Bool, true, false, not, IsTrue, List, length, eqb, refl, ap, arith}
-use Rattle.std.proofs.lemmas.Bool.{and_parts, and_from, eq-eqb, eqb-true, ne_eqb}
-use Rattle.sha2.specs.Sha256.{sha256}
+use Rattle.std.proofs.lemmas.Bool.{not-true, and_parts, and_from, eq-eqb, eqb-true, ne_eqb}
 use Rattle.save_bytes.specs.Cells.{Cell}
 use Rattle.save_bytes.specs.State.{Shape, State}
 use Rattle.save_bytes.specs.Stays.{SameCells}
@@ -17,7 +16,7 @@ use Rattle.difi.proofs.PlaceLemmas.{block_below}
 use Rattle.ivfc_tree.specs.declared.state.IvfcState.{IvfcState}
 use Rattle.ivfc_tree.specs.Levels.{IsLevel, level_of, level4_of, HasBlock, ivfc_level, padded_block, hash_entry, parent_of}
 use Rattle.ivfc_tree.specs.Marks.{SameMarks}
-use Rattle.ivfc_tree.specs.Paths.{judged, marked_state}
+use Rattle.ivfc_tree.specs.Paths.{own_state, marked_state}
 use Rattle.ivfc_tree.specs.View.{CanView, can_view, HasLevels, HasTree, view_state}
 
 -- what holds of each of the four levels
@@ -92,10 +91,6 @@ can_view-true base difi master_len state h =
     (and_from _ _ (eq-eqb _ _ h.made.marks1)
     (and_from _ _ (eq-eqb _ _ h.made.marks2)
     (and_from _ _ (eq-eqb _ _ h.made.marks3) (eq-eqb _ _ h.made.marks4))))))))))))
-
-not-true : (b : Bool) → not b ≡ true → b ≡ false
-not-true true h = cc
-not-true false h = refl
 
 -- and only there
 pub true-can_view : (base : Shape) (difi : Difi) (master_len : ℕ) (state : IvfcState) → can_view base difi master_len state ≡ true
@@ -206,7 +201,8 @@ module _ (base : Shape) (difi : Difi) (levels : HasLevels base difi) (one other 
   unfolding padded_block
   block-same level block here = rw (level-same level here) refl
 
-  entry-same : (master : List ℕ) (level block : ℕ) → IsLevel level → hash_entry one master difi level block ≡ hash_entry other master difi level block
+  entry-same : (master : List ℕ) (level block : ℕ) → IsLevel level
+      → hash_entry one master difi level block ≡ hash_entry other master difi level block
   unfolding hash_entry
   entry-same master zero block here = absurd (omega (arith, here.0))
   entry-same master (suc zero) block here = refl
@@ -215,10 +211,9 @@ module _ (base : Shape) (difi : Difi) (levels : HasLevels base difi) (one other 
       let other : eqb (suc (suc level)) 1 ≡ false = ne_eqb (suc (suc level)) 1 (λ e. absurd (omega (arith, e))) in
       rw (other, above, level-same (suc level) (omega arith, omega (arith, here.1))) refl
 
-  pub judged-same : (master : List ℕ) (level block : ℕ) → IsLevel level
-      → judged level block (hash_entry one master difi level block) (sha256 (padded_block one difi level block))
-      ≡ judged level block (hash_entry other master difi level block) (sha256 (padded_block other difi level block))
-  judged-same master level block here = rw (block-same level block here, entry-same master level block here) refl
+  pub own-same : (master : List ℕ) (level block : ℕ) → IsLevel level
+      → own_state one master difi level block ≡ own_state other master difi level block
+  own-same master level block here = rw (block-same level block here, entry-same master level block here) refl
 
 -- a block comes to the same where the base's cells are the same, and the same blocks are marked
 module _ (base : Shape) (difi : Difi) (master : List ℕ) (tree : HasTree base difi (length master)) (one other : ℕ → Cell)
@@ -229,10 +224,10 @@ module _ (base : Shape) (difi : Difi) (master : List ℕ) (tree : HasTree base d
   unfolding marked_state
   state-same zero block there = refl
   state-same (suc zero) block there =
-      rw (marks 1 block, judged-same base difi tree.levels one other same master 1 block there.in_tree) refl
+      rw (marks 1 block, own-same base difi tree.levels one other same master 1 block there.in_tree) refl
   state-same (suc (suc level)) block there =
       let parent = parent_there base difi (length master) (suc level) block tree (omega arith) there in
-      let own = judged-same base difi tree.levels one other same master (suc (suc level)) block there.in_tree in
+      let own = own-same base difi tree.levels one other same master (suc (suc level)) block there.in_tree in
       rw (marks (suc (suc level)) block, state-same (suc level) (parent_of difi (suc level) block) parent.parent, own) refl
 
 -- and so do the cells of a view

@@ -1,13 +1,13 @@
 //! Digests of a base's bytes, hashed as they are lent, and the entries that they are compared with.
 
-ghost use Rattle.std.specs.Prelude.{◌≡◌, ℕ, ◌+◌, ◌-◌, ◌≤◌, List, ◌++◌, length, replicate, IsTrue, IfOk, OnOk};
+ghost use Rattle.std.specs.Prelude.{◌≡◌, ℕ, ◌+◌, ◌-◌, ◌≤◌, length, replicate, IsTrue, IfOk, OnOk};
 ghost use Rattle.std.specs.Result.{result_err};
 ghost use Rattle.sha2.specs.Sha256.{sha256};
-ghost use Rattle.sha2.specs.Hashers.{Holds256};
 ghost use Rattle.save_bytes.specs.CellNumbers.{bytes_in};
 ghost use Rattle.save_bytes.specs.State.{IsInside};
 ghost use Rattle.save_bytes.specs.Refusals.{NeverDamaged};
 ghost use Rattle.save_bytes.specs.Reads.{Reads};
+ghost use Rattle.ivfc_tree.specs.Hashing.{Takes};
 ghost use Rattle.ivfc_tree.specs.Levels.{HasBlock, padded_block, hash_entry};
 ghost use Rattle.ivfc_tree.specs.View.{HasLevels, HasTree};
 
@@ -22,8 +22,8 @@ fn hash_piece<S: Space>(base: &mut S, hasher: &mut Sha256, at: u64, most: u64) -
     requires some { 1 ≤ most }
     requires plain { IsTrue (S.state base.old).shape.plain }
     ensures count { IfOk result (λ n. (1 ≤ n) × (n ≤ most)) }
-    ensures hashed { IsTrue (S.state base.old).told → IfOk result (λ n. (message : List ℕ)
-        → Holds256 hasher.old message → Holds256 hasher.new (message ++ bytes_in (S.state base.old).cells at n)) }
+    ensures hashed { IsTrue (S.state base.old).told
+        → IfOk result (λ n. Takes hasher.old hasher.new (bytes_in (S.state base.old).cells at n)) }
     ensures plain { NeverDamaged (result_err result) }
     ensures reads { Reads S.state S.keeps S.lands base.old base.new (result_err result) }
 {
@@ -36,8 +36,8 @@ fn hash_piece<S: Space>(base: &mut S, hasher: &mut Sha256, at: u64, most: u64) -
 fn hash_range<S: Space>(base: &mut S, hasher: &mut Sha256, at: u64, len: u64) -> Result<(), Bad>
     requires inside { IsInside (S.state base.old).shape at len }
     requires plain { IsTrue (S.state base.old).shape.plain }
-    ensures hashed { IsTrue (S.state base.old).told → OnOk result ((message : List ℕ)
-        → Holds256 hasher.old message → Holds256 hasher.new (message ++ bytes_in (S.state base.old).cells at len)) }
+    ensures hashed { IsTrue (S.state base.old).told
+        → OnOk result (Takes hasher.old hasher.new (bytes_in (S.state base.old).cells at len)) }
     ensures plain { NeverDamaged (result_err result) }
     ensures reads { Reads S.state S.keeps S.lands base.old base.new (result_err result) }
 {
@@ -50,7 +50,7 @@ fn hash_range<S: Space>(base: &mut S, hasher: &mut Sha256, at: u64, len: u64) ->
 
 // Hashes so many zero bytes.
 fn hash_zeros(hasher: &mut Sha256, count: u64)
-    ensures { (message : List ℕ) → Holds256 hasher.old message → Holds256 hasher.new (message ++ replicate count 0) }
+    ensures { Takes hasher.old hasher.new (replicate count 0) }
 {
     let zeros = [0; 512];
     let mut left = count;

@@ -1,12 +1,11 @@
 //! The path from the master hash down to a block.
 
-ghost use Rattle.std.specs.Prelude.{◌≡◌, ℕ, ◌≤◌, ◌<◌, length, IsTrue, IfOk};
+ghost use Rattle.std.specs.Prelude.{◌≡◌, ℕ, ◌≤◌, ◌<◌, false, bytes_eq, length, IsTrue, IfOk};
 ghost use Rattle.std.specs.Result.{result_err};
-ghost use Rattle.sha2.specs.Sha256.{sha256};
 ghost use Rattle.save_bytes.specs.Refusals.{NeverDamaged};
 ghost use Rattle.save_bytes.specs.Reads.{Reads};
-ghost use Rattle.ivfc_tree.specs.Levels.{HasBlock, padded_block, hash_entry};
-ghost use Rattle.ivfc_tree.specs.Paths.{judged, block_state};
+ghost use Rattle.ivfc_tree.specs.Levels.{HasBlock, zero_entry};
+ghost use Rattle.ivfc_tree.specs.Paths.{judged, own_state, block_state};
 ghost use Rattle.ivfc_tree.specs.View.{HasTree};
 
 use crate::hashing::{block_digest, entry_of};
@@ -36,8 +35,8 @@ fn judge<S: Space>(
 ) -> Result<BlockState, Bad>
     requires tree { HasTree (S.state base.old).shape difi.now (length master.now) }
     requires there { HasBlock difi.now level block }
-    ensures state { IsTrue (S.state base.old).told → IfOk result (λ state. state
-        ≡ judged level block (hash_entry (S.state base.old).cells master.now difi.now level block) (sha256 (padded_block (S.state base.old).cells difi.now level block))) }
+    ensures state { IsTrue (S.state base.old).told
+        → IfOk result (λ state. state ≡ own_state (S.state base.old).cells master.now difi.now level block) }
     ensures plain { NeverDamaged (result_err result) }
     ensures reads { Reads S.state S.keeps S.lands base.old base.new (result_err result) }
 {
@@ -48,14 +47,21 @@ fn judge<S: Space>(
     if entry == [0; 32] {
         return Ok(BlockState::NeverWritten { level, block });
     }
-    let digest = match block_digest(base, difi, level, block) {
-        Ok(digest) => digest,
-        Err(bad) => return Err(bad),
-    };
+    match block_digest(base, difi, level, block) {
+        Ok(digest) => Ok(compare(level, block, &entry, &digest)),
+        Err(bad) => Err(bad),
+    }
+}
+
+// What the digest of a block that was written tells.
+fn compare(level: u8, block: u64, entry: &[u8; 32], digest: &[u8; 32]) -> BlockState
+    requires written { bytes_eq entry.now zero_entry ≡ false }
+    ensures { result ≡ judged level block entry.now digest.now }
+{
     if entry == digest {
-        Ok(BlockState::Holds)
+        BlockState::Holds
     } else {
-        Ok(BlockState::Fails { level, block })
+        BlockState::Fails { level, block }
     }
 }
 

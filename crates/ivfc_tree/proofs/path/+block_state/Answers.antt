@@ -1,17 +1,20 @@
 use Rattle.std.proofs.Common.{◌<◌, sym, ◌∙◌, arith}
 use Rattle.std.specs.Result.{result_err}
 use Rattle.save_bytes.proofs.CallLemmas.{Reads-join, IfOk-map}
+use Rattle.ivfc_tree.specs.ViewLaws.{own-same}
 use Rattle.ivfc_tree.proofs.LevelLemmas.{parent_of_there}
 use Rattle.ivfc_tree.proofs.StepLemmas.{step-marked, step-first, step-holds, step-fault}
-use Rattle.ivfc_tree.specs.ViewLaws.{judged-same}
 use Rattle.ivfc_tree.proofs.path.+block_state.Goals as goal
 
 pub returns-then-is_marked-clause-state : goal.returns-then-is_marked-clause-state
-returns-then-is_marked-clause-state g t c = λ told. step-marked (g.S.Space.state c.args.base.now).cells c.args.master.now c.args.difi.now c.args.state.now c.args.level c.args.block c.requires.there.in_tree.0 (sym c.is_marked.ensures ∙ c.if-is_marked.true)
+returns-then-is_marked-clause-state g t c = λ told.
+    step-marked (g.S.Space.state c.args.base.now).cells c.args.master.now c.args.difi.now c.args.state.now c.args.level c.args.block
+    c.requires.there.in_tree.0 (sym c.is_marked.ensures ∙ c.if-is_marked.true)
 
 pub returns-then-level-eq1-clause-state : goal.returns-then-level-eq1-clause-state
 returns-then-level-eq1-clause-state g t c = λ told.
-    let step = step-first (g.S.Space.state c.args.base.now).cells c.args.master.now c.args.difi.now c.args.state.now c.args.level c.args.block c.if-level-eq1.true (sym c.is_marked.ensures ∙ c.if-is_marked.false) in
+    let step = step-first (g.S.Space.state c.args.base.now).cells c.args.master.now c.args.difi.now c.args.state.now c.args.level c.args.block
+    c.if-level-eq1.true (sym c.is_marked.ensures ∙ c.if-is_marked.false) in
     IfOk-map c.judge.result (λ found is. is ∙ step) (c.judge.ensures.state told)
 
 pub block_state-requires : goal.block_state-requires
@@ -20,26 +23,27 @@ block_state-requires g t c κs within =
     let parent = parent_of_there (g.S.Space.state c.args.base.now).shape c.args.difi.now _ c.args.level c.args.block c.requires.tree below c.requires.there in
     (omega (arith, c.decreases, c.requires.there.in_tree.0), (within, (c.requires.tree, rw c.parent_of-above.ensures parent)))
 
-pub returns-in-Holds-clause-state : goal.returns-in-Holds-clause-state
-returns-in-Holds-clause-state g t c = λ told.
-    let old = g.S.Space.state c.args.base.now in
-    let mid = g.S.Space.state c.block_state.new.base in
-    let stays = c.in-Ok.ensures.reads.stays in
-    let above = sym c.in-Holds.is ∙ c.in-Ok.ensures.state told in
-    let step = step-holds old.cells c.args.master.now c.args.difi.now c.args.state.now c.args.level c.args.block c.requires.there.in_tree.0 (sym c.is_marked.ensures ∙ c.if-is_marked.false) (rw c.parent_of-above.ensures at above) in
-    let same = judged-same old.shape c.args.difi.now c.requires.tree.levels mid.cells old.cells (stays.cells told) c.args.master.now c.args.level c.args.block c.requires.there.in_tree in
-    IfOk-map c.judge-in-Holds.result (λ found is. is ∙ same ∙ step) (c.judge-in-Holds.ensures.state (stays.space.told told))
-
-pub returns-in-Holds-clause-reads : goal.returns-in-Holds-clause-reads
-returns-in-Holds-clause-reads g t c =
+pub returns-in-Holds : goal.returns-in-Holds
+returns-in-Holds g t c =
     let space = g.S.Space in
-    Reads-join space.state space.keeps space.lands g.met.S.Space.keeps_join c.args.base.now c.block_state.new.base c.judge-in-Holds.new.base (result_err c.judge-in-Holds.result) c.in-Ok.ensures.reads c.judge-in-Holds.ensures.reads
+    let old = space.state c.args.base.now in
+    let mid = c.block_state.new.base in
+    let reads = c.in-Ok.ensures.reads in
+    record {
+      state = λ told.
+          (let above = sym c.in-Holds.is ∙ c.in-Ok.ensures.state told in
+          let step = step-holds old.cells c.args.master.now c.args.difi.now c.args.state.now c.args.level c.args.block c.requires.there.in_tree.0
+          (sym c.is_marked.ensures ∙ c.if-is_marked.false) (rw c.parent_of-above.ensures at above) in
+          let same = own-same old.shape c.args.difi.now c.requires.tree.levels (space.state mid).cells old.cells (reads.stays.cells told)
+          c.args.master.now c.args.level c.args.block c.requires.there.in_tree in
+          IfOk-map c.judge-in-Holds.result (λ found is. is ∙ same ∙ step) (c.judge-in-Holds.ensures.state (reads.stays.space.told told)));
+      plain = c.judge-in-Holds.ensures.plain;
+      reads = Reads-join space.state space.keeps space.lands g.met.S.Space.keeps_join c.args.base.now mid c.judge-in-Holds.new.base
+          (result_err c.judge-in-Holds.result) reads c.judge-in-Holds.ensures.reads;
+    }
 
-pub returns-in_default : goal.returns-in_default
-returns-in_default g t c = record {
-  state = λ told.
-      (let old = g.S.Space.state c.args.base.now in
-      step-fault old.cells c.args.master.now c.args.difi.now c.args.state.now c.args.level c.args.block c.in-Ok.found c.requires.there.in_tree.0 (sym c.is_marked.ensures ∙ c.if-is_marked.false) (rw c.parent_of-above.ensures at c.in-Ok.ensures.state told) c.in_default.not-Holds);
-  plain = tt;
-  reads = c.in-Ok.ensures.reads;
-}
+pub returns-in_default-clause-state : goal.returns-in_default-clause-state
+returns-in_default-clause-state g t c = λ told.
+    step-fault (g.S.Space.state c.args.base.now).cells c.args.master.now c.args.difi.now c.args.state.now c.args.level c.args.block c.in-Ok.found
+    c.requires.there.in_tree.0 (sym c.is_marked.ensures ∙ c.if-is_marked.false) (rw c.parent_of-above.ensures at c.in-Ok.ensures.state told)
+    c.in_default.not-Holds

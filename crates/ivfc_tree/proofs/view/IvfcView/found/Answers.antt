@@ -14,5 +14,17 @@ returns-clause-reads g c =
     let space = g.S.Space in
     let tree = shown_tree space.state g.met.S.Space.size_fits c.args.self.now c.requires.sound in
     (hashed_read space.state space.keeps space.lands c.args.self.now _ (result_err c.block_state.result)
-    (record { same_base = refl; same_part = refl; same_difi = refl; same_master = refl; master_now = refl; same_state = refl; state_now = refl })
+    (record {
+      hold = record {
+        same_base = refl;
+        same_part = refl;
+        same_difi = refl;
+        same_master = refl;
+        master_len = refl;
+        same_state = refl;
+        marks = record { marks1 = refl; marks2 = refl; marks3 = refl; marks4 = refl };
+      };
+      master_now = refl;
+      state_now = refl;
+    })
     tree c.block_state.ensures.reads).0

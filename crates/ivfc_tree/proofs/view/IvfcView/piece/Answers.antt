@@ -12,7 +12,8 @@ overflow_add-place g c =
     let space = g.S.Space in
     let view = c.args.self.now in
     let tree = shown_tree space.state g.met.S.Space.size_fits view c.requires.inside.sound in
-    let there = place_inside (space.state view.base.now).shape view.difi.now (length view.master.now) c.args.at tree (omega (arith, c.requires.inside.inside)) in
+    let there = place_inside (space.state view.base.now).shape view.difi.now (length view.master.now) c.args.at tree
+    (omega (arith, c.requires.inside.inside)) in
     rw c.level_of.ensures (omega (arith, tree.levels.small, there))
 
 pub piece-requires-clause-inside : goal.piece-requires-clause-inside
@@ -21,8 +22,9 @@ piece-requires-clause-inside g c =
     let view = c.args.self.now in
     let first = c.in-Ok.ensures in
     let tree = shown_tree space.state g.met.S.Space.size_fits view c.requires.inside.sound in
-    run_inside (space.state view.base.now) (space.state c.verify.new.self.base.now) view.part view.master.now view.difi.now view.state.now
-    c.args.at c.args.most c.in-Ok.most _ tree first.verified first.base.stays (ap (λ (level : LevelPlace). level.at + c.args.at) c.level_of.ensures)
+    run_inside (space.state view.base.now) view.part view.master.now view.difi.now view.state.now c.args.at
+    (space.state c.verify.new.self.base.now) c.args.most c.in-Ok.most _ tree first.verified first.base.stays
+    (ap (λ (level : LevelPlace). level.at + c.args.at) c.level_of.ensures)
 
 pub returns : goal.returns
 returns g c =
@@ -33,6 +35,7 @@ returns g c =
     let refusal = result_err c.piece.result in
     let tree = shown_tree space.state g.met.S.Space.size_fits view c.requires.inside.sound in
     let first = c.in-Ok.ensures in
+    let hold = first.same.hold in
     let base = Reads-join space.state space.keeps space.lands g.met.S.Space.keeps_join view.base.now mid last refusal first.base
     c.piece.follows.holds-at-none in (
       (
@@ -40,19 +43,23 @@ returns g c =
         λ _. tt,
         hashed_read space.state space.keeps space.lands view _ refusal
             (record {
-              same_base = first.same.same_base;
-              same_part = first.same.same_part;
-              same_difi = first.same.same_difi;
-              same_master = first.same.same_master;
+              hold = record {
+                same_base = hold.same_base;
+                same_part = hold.same_part;
+                same_difi = hold.same_difi;
+                same_master = hold.same_master;
+                master_len = hold.master_len;
+                same_state = hold.same_state;
+                marks = hold.marks;
+              };
               master_now = first.same.master_now;
-              same_state = first.same.same_state;
               state_now = first.same.state_now;
             })
             tree base,
       ),
       record {
-        piece = view_piece (space.state view.base.now) (space.state mid) view.part view.master.now view.difi.now view.state.now
-            c.args.at c.args.most c.in-Ok.most _ tree first.verified first.base.stays
+        piece = view_piece (space.state view.base.now) view.part view.master.now view.difi.now view.state.now
+            c.args.at (space.state mid) c.args.most c.in-Ok.most _ tree first.verified first.base.stays
             (ap (λ (level : LevelPlace). level.at + c.args.at) c.level_of.ensures) c.piece.result c.piece.ensures.piece;
         after = tt;
       },
