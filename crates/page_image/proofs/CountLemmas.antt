@@ -1,31 +1,34 @@
 -- The writes of a sector behind those of the sectors before it.
 use Rattle.std.proofs.Common.{◌≡◌, ◌≢◌, ℕ, ◌+◌, ◌*◌, ◌<◌, ◌≤◌, Bool, true, false, ◌&&◌, eqb, ltb, List, ◌++◌, refl, sym, ◌∙◌, ap, arith, ⊎_elim}
-use Rattle.std.proofs.lemmas.Bool.{cases_lt, cases_eq, lt-ltb, le-ltb, eq-eqb, eqb-true}
+use Rattle.std.proofs.lemmas.Bool.{false_from_ne_true, cases_lt, cases_eq, lt-ltb, le-ltb, eq-eqb, eqb-true}
+use Rattle.save_bytes.specs.Spots.{Spot, Place, Frame}
 use Rattle.save_disk.specs.Trace.{Event}
-use Rattle.save_disk.specs.Writes.{OnlyWrites, one_if, writes_to}
-use Rattle.save_disk.proofs.Growth.{OnlyWrites-append, OnlyWrites-map, writes_to-append}
+use Rattle.save_disk.specs.State as disks
+use Rattle.save_disk.specs.State.{GoesOn}
+use Rattle.save_disk.specs.Writes.{OnlyWrites, GrewBy, one_if, writes_to}
+use Rattle.save_disk.proofs.Growth.{OnlyWrites-append, OnlyWrites-map, writes_to-append, GoesOn-then}
 use Rattle.page_image.specs.declared.state.ImageState.{ImageState}
 use Rattle.page_image.specs.Images.{byte_of, is_changed}
+use Rattle.page_image.specs.Spots.{Leaves}
 use Rattle.page_image.specs.WriteOuts.{IsOwnWrite, WritesEach, WritesSome}
 
 -- an own write of the same bytes, where the sector is as much changed
-own_same : (i j : ImageState) (sector : ℕ) (written : List ℕ) → j.grain ≡ i.grain → ((x : ℕ) → byte_of j x ≡ byte_of i x) → is_changed j sector ≡ is_changed i sector → IsOwnWrite j sector written → IsOwnWrite i sector written
+own_same : (i j : ImageState) (sector : ℕ) (written : List ℕ) → j.grain ≡ i.grain → ((x : ℕ) → byte_of j x ≡ byte_of i x)
+    → is_changed j sector ≡ is_changed i sector → IsOwnWrite j sector written → IsOwnWrite i sector written
 own_same i j sector written grain same marks own =
     let grain_back : i.grain ≡ j.grain = sym grain in
     record {
       changed = sym marks ∙ own.changed;
       bytes = record {
         long = own.bytes.long ∙ grain;
-        each = λ k below. (let inside : k < j.grain = rw grain below in own.bytes.each k inside ∙ same (sector * j.grain + k) ∙ ap (λ (n : ℕ). byte_of i (sector * n + k)) grain);
+        each = λ k below.
+            (let inside : k < j.grain = rw grain below in
+            own.bytes.each k inside ∙ same (sector * j.grain + k) ∙ ap (λ (n : ℕ). byte_of i (sector * n + k)) grain);
       };
     }
 
-no_other : (test : Bool) → ((test ≡ true) → ⊥) → test ≡ false
-no_other true isnt = absurd (isnt refl)
-no_other false isnt = refl
-
 apart-eqb : (a b : ℕ) → a ≢ b → eqb a b ≡ false
-apart-eqb a b apart = no_other (eqb a b) (λ is. apart (eqb-true a b is))
+apart-eqb a b apart = false_from_ne_true (eqb a b) (λ is. apart (eqb-true a b is))
 
 -- those below a number and the number itself
 one_more : (s m : ℕ) (c : Bool) → one_if (ltb m s && c) + one_if (eqb s m && c) ≡ one_if (ltb m (s + 1) && c)
@@ -43,7 +46,8 @@ at_most_one : (t c : Bool) → one_if (t && c) ≤ one_if c
 at_most_one true c = omega arith
 at_most_one false c = omega arith
 
-module _ (i j : ImageState) (s : ℕ) (grain : j.grain ≡ i.grain) (same : (x : ℕ) → byte_of j x ≡ byte_of i x) (clean : (m : ℕ) → m < s → is_changed j m ≡ false) (behind : (m : ℕ) → s ≤ m → is_changed j m ≡ is_changed i m) where
+module _ (d e f : disks.State) (i j : ImageState) (s : ℕ) (leaves : (spot : Spot) → Leaves spot d i e j)
+    (clean : (m : ℕ) → m < s → is_changed j m ≡ false) (behind : (m : ℕ) → s ≤ m → is_changed j m ≡ is_changed i m) where
   -- a sector that is changed now was changed at first
   at_first : (sector : ℕ) → is_changed j sector ≡ true → is_changed j sector ≡ is_changed i sector
   at_first sector changed =
@@ -51,7 +55,10 @@ module _ (i j : ImageState) (s : ℕ) (grain : j.grain ≡ i.grain) (same : (x :
 
   -- where the sectors before this one were written, a write of a changed sector is one of those that were to be written
   own_before : (events : List Event) → OnlyWrites (IsOwnWrite j) events → OnlyWrites (IsOwnWrite i) events
-  own_before events own = OnlyWrites-map (IsOwnWrite j) (IsOwnWrite i) events (λ sector written is. own_same i j sector written grain same (at_first sector is.changed) is) own
+  own_before events own =
+      OnlyWrites-map (IsOwnWrite j) (IsOwnWrite i) events
+      (λ sector written is.
+      own_same i j sector written (leaves Frame).0.grain (λ x. (leaves (Place x)).1.0) (at_first sector is.changed) is) own
 
   -- the sector itself is as much changed as at first
   chosen_same : (m : ℕ) → (eqb s m && is_changed j m) ≡ (eqb s m && is_changed i m)
@@ -61,8 +68,7 @@ module _ (i j : ImageState) (s : ℕ) (grain : j.grain ≡ i.grain) (same : (x :
       (λ (apart : s ≢ m). rw (apart-eqb s m apart) refl)
       (cases_eq s m)
 
-  -- each of the sectors up to this one was written
-  pub each_more : (xs ys : List Event) → WritesEach i (λ m. ltb m s) xs → WritesEach j (λ m. eqb s m) ys → WritesEach i (λ m. ltb m (s + 1)) (xs ++ ys)
+  each_more : (xs ys : List Event) → WritesEach i (λ m. ltb m s) xs → WritesEach j (λ m. eqb s m) ys → WritesEach i (λ m. ltb m (s + 1)) (xs ++ ys)
   each_more xs ys first step_ = record {
     own = OnlyWrites-append (IsOwnWrite i) xs ys first.own (own_before ys step_.own);
     count = λ m.
@@ -70,11 +76,21 @@ module _ (i j : ImageState) (s : ℕ) (grain : j.grain ≡ i.grain) (same : (x :
         writes_to-append m xs ys ∙ rw (first.count m, step) (one_more s m (is_changed i m)));
   }
 
-  -- this one was written or not
-  pub some_more : (xs ys : List Event) → WritesEach i (λ m. ltb m s) xs → WritesSome j (λ m. eqb s m) ys → WritesSome i (λ m. true) (xs ++ ys)
+  -- each of the sectors up to this one was written
+  pub wrote_each : GoesOn (GrewBy (WritesEach i (λ m. ltb m s))) d e → GoesOn (GrewBy (WritesEach j (λ m. eqb s m))) e f
+      → GoesOn (GrewBy (WritesEach i (λ m. ltb m (s + 1)))) d f
+  wrote_each = GoesOn-then (WritesEach i (λ m. ltb m s)) (WritesEach j (λ m. eqb s m)) (WritesEach i (λ m. ltb m (s + 1))) each_more d e f
+
+  some_more : (xs ys : List Event) → WritesEach i (λ m. ltb m s) xs → WritesSome j (λ m. eqb s m) ys → WritesSome i (λ m. true) (xs ++ ys)
   some_more xs ys first step_ = record {
     own = OnlyWrites-append (IsOwnWrite i) xs ys first.own (own_before ys step_.own);
     count = λ m.
         (let marks : one_if (eqb s m && is_changed j m) ≡ one_if (eqb s m && is_changed i m) = ap one_if (chosen_same m) in
-        omega (arith, writes_to-append m xs ys, first.count m, marks, step_.count m, one_more s m (is_changed i m), at_most_one (ltb m (s + 1)) (is_changed i m)));
+        let counts = writes_to-append m xs ys in
+        omega (arith, counts, first.count m, marks, step_.count m, one_more s m (is_changed i m), at_most_one (ltb m (s + 1)) (is_changed i m)));
   }
+
+  -- this one was written or not
+  pub wrote_some : GoesOn (GrewBy (WritesEach i (λ m. ltb m s))) d e → GoesOn (GrewBy (WritesSome j (λ m. eqb s m))) e f
+      → GoesOn (GrewBy (WritesSome i (λ m. true))) d f
+  wrote_some = GoesOn-then (WritesEach i (λ m. ltb m s)) (WritesSome j (λ m. eqb s m)) (WritesSome i (λ m. true)) some_more d e f

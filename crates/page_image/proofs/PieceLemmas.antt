@@ -1,5 +1,5 @@
 -- What a lent piece shows, and what it leaves.
-use Rattle.std.proofs.Common.{◌≡◌, ℕ, ◌+◌, ◌-◌, ◌<◌, ◌≤◌, min, List, length, get_or, slice_range, Ok, None, refl, sym, ◌∙◌, ap, arith}
+use Rattle.std.proofs.Common.{◌≡◌, ℕ, ◌+◌, ◌-◌, ◌<◌, ◌≤◌, min, List, length, get_or, slice_range, Ok, sym, ◌∙◌, ap, arith}
 use Rattle.std.proofs.lemmas.List.{places}
 use Rattle.std.specs.Borrow.{Bor}
 use Rattle.save_bytes.specs.Cells.{Byte}
@@ -15,7 +15,8 @@ length-range : (xs : List ℕ) (at n : ℕ) → at + n ≤ length xs → length 
 length-range xs at n fits = grind (arith, places)
 
 -- the bytes of a range, as many as are asked for and there are
-pub range_piece : (i : ImageState) (at most n : ℕ) (piece : List ℕ) → at + 1 ≤ i.len → 1 ≤ most → n ≡ min most (i.len - at) → piece ≡ slice_range i.bytes.items at (at + n) → IsHeldPiece i at most piece
+pub range_piece : (i : ImageState) (at most n : ℕ) (piece : List ℕ) → at + 1 ≤ i.len → 1 ≤ most
+    → n ≡ min most (i.len - at) → piece ≡ slice_range i.bytes.items at (at + n) → IsHeldPiece i at most piece
 range_piece i at most n piece inside some count is =
     let fits : at + n ≤ length i.bytes.items = omega (arith, i.layout.covers) in
     let long : length piece ≡ n = ap length is ∙ length-range i.bytes.items at n fits in
@@ -27,7 +28,8 @@ range_piece i at most n piece inside some count is =
     }
 
 -- are a piece of the space
-pub image_piece : (d : disks.State) (i : ImageState) (at most : ℕ) (piece : Bor (List ℕ)) → IsHeldPiece i at most piece.now → IsPiece (image_state d i) at most (Ok piece)
+pub image_piece : (d : disks.State) (i : ImageState) (at most : ℕ) (piece : Bor (List ℕ)) → IsHeldPiece i at most piece.now
+    → IsPiece (image_state d i) at most (Ok piece)
 image_piece d i at most piece held = record {
   some = held.some;
   bounded = held.bounded;

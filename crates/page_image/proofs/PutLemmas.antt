@@ -18,23 +18,28 @@ use Rattle.page_image.specs.declared.image.Image.{Image}
 use Rattle.page_image.specs.Layout.{IsEndOf}
 use Rattle.page_image.specs.Images.{byte_of, is_changed, image_state, Mirrors}
 use Rattle.page_image.specs.Spots.{SameImage, HoldsAt, Leaves, ImageLands}
-use Rattle.page_image.specs.Held.{shown, SameView, ImageKeeps}
-use Rattle.page_image.specs.Laws.{SureAsBefore-same}
-use Rattle.page_image.specs.Puts.{IsPut, IsPending}
+use Rattle.page_image.specs.Held.{shown, SameImageView, ImageKeeps}
+use Rattle.page_image.specs.Laws.{sure_start}
+use Rattle.page_image.specs.Puts.{IsImagePut, IsPending}
 use Rattle.page_image.proofs.SectorLemmas.{rising}
 
 -- marks on the sectors from the first that a range meets up to the end of those
-pub marked : (at n grain end : ℕ) (old new : List Bool) → 1 ≤ grain → IsEndOf end at n grain → ((sector : ℕ) → at / grain ≤ sector → sector < end → get_or new sector false ≡ true) → ((sector : ℕ) → sector < at / grain → get_or new sector false ≡ get_or old sector false) → ((sector : ℕ) → end ≤ sector → get_or new sector false ≡ get_or old sector false) → ((k : ℕ) → k < n → get_or new ((at + k) / grain) false ≡ true) × ((sector : ℕ) → ((k : ℕ) → k < n → (at + k) / grain ≢ sector) → get_or new sector false ≡ get_or old sector false)
-marked at n grain end old new some is_end within before behind = (
-  λ k below. within ((at + k) / grain) (rising at (at + k) grain some (omega arith)) (is_end.met k below),
-  λ sector apart.
+module _ (at n grain end : ℕ) (some : 1 ≤ grain) (is_end : IsEndOf end at n grain) (old new : List Bool) where
+  pub marked_met : ((sector : ℕ) → at / grain ≤ sector → sector < end → get_or new sector false ≡ true)
+      → (k : ℕ) → k < n → get_or new ((at + k) / grain) false ≡ true
+  marked_met within k below = within ((at + k) / grain) (rising at (at + k) grain some (omega arith)) (is_end.met k below)
+
+  pub marked_others : ((sector : ℕ) → sector < at / grain → get_or new sector false ≡ get_or old sector false)
+      → ((sector : ℕ) → end ≤ sector → get_or new sector false ≡ get_or old sector false)
+      → (sector : ℕ) → ((k : ℕ) → k < n → (at + k) / grain ≢ sector) → get_or new sector false ≡ get_or old sector false
+  marked_others before behind sector apart =
       ⊎_elim (before sector)
       (λ (from : at / grain ≤ sector).
-      ⊎_elim (λ (below : sector < end). let hit = is_end.tight sector from below in absurd (apart hit.0 hit.1 hit.2)) (behind sector) (cases_lt sector end))
-      (cases_lt sector (at / grain)),
-)
+      ⊎_elim (λ (below : sector < end). let hit = is_end.tight sector from below in absurd (apart hit.0 hit.1 hit.2))
+      (behind sector) (cases_lt sector end))
+      (cases_lt sector (at / grain))
 
-module _ (d : disks.State) (i j : ImageState) (at : ℕ) (piece : List ℕ) (put : IsPut at piece i j) (fits : at + length piece ≤ i.len) where
+module _ (d : disks.State) (i j : ImageState) (at : ℕ) (piece : List ℕ) (put : IsImagePut at piece i j) (fits : at + length piece ≤ i.len) where
   puts : Puts (bytes_state i.bytes.items 1) at piece (bytes_state j.bytes.items 1) None
   puts = bytes_put i.bytes.items at piece j.bytes.items (record { fits = omega (arith, fits, i.layout.covers); is = put.bytes }) 1
 
@@ -84,26 +89,42 @@ module _ (d : disks.State) (i j : ImageState) (at : ℕ) (piece : List ℕ) (put
       before told is x inside clean_before ∙ sym (outside x (λ k within same. missed k within (ap (λ (y : ℕ). y / i.grain) (sym same))))
 
   same_image : SameImage d i d j
-  same_image = record { len = put.len; grain = put.grain; steady = steady_start d; writes = WritesOnly-quiet (λ sector bytes. ⊤) d d refl; mirrors = mirrors; pending = λ sector changed clean. absurd (let same = put.marks.others sector (unmet sector clean) in cc) }
+  same_image = record {
+    len = put.len;
+    grain = put.grain;
+    steady = steady_start d;
+    writes = WritesOnly-quiet (λ sector bytes. ⊤) d d refl;
+    mirrors = mirrors;
+    pending = λ sector changed clean. absurd (let same = put.marks.others sector (unmet sector clean) in cc);
+  }
 
   -- a spot that the put misses is left alone
   pub put_leaves : (spot : Spot) → Misses (ImageLands i.grain) at (length piece) spot → Leaves spot d i d j
-  put_leaves (Place x) misses = (same_image, (outside x (λ k within same. misses k within (sym same)), WritesOnly-quiet (HoldsAt i.grain x (byte_of i x)) d d refl))
-  put_leaves (Sector number) misses = (same_image, λ clean. (put.marks.others number misses ∙ clean, WritesOnly-quiet (λ sector bytes. sector ≢ number) d d refl, SureAsBefore-same number d))
+  put_leaves (Place x) misses = (
+    same_image,
+    (outside x (λ k within same. misses k within (sym same)), WritesOnly-quiet (HoldsAt i.grain x (byte_of i x)) d d refl),
+  )
+  put_leaves (Sector number) misses = (
+    same_image,
+    λ clean. (put.marks.others number misses ∙ clean, WritesOnly-quiet (λ sector bytes. sector ≢ number) d d refl, sure_start number d.told),
+  )
   put_leaves other misses = (same_image, tt)
 
-module _ {D : Type 0} (states : D → disks.State) where
-  -- no spot outside the range was touched
-  pub image_moved : (s t : Image D) (at : ℕ) (piece : List ℕ) → SameView s t → states t.disk.now ≡ states s.disk.now → IsPut at piece s.image.now t.image.now → at + length piece ≤ s.image.now.len → MovesOnly (ImageKeeps states) (λ view. ImageLands view.image.now.grain) (shown states s) s at (length piece) t None
-  image_moved s t at piece same untouched put fits = record {
-    hold = (same, rw untouched (put_leaves (states s.disk.now) s.image.now t.image.now at piece put fits Hold (λ k within lands. lands)));
-    spots = λ told spot misses. (same, rw untouched (put_leaves (states s.disk.now) s.image.now t.image.now at piece put fits spot misses));
-    damaged = λ told. tt;
-    reach = λ told x below spot lands. rw put.grain at lands;
-  }
+-- no spot outside the range was touched
+pub image_moved : {D : Type 0} (states : D → disks.State) (s t : Image D) (at : ℕ) (piece : List ℕ) → SameImageView s t
+    → states t.disk.now ≡ states s.disk.now → IsImagePut at piece s.image.now t.image.now → at + length piece ≤ s.image.now.len
+    → MovesOnly (ImageKeeps states) (λ view. ImageLands view.image.now.grain) (shown states s) s at (length piece) t None
+image_moved states s t at piece same untouched put fits =
+    let leaves = put_leaves (states s.disk.now) s.image.now t.image.now at piece put fits in
+    record {
+      hold = (same, rw untouched (leaves Hold (λ k within lands. lands)));
+      spots = λ can spot misses. (same, rw untouched (leaves spot misses));
+      damaged = λ can. tt;
+      reach = λ can x below spot lands. rw put.grain at lands;
+    }
 
 -- what was put is pending
-pub image_pending : (d : disks.State) (i j : ImageState) (at : ℕ) (piece : List ℕ) → IsPut at piece i j → IsPending at (length piece) d d j
+pub image_pending : (d : disks.State) (i j : ImageState) (at : ℕ) (piece : List ℕ) → IsImagePut at piece i j → IsPending at (length piece) d d j
 image_pending d i j at piece put k below clean =
     let met : is_changed j ((at + k) / j.grain) ≡ true = rw put.grain (put.marks.met k below) in
     absurd (cc)

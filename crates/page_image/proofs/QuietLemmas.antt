@@ -14,6 +14,7 @@ use Rattle.page_image.specs.declared.state.ImageState.{ImageState}
 use Rattle.page_image.specs.declared.image.Image.{Image}
 use Rattle.page_image.specs.Spots.{Leaves}
 use Rattle.page_image.specs.Held.{shown, ImageKeeps}
+use Rattle.page_image.specs.Laws.{SureFrom}
 use Rattle.page_image.specs.WriteOuts.{IsClean}
 
 -- a write of no sector
@@ -34,7 +35,9 @@ same_told a b grew sure =
     λ t. record { start = grew.start t; grain = grew.grain t; events = events t; left = grew.left t; sure = fun_ext sure t }
 
 -- the same of what a disk tells of its trace
-went_same : (o p : Option Told) → MatchOption o (p ≡ None) (λ told. (next : Told) × (p ≡ Some next) × GrewBy (OnlyWrites OfNone) told next) → ((number : ℕ) → MatchOption o (p ≡ None) (λ told. (next : Told) × (p ≡ Some next) × (next.sure number ≡ told.sure number))) → p ≡ o
+went_same : (o p : Option Told)
+    → MatchOption o (p ≡ None) (λ told. (next : Told) × (p ≡ Some next) × GrewBy (OnlyWrites OfNone) told next)
+    → ((number : ℕ) → SureFrom number o p) → p ≡ o
 went_same None p grew sure = grew
 went_same (Some told) p (next, is, grew) sure =
     is

@@ -12,7 +12,7 @@ use Rattle.save_disk.specs.Tells.{tells, image_of}
 use Rattle.save_disk.proofs.Told.{read_sure, tells-sure, tells-told, told_grain}
 use Rattle.page_image.specs.declared.state.ImageState.{ImageState}
 use Rattle.page_image.specs.Images.{byte_of, is_changed, IsDiskOf, IsOpened}
-use Rattle.page_image.specs.Reading.{AreRead}
+use Rattle.page_image.specs.Reading.{AreSectorsRead}
 
 -- each of the sectors begins inside
 pub sector_begins : (sector sectors grain size : ℕ) → sector < sectors → sectors * grain < size + grain → sector * grain < size
@@ -20,32 +20,38 @@ sector_begins sector sectors grain size below ends =
     let next : sector + 1 ≤ sectors = omega arith in
     omega (arith, mul-le-mul_left grain next)
 
-part_before : (start n x : ℕ) (bytes out : List ℕ) → start + n ≤ length bytes → length out ≡ n → x < start → get_or (put_mid start (start + n - start) bytes out) x 0 ≡ get_or bytes x 0
-part_before start n x bytes out fits long before = grind (arith, places)
+module _ (start n : ℕ) (bytes out : List ℕ) (fits : start + n ≤ length bytes) (long : length out ≡ n) where
+  part_before : (x : ℕ) → x < start → get_or (put_mid start (start + n - start) bytes out) x 0 ≡ get_or bytes x 0
+  part_before x before = grind (arith, places)
 
-part_inside : (start n k : ℕ) (bytes out : List ℕ) → start + n ≤ length bytes → length out ≡ n → k < n → get_or (put_mid start (start + n - start) bytes out) (start + k) 0 ≡ get_or out k 0
-part_inside start n k bytes out fits long within = grind (arith, places)
+  part_inside : (k : ℕ) → k < n → get_or (put_mid start (start + n - start) bytes out) (start + k) 0 ≡ get_or out k 0
+  part_inside k within = grind (arith, places)
 
 -- a sector more is read
-pub sector_read : (disk : disks.State) (grain sector : ℕ) (bytes out : List ℕ) → disks.IsSound disk → grain ≡ disk.grain → sector * grain + grain ≤ length bytes → length out ≡ grain → disks.IsRead disk sector out → AreRead disk grain bytes (sector * grain) → AreRead disk grain (put_mid (sector * grain) (sector * grain + grain - sector * grain) bytes out) (sector * grain + grain)
+pub sector_read : (disk : disks.State) (grain sector : ℕ) (bytes out : List ℕ) → disks.IsSound disk → grain ≡ disk.grain
+    → sector * grain + grain ≤ length bytes → length out ≡ grain → disks.IsRead disk sector out
+    → AreSectorsRead disk grain bytes (sector * grain)
+    → AreSectorsRead disk grain (put_mid (sector * grain) (sector * grain + grain - sector * grain) bytes out) (sector * grain + grain)
 sector_read disk grain sector bytes out sound same fits long read before = λ told is x below sure.
+    let start : ℕ = sector * grain in
     ⊎_elim
-    (λ (front : x < sector * grain). part_before (sector * grain) grain x bytes out fits long front ∙ before told is x front sure)
-    (λ (behind : sector * grain ≤ x).
-    let k : ℕ = x - sector * grain in
+    (λ (front : x < start). part_before start grain bytes out fits long x front ∙ before told is x front sure)
+    (λ (behind : start ≤ x).
+    let k : ℕ = x - start in
     let within : k < grain = omega arith in
-    let place : x ≡ sector * grain + k = omega arith in
+    let place : x ≡ start + k = omega arith in
     let there : x / grain ≡ sector = ap (λ (y : ℕ). y / grain) place ∙ div-mul-add sector grain k within in
-    let whole : out ≡ sector_of grain (image_now told) sector = read_sure disk told sector out sound is (rw there at sure) read ∙ ap (λ (n : ℕ). sector_of n (image_now told) sector) (sym same) in
-    ap (λ (y : ℕ). get_or (put_mid (sector * grain) (sector * grain + grain - sector * grain) bytes out) y 0) place
-    ∙ part_inside (sector * grain) grain k bytes out fits long within
-    ∙ ap (λ (l : List ℕ). get_or l k 0) whole
+    let own : out ≡ sector_of disk.grain (image_now told) sector = read_sure disk told sector out sound is (rw there at sure) read in
+    ap (λ (y : ℕ). get_or (put_mid start (start + grain - start) bytes out) y 0) place
+    ∙ part_inside start grain bytes out fits long k within
+    ∙ ap (λ (l : List ℕ). get_or l k 0) (own ∙ ap (λ (n : ℕ). sector_of n (image_now told) sector) (sym same))
     ∙ sector_of-byte grain (image_now told) sector k within
     ∙ ap (λ (y : ℕ). get_or (image_now told) y 0) (sym place))
-    (cases_lt x (sector * grain))
+    (cases_lt x start)
 
 -- a disk that tells the same trace
-pub read_same : (disk other : disks.State) (grain : ℕ) (bytes : List ℕ) (n m : ℕ) → disk.told ≡ other.told → m ≤ n → AreRead disk grain bytes n → AreRead other grain bytes m
+pub read_same : (disk other : disks.State) (grain : ℕ) (bytes : List ℕ) (n m : ℕ) → disk.told ≡ other.told → m ≤ n
+    → AreSectorsRead disk grain bytes n → AreSectorsRead other grain bytes m
 read_same disk other grain bytes n m same fits read = λ told is x below sure. read told (same ∙ is) x (omega arith) sure
 
 -- what a whole slice becomes
@@ -61,9 +67,11 @@ unmarked changed n clear sector =
     (cases_lt sector n))
 
 -- an image whose bytes were read, with no mark
-pub opened : (disk : disks.State) (image : ImageState) (n : ℕ) → disks.IsSound disk → IsDiskOf disk image → image.len ≤ n → AreRead disk image.grain image.bytes.items n → ((sector : ℕ) → is_changed image sector ≡ false) → IsOpened disk image
+pub opened : (disk : disks.State) (image : ImageState) (n : ℕ) → disks.IsSound disk → IsDiskOf disk image → image.len ≤ n
+    → AreSectorsRead disk image.grain image.bytes.items n → ((sector : ℕ) → is_changed image sector ≡ false) → IsOpened disk image
 opened disk image n sound disk_of covers read clean =
-    let byte : (told : Told) → disk.told ≡ Some told → IsTrue (tells disk) → (x : ℕ) → x < image.len → byte_of image x ≡ get_or (image_now told) x 0 = λ told is sure x below.
+    let byte : (told : Told) → disk.told ≡ Some told → IsTrue (tells disk)
+    → (x : ℕ) → x < image.len → byte_of image x ≡ get_or (image_now told) x 0 = λ told is sure x below.
     (let at = tells-sure disk told x is sure (omega (arith, disk_of.size)) in
     let grain : told.grain ≡ image.grain = told_grain disk told sound is ∙ disk_of.grain in
     read told is x (omega arith) (rw grain at at)) in

@@ -1,25 +1,17 @@
 -- What calls on an image leave of its disk.
-use Rattle.std.proofs.Common.{◌≡◌, ◌/◌, Bool, true, false, ◌&&◌, IsTrue, refl, sym, ◌∙◌}
-use Rattle.std.proofs.lemmas.Bool.{eqb-true}
+use Rattle.std.proofs.Common.{◌/◌, sym, ◌∙◌}
 use Rattle.save_disk.specs.State as disks
 use Rattle.page_image.specs.declared.state.ImageState.{ImageState}
-use Rattle.page_image.specs.Images.{IsDiskOf, is_disk_of, Mirrors, IsStored}
+use Rattle.page_image.specs.Images.{IsDiskOf, Mirrors, IsStored}
 use Rattle.page_image.specs.Spots.{SameImage}
 use Rattle.page_image.specs.WriteOuts.{IsClean}
 
 -- the disk stays that of the image
 pub kept_disk : (d e : disks.State) (i j : ImageState) → SameImage d i e j → IsDiskOf d i → IsDiskOf e j
-kept_disk d e i j same disk_of = record { size = same.steady.size ∙ disk_of.size ∙ sym same.len; grain = same.steady.grain ∙ disk_of.grain ∙ sym same.grain }
-
-both : (a b : Bool) → (a && b) ≡ true → (a ≡ true) × (b ≡ true)
-both true b h = (refl, h)
-both false b h = absurd (cc)
-
--- a sound view lies on the image's disk
-pub sound_disk : (d : disks.State) (i : ImageState) → IsTrue (is_disk_of d i) → IsDiskOf d i
-sound_disk d i sound =
-    let tests = both _ _ sound in
-    record { size = eqb-true d.size i.len tests.0; grain = eqb-true d.grain i.grain tests.1 }
+kept_disk d e i j same disk_of = record {
+  size = same.steady.size ∙ disk_of.size ∙ sym same.len;
+  grain = same.steady.grain ∙ disk_of.grain ∙ sym same.grain;
+}
 
 -- where no sector is changed each byte is on the disk
 pub clean_stored : (d : disks.State) (i : ImageState) → Mirrors d i → IsClean i → IsStored d i

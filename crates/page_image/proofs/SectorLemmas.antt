@@ -1,17 +1,17 @@
 -- The sectors that a range meets.
-use Rattle.std.proofs.Common.{◌≡◌, ℕ, ◌+◌, ◌-◌, ◌*◌, ◌/◌, ◌<◌, ◌≤◌, IsTrue, add-zero, sym, ◌∙◌, ap, arith, ⊎_elim}
-use Rattle.std.proofs.Math.Nat.{mul-le-mul_left, div-mul-le_self}
-use Rattle.std.proofs.lemmas.Nat.{div-add-mod', div-mul-add, mod_below, le-div}
+use Rattle.std.proofs.Common.{◌≡◌, ℕ, ◌+◌, ◌-◌, ◌*◌, ◌/◌, ◌<◌, ◌≤◌, IsTrue, ◌∙◌, ap, arith, ⊎_elim}
+use Rattle.std.proofs.Math.Nat.{mul-le-mul_left, mul-div_cancel, div-mul-le_self}
+use Rattle.std.proofs.lemmas.Nat.{div-add-mod', mod_below, le-div}
 use Rattle.std.proofs.lemmas.Bool.{cases_lt}
 use Rattle.save_disk.specs.Grains.{is_grain, known_grain}
-use Rattle.page_image.specs.Layout.{IsLaidOut, IsEndOf}
+use Rattle.page_image.specs.Layout.{IsImageLaidOut, IsEndOf}
 
 -- a sector has bytes
 pub some_grain : (grain : ℕ) → IsTrue (is_grain grain) → 1 ≤ grain
 some_grain grain known = ⊎_elim (λ (is : grain ≡ 512). omega arith) (λ (is : grain ≡ 4096). omega arith) (known_grain grain known)
 
 -- each sector begins inside
-pub begins_inside : (len grain size sectors sector : ℕ) → IsLaidOut len grain size sectors → sector < sectors → sector * grain < len
+pub begins_inside : (len grain size sectors sector : ℕ) → IsImageLaidOut len grain size sectors → sector < sectors → sector * grain < len
 begins_inside len grain size sectors sector layout below =
     let next : sector + 1 ≤ sectors = omega arith in
     omega (arith, mul-le-mul_left grain next, layout.whole, layout.begins)
@@ -21,7 +21,8 @@ pub rising : (a b grain : ℕ) → 1 ≤ grain → a ≤ b → a / grain ≤ b /
 rising a b grain some ordered = le-div (a / grain) b grain some (omega (arith, div-mul-le_self a grain))
 
 -- a sector between that of the first place and that of the last one has one of the places
-meets : (at last grain sector : ℕ) → 1 ≤ grain → at ≤ last → at / grain ≤ sector → sector ≤ last / grain → (x : ℕ) × (at ≤ x) × (x ≤ last) × (x / grain ≡ sector)
+meets : (at last grain sector : ℕ) → 1 ≤ grain → at ≤ last → at / grain ≤ sector → sector ≤ last / grain
+    → (x : ℕ) × (at ≤ x) × (x ≤ last) × (x / grain ≡ sector)
 meets at last grain sector some ordered from upto =
     let split = div-add-mod' at grain in
     let rest = mod_below at grain some in
@@ -31,16 +32,9 @@ meets at last grain sector some ordered from upto =
     let next : at / grain + 1 ≤ sector = omega arith in
     let low = mul-le-mul_left grain next in
     let high = mul-le-mul_left grain upto in
-    (sector * grain, omega (arith, low, split, rest), omega (arith, high, split_last), ap (λ (y : ℕ). y / grain) (sym (add-zero (sector * grain))) ∙ div-mul-add sector grain 0 (omega arith)))
+    (sector * grain, omega (arith, low, split, rest), omega (arith, high, split_last), mul-div_cancel sector some))
     (λ (first : sector ≤ at / grain). (at, omega arith, ordered, omega arith))
     (cases_lt (at / grain) sector)
-
-pub no_sectors : (at grain : ℕ) → IsEndOf (at / grain) at 0 grain
-no_sectors at grain = record {
-  ordered = omega arith;
-  met = λ k below. absurd (omega (arith, below));
-  tight = λ sector from below. absurd (omega (arith, from, below));
-}
 
 pub sectors_up_to : (at n grain : ℕ) → 1 ≤ grain → 1 ≤ n → IsEndOf ((at + n - 1) / grain + 1) at n grain
 sectors_up_to at n grain some places =

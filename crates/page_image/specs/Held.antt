@@ -14,16 +14,16 @@ abbrev pub shown : {D : Type 0} → (D → disks.State) → Image D → State
 shown states view = image_state (states view.disk.now) view.image.now
 
 -- the view holds these
-pub record IsViewOf {D : Type 0} (view : Image D) (image : MutBor ImageState) (disk : MutBor D) : Type 0 where
+pub record IsImageViewOf {D : Type 0} (view : Image D) (image : MutBor ImageState) (disk : MutBor D) : Type 0 where
   pub same_image : view.image.ghost_name ≡ image.ghost_name
   pub image_now : view.image.now ≡ image.now
   pub same_disk : view.disk.ghost_name ≡ disk.ghost_name
   pub disk_now : view.disk.now ≡ disk.now
 
 -- the same references
-pub record SameView {D : Type 0} (old new : Image D) : Type 0 where
+pub record SameImageView {D : Type 0} (old new : Image D) : Type 0 where
   pub same_image : new.image.ghost_name ≡ old.image.ghost_name
   pub same_disk : new.disk.ghost_name ≡ old.disk.ghost_name
 
 abbrev pub ImageKeeps : {D : Type 0} → (D → disks.State) → Spot → Image D → Image D → Type 0
-ImageKeeps states spot old new = SameView old new × Leaves spot (states old.disk.now) old.image.now (states new.disk.now) new.image.now
+ImageKeeps states spot old new = SameImageView old new × Leaves spot (states old.disk.now) old.image.now (states new.disk.now) new.image.now

@@ -52,7 +52,8 @@ image_state disk image = record {
 
 -- in a sector that is not changed each byte is on the disk
 abbrev pub Mirrors : disks.State → ImageState → Type 0
-Mirrors disk image = (told : Told) → disk.told ≡ Some told → (x : ℕ) → x < image.len → is_changed image (x / image.grain) ≡ false → slice_index (image_now told) x ≡ byte_of image x
+Mirrors disk image = (told : Told) → disk.told ≡ Some told
+    → (x : ℕ) → x < image.len → is_changed image (x / image.grain) ≡ false → slice_index (image_now told) x ≡ byte_of image x
 
 -- each byte is on the disk
 abbrev pub IsStored : disks.State → ImageState → Type 0

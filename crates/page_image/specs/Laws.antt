@@ -1,6 +1,7 @@
 -- The laws of a space, of an image.
-use Rattle.std.specs.Prelude.{◌≡◌, ◌≢◌, ◌⊎◌, ℕ, ◌^◌, ◌<◌, Bool, true, false, Option, Some, None, MatchOption, refl, ⊤}
-use Rattle.std.proofs.Common.{◌∙◌, arith, inl, inr, ⊎_elim}
+use Rattle.std.specs.Prelude.{◌≡◌, ◌≢◌, ℕ, ◌^◌, ◌<◌, Option, Some, None, MatchOption, refl, ⊤}
+use Rattle.std.proofs.Common.{◌∙◌, arith, ⊎_elim}
+use Rattle.std.proofs.lemmas.Bool.{cases_Bool}
 use Rattle.save_bytes.specs.Spots.{Spot, Place, Sector}
 use Rattle.save_disk.specs.Trace.{Told}
 use Rattle.save_disk.specs.State as disks
@@ -10,48 +11,44 @@ use Rattle.save_disk.proofs.Growth.{WritesOnly-quiet, WritesOnly-join, WritesTo-
 use Rattle.page_image.specs.declared.state.ImageState.{ImageState}
 use Rattle.page_image.specs.declared.image.Image.{Image}
 use Rattle.page_image.specs.Images.{byte_of, is_changed, image_state}
-use Rattle.page_image.specs.Spots.{SameImage, HoldsAt, SureAsBefore, SameSpot, Leaves}
+use Rattle.page_image.specs.Spots.{SameImage, HoldsAt, SameImageSpot, Leaves}
 use Rattle.page_image.specs.Held.{ImageKeeps}
 
 pub image_size_fits : (d : disks.State) (image : ImageState) → (image_state d image).shape.size < 2 ^ 64
 image_size_fits d image = omega (arith, image.layout.most)
 
 SameImage-same : (d : disks.State) (image : ImageState) → SameImage d image d image
-SameImage-same d image = record { len = refl; grain = refl; steady = steady_start d; writes = WritesOnly-quiet (λ sector bytes. ⊤) d d refl; mirrors = λ h. h; pending = λ sector changed clean. absurd (cc) }
+SameImage-same d image = record {
+  len = refl;
+  grain = refl;
+  steady = steady_start d;
+  writes = WritesOnly-quiet (λ sector bytes. ⊤) d d refl;
+  mirrors = λ h. h;
+  pending = λ sector changed clean. absurd (cc);
+}
 
-module _ (number : ℕ) where
-  -- a trace that stays
-  sure_start : (o : Option Told) → MatchOption o (o ≡ None) (λ told. (next : Told) × (o ≡ Some next) × (next.sure number ≡ told.sure number))
-  sure_start None = refl
-  sure_start (Some told) = (told, refl, refl)
+-- of the sector's reads as much is told
+abbrev pub SureFrom : ℕ → Option Told → Option Told → Type 0
+SureFrom number o p = MatchOption o (p ≡ None) (λ told. (next : Told) × (p ≡ Some next) × (next.sure number ≡ told.sure number))
 
-  -- a disk that stays
-  pub SureAsBefore-same : (d : disks.State) → SureAsBefore number d d
-  SureAsBefore-same d = sure_start d.told
+pub sure_start : (number : ℕ) (o : Option Told) → SureFrom number o o
+sure_start number None = refl
+sure_start number (Some told) = (told, refl, refl)
 
-  -- a trace behind a trace
-  sure_then : (o p q : Option Told) → MatchOption o (p ≡ None) (λ told. (next : Told) × (p ≡ Some next) × (next.sure number ≡ told.sure number)) → MatchOption p (q ≡ None) (λ told. (next : Told) × (q ≡ Some next) × (next.sure number ≡ told.sure number)) → MatchOption o (q ≡ None) (λ told. (next : Told) × (q ≡ Some next) × (next.sure number ≡ told.sure number))
-  sure_then None p q h k = rw h at k
-  sure_then (Some told) p q (next, is, same) k = let later = rw is at k in (later.0, later.1, later.2 ∙ same)
+sure_then : (number : ℕ) (o p q : Option Told) → SureFrom number o p → SureFrom number p q → SureFrom number o q
+sure_then number None p q h k = rw h at k
+sure_then number (Some told) p q (next, is, same) k = let later = rw is at k in (later.0, later.1, later.2 ∙ same)
 
-  -- a call behind a call
-  SureAsBefore-join : (d e f : disks.State) → SureAsBefore number d e → SureAsBefore number e f → SureAsBefore number d f
-  SureAsBefore-join d e f h g = sure_then d.told e.told f.told h g
-
-SameSpot-same : (spot : Spot) (d : disks.State) (image : ImageState) → SameSpot spot d image d image
-SameSpot-same (Place x) d image = (refl, WritesOnly-quiet (HoldsAt image.grain x (byte_of image x)) d d refl)
-SameSpot-same (Sector number) d image = λ clean. (clean, WritesOnly-quiet (λ sector bytes. sector ≢ number) d d refl, SureAsBefore-same number d)
-SameSpot-same other d image = tt
+SameImageSpot-same : (spot : Spot) (d : disks.State) (image : ImageState) → SameImageSpot spot d image d image
+SameImageSpot-same (Place x) d image = (refl, WritesOnly-quiet (HoldsAt image.grain x (byte_of image x)) d d refl)
+SameImageSpot-same (Sector number) d image = λ clean. (clean, WritesOnly-quiet (λ sector bytes. sector ≢ number) d d refl, sure_start number d.told)
+SameImageSpot-same other d image = tt
 
 pub Leaves-same : (spot : Spot) (d : disks.State) (image : ImageState) → Leaves spot d image d image
-Leaves-same spot d image = (SameImage-same d image, SameSpot-same spot d image)
+Leaves-same spot d image = (SameImage-same d image, SameImageSpot-same spot d image)
 
 pub ImageKeeps-same : {D : Type 0} (states : D → disks.State) (spot : Spot) (s : Image D) → ImageKeeps states spot s s
 ImageKeeps-same states spot s = (record { same_image = refl; same_disk = refl }, Leaves-same spot (states s.disk.now) s.image.now)
-
-either : (b : Bool) → (b ≡ true) ⊎ (b ≡ false)
-either true = inl refl
-either false = inr refl
 
 module _ (d e f : disks.State) (i j k : ImageState) where
   SameImage-join : SameImage d i e j → SameImage e j f k → SameImage d i f k
@@ -65,23 +62,27 @@ module _ (d e f : disks.State) (i j k : ImageState) where
         ⊎_elim
         (λ still. WritesTo-later sector (λ number bytes. ⊤) d e f h.writes (g.pending sector still clean))
         (λ written. WritesTo-first sector (λ number bytes. ⊤) d e f (h.pending sector changed written) g.writes)
-        (either (is_changed j sector));
+        (cases_Bool (is_changed j sector));
   }
 
-  SameSpot-join : (spot : Spot) → j.grain ≡ i.grain → SameSpot spot d i e j → SameSpot spot e j f k → SameSpot spot d i f k
-  SameSpot-join (Place x) grain h g =
+  SameImageSpot-join : (spot : Spot) → j.grain ≡ i.grain → SameImageSpot spot d i e j → SameImageSpot spot e j f k → SameImageSpot spot d i f k
+  SameImageSpot-join (Place x) grain h g =
       let later : WritesOnly (HoldsAt i.grain x (byte_of i x)) e f = rw (← grain, ← h.0) g.1 in
       (g.0 ∙ h.0, WritesOnly-join (HoldsAt i.grain x (byte_of i x)) d e f h.1 later)
-  SameSpot-join (Sector number) grain h g = λ clean.
+  SameImageSpot-join (Sector number) grain h g = λ clean.
       let first = h clean in
-      let second = g first.0 in
-      (second.0, WritesOnly-join (λ sector bytes. sector ≢ number) d e f first.1 second.1, SureAsBefore-join number d e f first.2 second.2)
-  SameSpot-join other grain h g = tt
+      let second = g first.0 in (
+        second.0,
+        WritesOnly-join (λ sector bytes. sector ≢ number) d e f first.1 second.1,
+        sure_then number d.told e.told f.told first.2 second.2,
+      )
+  SameImageSpot-join other grain h g = tt
 
   pub Leaves-join : (spot : Spot) → Leaves spot d i e j → Leaves spot e j f k → Leaves spot d i f k
-  Leaves-join spot h g = (SameImage-join h.0 g.0, SameSpot-join spot h.0.grain h.1 g.1)
+  Leaves-join spot h g = (SameImage-join h.0 g.0, SameImageSpot-join spot h.0.grain h.1 g.1)
 
-pub ImageKeeps-join : {D : Type 0} (states : D → disks.State) (spot : Spot) (s t u : Image D) → ImageKeeps states spot s t → ImageKeeps states spot t u → ImageKeeps states spot s u
+pub ImageKeeps-join : {D : Type 0} (states : D → disks.State) (spot : Spot) (s t u : Image D)
+    → ImageKeeps states spot s t → ImageKeeps states spot t u → ImageKeeps states spot s u
 ImageKeeps-join states spot s t u h g = (
   record { same_image = g.0.same_image ∙ h.0.same_image; same_disk = g.0.same_disk ∙ h.0.same_disk },
   Leaves-join (states s.disk.now) (states t.disk.now) (states u.disk.now) s.image.now t.image.now u.image.now spot h.1 g.1,

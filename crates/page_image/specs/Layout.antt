@@ -3,7 +3,7 @@ use Rattle.std.specs.Prelude.{◌≡◌, ℕ, ◌+◌, ◌*◌, ◌/◌, ◌<◌
 use Rattle.save_disk.specs.Grains.{is_grain}
 
 -- so many whole sectors that cover the image's bytes, and each of which begins inside
-pub record IsLaidOut (len grain size sectors : ℕ) : Type 0 where
+pub record IsImageLaidOut (len grain size sectors : ℕ) : Type 0 where
   pub known : IsTrue (is_grain grain)
   pub least : 512 ≤ len
   pub most : len ≤ 67108864

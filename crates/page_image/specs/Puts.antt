@@ -12,7 +12,7 @@ pub record Marks (at n : ℕ) (old new : ImageState) : Type 0 where
   pub others : (sector : ℕ) → ((k : ℕ) → k < n → (at + k) / old.grain ≢ sector) → is_changed new sector ≡ is_changed old sector
 
 -- a piece was put at a place
-pub record IsPut (at : ℕ) (piece : List ℕ) (old new : ImageState) : Type 0 where
+pub record IsImagePut (at : ℕ) (piece : List ℕ) (old new : ImageState) : Type 0 where
   pub len : new.len ≡ old.len
   pub grain : new.grain ≡ old.grain
   pub bytes : new.bytes.items ≡ with_bytes old.bytes.items at piece

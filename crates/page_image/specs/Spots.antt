@@ -26,15 +26,16 @@ SureAsBefore number = disks.GoesOn (λ told next. next.sure number ≡ told.sure
 
 -- A place is left alone where its byte is as before and each write holds it. A sector is left alone where, if it was not
 -- changed before, it is not changed, was not written, and its reads are told as before.
-abbrev pub SameSpot : Spot → disks.State → ImageState → disks.State → ImageState → Type 0
-SameSpot (Place x) disk image disk_new image_new =
+abbrev pub SameImageSpot : Spot → disks.State → ImageState → disks.State → ImageState → Type 0
+SameImageSpot (Place x) disk image disk_new image_new =
     (byte_of image_new x ≡ byte_of image x) × WritesOnly (HoldsAt image.grain x (byte_of image x)) disk disk_new
-SameSpot (Sector number) disk image disk_new image_new =
-    is_changed image number ≡ false → (is_changed image_new number ≡ false) × WritesOnly (λ sector bytes. sector ≢ number) disk disk_new × SureAsBefore number disk disk_new
-SameSpot other disk image disk_new image_new = ⊤
+SameImageSpot (Sector number) disk image disk_new image_new =
+    is_changed image number ≡ false
+    → (is_changed image_new number ≡ false) × WritesOnly (λ sector bytes. sector ≢ number) disk disk_new × SureAsBefore number disk disk_new
+SameImageSpot other disk image disk_new image_new = ⊤
 
 abbrev pub Leaves : Spot → disks.State → ImageState → disks.State → ImageState → Type 0
-Leaves spot disk image disk_new image_new = SameImage disk image disk_new image_new × SameSpot spot disk image disk_new image_new
+Leaves spot disk image disk_new image_new = SameImage disk image disk_new image_new × SameImageSpot spot disk image disk_new image_new
 
 -- a put touches its own places, and the sectors that have them
 abbrev pub ImageLands : ℕ → ℕ → Spot → Type 0

@@ -16,7 +16,7 @@ ghost use Rattle.save_disk.specs.Tells.{tells};
 ghost use Rattle.save_disk.specs.Writes.{GrewBy, WritesOnly};
 ghost use Rattle.page_image.specs.Images.{IsDiskOf, Mirrors, IsStored};
 ghost use Rattle.page_image.specs.Spots.{ImageLands};
-ghost use Rattle.page_image.specs.Held.{shown, IsViewOf, SameView, ImageKeeps};
+ghost use Rattle.page_image.specs.Held.{shown, IsImageViewOf, SameImageView, ImageKeeps};
 ghost use Rattle.page_image.specs.Puts.{IsPending};
 ghost use Rattle.page_image.specs.Allowed.{IsOldOrNew};
 ghost use Rattle.page_image.specs.WriteOuts.{WritesEach, WritesSome, IsClean};
@@ -38,7 +38,7 @@ impl ImageState {
     /// The image over its disk.
     pub fn view<'a, D: Disk>(&'a mut self, disk: &'a mut D) -> Image<'a, D>
         requires { IsDiskOf (D.state disk.old) self.old }
-        ensures holds { IsViewOf result self.entry disk.entry }
+        ensures holds { IsImageViewOf result self.entry disk.entry }
         ensures sound { IsTrue (shown D.state result).shape.sound }
     {
         Image { image: self, disk }
@@ -85,7 +85,7 @@ impl<D: Disk> Image<'_, D> {
         ensures failed { OnErr result (IsQuiet (D.state self.old.disk.now) (D.state self.new.disk.now)) }
         ensures steady { IsSteady (D.state self.old.disk.now) (D.state self.new.disk.now) }
         ensures cause { HasCause (D.state self.old.disk.now).counts.disk (D.state self.new.disk.now).counts.disk result }
-        ensures same { SameView self.old self.new }
+        ensures same { SameImageView self.old self.new }
         ensures image { self.new.image.now ≡ self.old.image.now }
     {
         self.disk.sync()

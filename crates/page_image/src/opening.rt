@@ -2,7 +2,7 @@
 
 ghost use Rattle.std.specs.Prelude.{◌≡◌, ◌+◌, ◌*◌, ◌<◌, ◌≤◌, length, OnOk, IfOk, IfErr};
 ghost use Rattle.save_disk.specs.State.{IsQuiet, IsSteady, HasCause, Rose};
-ghost use Rattle.page_image.specs.Reading.{AreRead};
+ghost use Rattle.page_image.specs.Reading.{AreSectorsRead};
 
 use crate::state::{ImageFault, ImageState};
 use save_disk::{Disk, Failed};
@@ -50,7 +50,7 @@ fn read_sectors<D: Disk>(
     requires grain { grain ≡ (D.state disk.old).grain }
     requires size { length bytes.old ≡ sectors * grain }
     requires begins { sectors * grain < (D.state disk.old).size + grain }
-    ensures read { OnOk result (AreRead (D.state disk.old) grain bytes.new (sectors * grain)) }
+    ensures read { OnOk result (AreSectorsRead (D.state disk.old) grain bytes.new (sectors * grain)) }
     ensures quiet { IsQuiet (D.state disk.old) (D.state disk.new) }
     ensures steady { IsSteady (D.state disk.old) (D.state disk.new) }
     ensures cause { HasCause (D.state disk.old).counts.disk (D.state disk.new).counts.disk result }
@@ -71,7 +71,7 @@ fn read_sector<D: Disk>(
     requires grain { grain ≡ (D.state disk.old).grain }
     requires begins { sector * grain < (D.state disk.old).size }
     requires inside { sector * grain + grain ≤ length bytes.old }
-    ensures read { AreRead (D.state disk.old) grain bytes.old (sector * grain) → OnOk result (AreRead (D.state disk.old) grain bytes.new (sector * grain + grain)) }
+    ensures read { AreSectorsRead (D.state disk.old) grain bytes.old (sector * grain) → OnOk result (AreSectorsRead (D.state disk.old) grain bytes.new (sector * grain + grain)) }
     ensures quiet { IsQuiet (D.state disk.old) (D.state disk.new) }
     ensures steady { IsSteady (D.state disk.old) (D.state disk.new) }
     ensures cause { HasCause (D.state disk.old).counts.disk (D.state disk.new).counts.disk result }

@@ -2,7 +2,7 @@
 
 ghost use Rattle.std.specs.Prelude.{◌≡◌, ℕ, ◌+◌, ◌^◌, ◌<◌, ◌≤◌, true, false, length, take, slice_range, slice_index_or};
 ghost use Rattle.save_bytes.specs.Fields.{with_bytes};
-ghost use Rattle.page_image.specs.Layout.{IsLaidOut, IsEndOf};
+ghost use Rattle.page_image.specs.Layout.{IsImageLaidOut, IsEndOf};
 
 /// Why an image was not opened.
 #[derive(Clone, Copy, Debug, PartialEq, Eq)]
@@ -21,17 +21,17 @@ pub struct ImageState {
     grain: u64,
     bytes: Vec<u8>,
     changed: Vec<bool>,
-    ghost layout: { IsLaidOut len grain (length bytes.items) (length changed.items) },
+    ghost layout: { IsImageLaidOut len grain (length bytes.items) (length changed.items) },
 }
 
 impl ImageState {
     ghost use Rattle.page_image.specs.Images.{is_changed, IsHeldPiece};
-    ghost use Rattle.page_image.specs.Puts.{IsPut, IsUnmarked};
+    ghost use Rattle.page_image.specs.Puts.{IsImagePut, IsUnmarked};
     ghost use Rattle.page_image.specs.WriteOuts.{IsSectorOf};
 
     // An image of which nothing is changed.
     pub(crate) fn of_parts(len: u64, grain: u64, bytes: Vec<u8>, changed: Vec<bool>) -> ImageState
-        requires { IsLaidOut len grain (length bytes.items) (length changed.items) }
+        requires { IsImageLaidOut len grain (length bytes.items) (length changed.items) }
         ensures len { result.len ≡ len }
         ensures grain { result.grain ≡ grain }
         ensures bytes { result.bytes.items ≡ bytes.items }
@@ -114,7 +114,7 @@ impl ImageState {
     // Puts a piece at a place. The sectors that it meets are changed.
     pub(crate) fn put(&mut self, at: u64, piece: &[u8])
         requires { at + length piece.now ≤ self.old.len }
-        ensures { IsPut at piece.now self.old self.new }
+        ensures { IsImagePut at piece.now self.old self.new }
     {
         let first = at / self.grain;
         let end = end_sector(at, piece.len() as u64, self.grain);

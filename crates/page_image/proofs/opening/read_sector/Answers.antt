@@ -11,4 +11,6 @@ returns-clause-read g c = λ before.
     let grain = c.args.grain in
     let sector = c.args.sector in
     let long : length c.read.new.out ≡ grain = grind (arith, places) in
-    IfOk-weaker c.read.result (λ done. IsRead disk sector c.read.new.out) _ (λ done read. sector_read disk grain sector c.args.bytes.now c.read.new.out (g.met.D.Disk.sound c.args.disk.now) c.requires.grain c.requires.inside long read before) c.read.ensures.value
+    let step = sector_read disk grain sector c.args.bytes.now c.read.new.out (g.met.D.Disk.sound c.args.disk.now) c.requires.grain in
+    IfOk-weaker c.read.result (λ done. IsRead disk sector c.read.new.out) _
+    (λ done read. step c.requires.inside long read before) c.read.ensures.value

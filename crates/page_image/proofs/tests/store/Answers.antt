@@ -17,5 +17,7 @@ returns-in-Ok-flush g c = λ sure mirrors told is.
     let below : at < new.len = omega (arith, kept.len, flush.frame.1.0.len, c.requires.inside.inside, one) in
     let stored : get_or (image_now told) at 0 ≡ byte_of new at = flush.stored (kept.mirrors mirrors) told is at below in
     let same : Byte (byte_of new at) ≡ Byte (byte_of mid at) = flush.cells at (omega (arith, kept.len, c.requires.inside.inside, one)) in
-    let written : Byte (byte_of mid at) ≡ Byte (get_or c.args.bytes 0 0) = (put.puts.done (can_put _ at (length c.args.bytes) (record { apart = λ x y same. same; free = λ x. refl }) sure)).written at 0 (omega (arith, c.requires.inside.inside, one)) (omega arith) (sym (add-zero at)) in
+    let done = put.puts.done (can_put _ at (length c.args.bytes) (record { apart = λ x y same. same; free = λ x. refl }) sure) in
+    let written : Byte (byte_of mid at) ≡ Byte (get_or c.args.bytes 0 0) =
+    done.written at 0 (omega (arith, c.requires.inside.inside, one)) (omega arith) (sym (add-zero at)) in
     cc

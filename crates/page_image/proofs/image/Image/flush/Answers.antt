@@ -20,4 +20,5 @@ pub returns-clause-stored : goal.returns-clause-stored
 returns-clause-stored g c = λ mirrors.
     let e = g.D.Disk.state c.write_out.new.disk in
     let j = c.write_out.new.image in
-    IfOk-weaker c.write_out.result (λ done. IsClean j) (λ done. IsStored e j) (λ done clean. clean_stored e j ((c.write_out.ensures.leaves Frame).0.mirrors mirrors) clean) c.write_out.ensures.clean
+    IfOk-weaker c.write_out.result (λ done. IsClean j) (λ done. IsStored e j)
+    (λ done. clean_stored e j ((c.write_out.ensures.leaves Frame).0.mirrors mirrors)) c.write_out.ensures.clean

@@ -6,14 +6,16 @@ use Rattle.page_image.proofs.image.ImageSpace.put.Goals as goal
 
 pub returns-clause-puts : goal.returns-clause-puts
 returns-clause-puts g c =
-    image_put (g.D.Disk.state c.args.self.now.disk.now) c.args.self.now.image.now c.put.new.self c.args.at c.args.bytes.now c.put.ensures c.requires.inside.inside
+    image_put (g.D.Disk.state c.args.self.now.disk.now) c.args.self.now.image.now _ c.args.at _ c.put.ensures c.requires.inside.inside
 
 pub returns-clause-moves : goal.returns-clause-moves
 returns-clause-moves g c =
-    image_moved g.D.Disk.state c.args.self.now _ c.args.at c.args.bytes.now (record { same_image = refl; same_disk = refl }) refl c.put.ensures c.requires.inside.inside
+    image_moved g.D.Disk.state c.args.self.now _ c.args.at _ (record { same_image = refl; same_disk = refl }) refl
+    c.put.ensures c.requires.inside.inside
 
 pub returns-clause-pending : goal.returns-clause-pending
-returns-clause-pending g c = image_pending (g.D.Disk.state c.args.self.now.disk.now) c.args.self.now.image.now c.put.new.self c.args.at c.args.bytes.now c.put.ensures
+returns-clause-pending g c =
+    image_pending (g.D.Disk.state c.args.self.now.disk.now) c.args.self.now.image.now _ c.args.at _ c.put.ensures
 
 pub returns-clause-old_or_new : goal.returns-clause-old_or_new
 returns-clause-old_or_new g c = λ told.
