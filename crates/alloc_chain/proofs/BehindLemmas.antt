@@ -1,18 +1,17 @@
 -- What calls of the base leave, as what calls of the space that holds it leave.
 use Rattle.std.proofs.Common.{◌≡◌, ℕ, Option}
-use Rattle.std.specs.Borrow.{MutBor}
 use Rattle.save_bytes.specs.declared.space.Bad.{Bad}
 use Rattle.save_bytes.specs.State.{State}
 use Rattle.save_bytes.specs.Spots.{Spot}
 use Rattle.save_bytes.specs.Reads.{Reads}
 use Rattle.alloc_chain.specs.declared.behind.ChainSpace.{ChainSpace}
 use Rattle.alloc_chain.specs.Shown.{ShownLands}
-use Rattle.alloc_chain.specs.ShownLaws.{HasRoom, with_blocks}
+use Rattle.alloc_chain.specs.ShownLaws.{CanShow, with_blocks}
 use Rattle.alloc_chain.proofs.ViewLemmas.{view_reads}
 
 module _ {S : Type 0} (states : S → State) (keeps : Spot → S → S → Type 0) (lands : S → ℕ → Spot → Type 0) (old new : ChainSpace S) where
   -- a call that only reads
-  pub behind_reads : (refusal : Option Bad) → HasRoom (states old.base.now).shape old.shown.info old.shown.blocks
+  pub behind_reads : (refusal : Option Bad) → CanShow (states old.base.now).shape old.shown.info old.shown.blocks
       → (new.base.ghost_name ≡ old.base.ghost_name) → (same : new.shown ≡ old.shown) → Reads states keeps lands old.base.now new.base.now refusal
       → Reads (λ (v : ChainSpace S). with_blocks v.shown (states v.base.now))
       (λ spot (s t : ChainSpace S). (t.base.ghost_name ≡ s.base.ghost_name) × (t.shown ≡ s.shown) × keeps spot s.base.now t.base.now)

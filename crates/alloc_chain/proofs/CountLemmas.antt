@@ -48,10 +48,19 @@ hit_split low middle high y h k =
 count_between-cons : (low high y : ℕ) (list : List ℕ) → count_between low high (y ∷ list) ≡ hit low high y + count_between low high list
 count_between-cons low high y list = sum_by-cons (λ x. hit low high x) y list
 
-pub count_between-split : (low middle high : ℕ) (list : List ℕ) → low ≤ middle → middle ≤ high → count_between low high list ≡ count_between low middle list + count_between (middle + 1) high list
+pub count_between-split : (low middle high : ℕ) (list : List ℕ) → low ≤ middle → middle ≤ high
+    → count_between low high list ≡ count_between low middle list + count_between (middle + 1) high list
 count_between-split low middle high [] h k = refl
 count_between-split low middle high (y ∷ list) h k =
-    omega (arith, hit_split low middle high y h k, count_between-split low middle high list h k, count_between-cons low high y list, count_between-cons low middle y list, count_between-cons (middle + 1) high y list)
+    omega (
+      arith,
+      hit_split low middle high y h k,
+      count_between-split low middle high list h k,
+      count_between-cons
+          low high y list,
+      count_between-cons low middle y list,
+      count_between-cons (middle + 1) high y list,
+    )
 
 -- between no numbers lies none
 pub count_between-none : (low high : ℕ) (list : List ℕ) → high < low → count_between low high list ≡ 0
@@ -83,11 +92,24 @@ pub count_between-append : (low high : ℕ) (xs ys : List ℕ) → count_between
 count_between-append low high xs ys = sum_by-append (λ y. hit low high y) xs ys
 
 -- all entries of nodes lie in the table
-pub count_between-all : (table : ℕ → ℕ → Cell) (count : ℕ) (lead : Lead) (nodes : List Node) (next : ℕ) → AreNodes table count lead nodes next → count_between 1 count (entries_of nodes) ≡ length (entries_of nodes)
+pub count_between-all : (table : ℕ → ℕ → Cell) (count : ℕ) (lead : Lead) (nodes : List Node) (next : ℕ)
+    → AreNodes table count lead nodes next → count_between 1 count (entries_of nodes) ≡ length (entries_of nodes)
 count_between-all table count lead [] next h = refl
 count_between-all table count lead (node ∷ nodes) next h =
     let len : ℕ = node.last + 1 - node.first in
-    omega (arith, h.0.starts, h.0.ordered, h.0.ends, count_between-append 1 count (range_with_len node.first len) (entries_of nodes), count_between-range 1 count node.first len, count_between-all table count (Follows node.first) nodes next h.1, length-append (range_with_len node.first len) (entries_of nodes), length-range_with_len node.first len)
+    omega (
+      arith,
+      h.0.starts,
+      h.0.ordered,
+      h.0.ends,
+      count_between-append 1 count (range_with_len node.first len)
+          (entries_of nodes),
+      count_between-range 1 count node.first len,
+      count_between-all table count
+          (Follows node.first) nodes next h.1,
+      length-append (range_with_len node.first len) (entries_of nodes),
+      length-range_with_len node.first len,
+    )
 
 -- between a number and itself lies that number
 hit_one : (x y : ℕ) → hit x x y ≡ cond (eqb y x) 1 0
@@ -104,5 +126,6 @@ count_between-one x (y ∷ list) =
     omega (arith, hit_one x y, count_between-one x list, count_between-cons x x y list)
 
 -- in the run of a node
-pub node_between : (low high first last : ℕ) → first ≤ last → count_between low high (range_with_len first (last + 1 - first)) ≡ min last high + 1 - max first low
+pub node_between : (low high first last : ℕ) → first ≤ last
+    → count_between low high (range_with_len first (last + 1 - first)) ≡ min last high + 1 - max first low
 node_between low high first last ordered = omega (arith, count_between-range low high first (last + 1 - first))

@@ -13,7 +13,7 @@ use Rattle.alloc_chain.specs.declared.node.Node.{Node}
 use Rattle.alloc_chain.specs.declared.node.Lead.{Lead}
 use Rattle.alloc_chain.specs.declared.node.Lead.TheVariants.{Follows}
 use Rattle.alloc_chain.specs.declared.walk.Cursor.{Cursor}
-use Rattle.alloc_chain.specs.Table.{table_in, HasWords, HasTable, IsEntry}
+use Rattle.alloc_chain.specs.Table.{table_in, HasWords, HasAllocationTable, IsEntry}
 use Rattle.alloc_chain.specs.Chains.{IsNode, start_of, AreNodes, lead_after, entries_of}
 use Rattle.alloc_chain.specs.Faults.{IsFaulty, FailsAt, IsBroken, FaultsOnly}
 use Rattle.alloc_chain.specs.Faults.IsBroken.{Unlike}
@@ -36,7 +36,8 @@ entries_of-append (x ∷ xs) ys =
     ∙ sym (append_assoc (range_with_len x.first (x.last + 1 - x.first)) (entries_of xs) (entries_of ys))
 
 module _ (table : ℕ → ℕ → Cell) (count : ℕ) where
-  pub AreNodes-append : (lead : Lead) (xs ys : List Node) (next : ℕ) → AreNodes table count lead xs (start_of ys next) → AreNodes table count (lead_after lead xs) ys next → AreNodes table count lead (xs ++ ys) next
+  pub AreNodes-append : (lead : Lead) (xs ys : List Node) (next : ℕ) → AreNodes table count lead xs (start_of ys next)
+      → AreNodes table count (lead_after lead xs) ys next → AreNodes table count lead (xs ++ ys) next
   AreNodes-append lead [] ys next h k = k
   AreNodes-append lead (x ∷ xs) ys next h k =
       (rw (start_of-append xs ys next) h.0, AreNodes-append (Follows x.first) xs ys next h.1 k)
@@ -47,20 +48,26 @@ module _ (table : ℕ → ℕ → Cell) (count : ℕ) where
 
   module _ (lead : Lead) (first : ℕ) where
     -- a cursor before the first node
-    unfoldable pub reached_start : (cursor : Cursor) → first ≤ count → cursor.lead ≡ lead → cursor.next ≡ first → cursor.passed ≡ 0 → IsReached table count lead first cursor
+    unfoldable pub reached_start : (cursor : Cursor) → first ≤ count → cursor.lead ≡ lead → cursor.next ≡ first
+        → cursor.passed ≡ 0 → IsReached table count lead first cursor
     reached_start cursor inside led next none = record { nodes = []; linked = tt; starts = next; named = omega arith; led = led; behind = none }
 
     -- behind one more node
-    unfoldable pub reached_more : (cursor behind : Cursor) (node : Node) → IsReached table count lead first cursor → IsNode table count cursor.lead node behind.next → behind.next ≤ count → node.first ≡ cursor.next → behind.lead ≡ Follows node.first → behind.passed ≡ cursor.passed + (node.last + 1 - node.first) → IsReached table count lead first behind
+    unfoldable pub reached_more : (cursor behind : Cursor) (node : Node) → IsReached table count lead first cursor
+        → IsNode table count cursor.lead node behind.next → behind.next ≤ count → node.first ≡ cursor.next
+        → behind.lead ≡ Follows node.first → behind.passed ≡ cursor.passed + (node.last + 1 - node.first)
+        → IsReached table count lead first behind
     reached_more cursor behind node reached is_node named starts led passed =
-        let here : IsNode table count (lead_after lead reached.nodes) node behind.next = subst (λ (l : Lead). IsNode table count l node behind.next) reached.led is_node in
+        let here : IsNode table count (lead_after lead reached.nodes) node behind.next =
+        subst (λ (l : Lead). IsNode table count l node behind.next) reached.led is_node in
         record {
           nodes = reached.nodes ++ node ∷ [];
           linked = AreNodes-append lead reached.nodes (node ∷ []) behind.next (rw starts reached.linked) (here, tt);
           starts = start_of-append reached.nodes (node ∷ []) behind.next ∙ rw starts reached.starts;
           named = named;
           led = led ∙ sym (lead_after-append lead reached.nodes (node ∷ []));
-          behind = passed ∙ simp (entries_of-append, length-append, append-nil, length-range_with_len) (ap (λ (n : ℕ). n + (node.last + 1 - node.first)) reached.behind);
+          behind = passed ∙ simp (entries_of-append, length-append, append-nil, length-range_with_len)
+              (ap (λ (n : ℕ). n + (node.last + 1 - node.first)) reached.behind);
         }
 
     -- so by a node that was read, and what names the one behind it
@@ -85,7 +92,10 @@ module _ (table : ℕ → ℕ → Cell) (count : ℕ) where
     )
 
     -- the node behind a cursor, as a run
-    pub whole_node : (cursor : Cursor) (node : Node) (next : ℕ) (run : Run) → IsReached table count lead first cursor → IsNode table count cursor.lead node next → next ≤ count → node.first ≡ cursor.next → run.block + 1 ≡ node.first → run.block + run.len ≡ node.last → IsRestOfNode table count lead first cursor.passed run
+    pub whole_node : (cursor : Cursor) (node : Node) (next : ℕ) (run : Run) → IsReached table count lead first cursor
+        → IsNode table count cursor.lead node next → next ≤ count → node.first ≡ cursor.next
+        → run.block + 1 ≡ node.first → run.block + run.len ≡ node.last
+        → IsRestOfNode table count lead first cursor.passed run
     whole_node cursor node next run reached is_node named starts block last = record {
       nodes = reached.nodes;
       node = node;
@@ -100,7 +110,9 @@ module _ (table : ℕ → ℕ → Cell) (count : ℕ) where
     }
 
     -- the rest of a run
-    pub rest_of_run : (from skipped : ℕ) (run : Run) → IsRestOfNode table count lead first from run → skipped < run.len → IsRestOfNode table count lead first (from + skipped) (record { block = run.block + skipped; len = run.len - skipped })
+    pub rest_of_run : (from skipped : ℕ) (run : Run) → IsRestOfNode table count lead first from run
+        → skipped < run.len → IsRestOfNode table count lead first (from + skipped)
+        (record { block = run.block + skipped; len = run.len - skipped })
     rest_of_run from skipped run rest less = record {
       nodes = rest.nodes;
       node = rest.node;
@@ -118,7 +130,8 @@ module _ (table : ℕ → ℕ → Cell) (count : ℕ) where
     pub reached_first : (cursor : Cursor) → IsReached table count lead first cursor → first ≤ count
     reached_first cursor reached = omega (arith, reached.starts, start_inside lead reached.nodes cursor.next reached.named reached.linked)
 
-    fails_at : (cursor : Cursor) → IsReached table count lead first cursor → IsEntry count cursor.next → (entry : ℕ) → IsFaulty table count cursor.lead cursor.next entry → FailsAt table count lead first entry
+    fails_at : (cursor : Cursor) → IsReached table count lead first cursor → IsEntry count cursor.next → (entry : ℕ)
+        → IsFaulty table count cursor.lead cursor.next entry → FailsAt table count lead first entry
     fails_at cursor reached named entry faulty = record {
       nodes = reached.nodes;
       next = cursor.next;
@@ -128,7 +141,7 @@ module _ (table : ℕ → ℕ → Cell) (count : ℕ) where
       faulty = subst (λ (l : Lead). IsFaulty table count l cursor.next entry) reached.led faulty;
     }
 
-module _ (s t : State) (info : ChainInfo) (lead : Lead) (table : HasTable s.shape info) (stays : Stays s t None) where
+module _ (s t : State) (info : ChainInfo) (lead : Lead) (table : HasAllocationTable s.shape info) (stays : Stays s t None) where
   -- a fault of the node behind a cursor is one of the list
   pub list_faults : (first : ℕ) (cursor : Cursor) (fault : Option ChainFault) → IsEntry info.count cursor.next
       → FaultsOnly t info

@@ -9,9 +9,10 @@ use Rattle.save_bytes.specs.State.{State, Shape}
 use Rattle.save_bytes.specs.Answers.{IsPiece}
 use Rattle.save_bytes.specs.Stays.{Stays}
 use Rattle.alloc_chain.specs.declared.info.ChainInfo.{ChainInfo}
-use Rattle.alloc_chain.specs.Shown.{is_shown, shown_state, IsLocated}
+use Rattle.alloc_chain.specs.Shown.{is_shown, shown_state, IsLocatedRun}
 
-module _ (base mid : State) (info : ChainInfo) (first blocks at most place n : ℕ) (run : IsLocated base info first blocks at most (Ok (place, n))) (stays : Stays base mid None) where
+module _ (base mid : State) (info : ChainInfo) (first blocks at most place n : ℕ)
+    (run : IsLocatedRun base info first blocks at most (Ok (place, n))) (stays : Stays base mid None) where
   told_below : IsTrue (shown_state info first blocks base).told → IsTrue base.told
   told_below told = let parts = and_parts base.told (is_shown base info first blocks) told in parts.0
 
@@ -22,7 +23,9 @@ module _ (base mid : State) (info : ChainInfo) (first blocks at most place n : �
   run_cell : IsTrue (shown_state info first blocks base).told → (k : ℕ) → k < n → (shown_state info first blocks base).cells (at + k) ≡ mid.cells (place + k)
   run_cell told k less = ap base.cells (run.places told k less) ∙ sym (stays.cells (told_below told) (place + k) (omega (arith, less, run.in_base)))
 
-  view_bytes : (bytes : List ℕ) → length bytes ≤ n → (IsTrue mid.told → AreBytesAt mid.cells place bytes) → IsTrue (shown_state info first blocks base).told → AreBytesAt (shown_state info first blocks base).cells at bytes
+  view_bytes : (bytes : List ℕ) → length bytes ≤ n → (IsTrue mid.told → AreBytesAt mid.cells place bytes)
+      → IsTrue (shown_state info first blocks base).told
+      → AreBytesAt (shown_state info first blocks base).cells at bytes
   view_bytes bytes bounded are told k less = run_cell told k (omega (arith, less, bounded)) ∙ are (told_mid told) k less
 
   first_cell : IsTrue (shown_state info first blocks base).told → (shown_state info first blocks base).cells at ≡ mid.cells place

@@ -10,30 +10,33 @@ use Rattle.save_bytes.specs.Stays.{Stays}
 use Rattle.save_bytes.proofs.CellLemmas.{bytes_in-same}
 use Rattle.std.proofs.Common.{None}
 use Rattle.alloc_chain.specs.declared.info.ChainInfo.{ChainInfo}
-use Rattle.alloc_chain.specs.Table.{table_in, word_u, word_v, HasWords, HasFault, HasTable}
+use Rattle.alloc_chain.specs.Table.{table_in, word_u, word_v, HasWords, HasFault, HasAllocationTable}
 
 -- numbers in cells that are the same
 pub number_in-same : (n : ℕ) (f g : ℕ → Cell) (i j : ℕ) → ((k : ℕ) → k < n → f (i + k) ≡ g (j + k)) → number_in n f i ≡ number_in n g j
 number_in-same n f g i j same = ap (λ l. number_at n l 0) (bytes_in-same f g i j n same)
 
 -- a cell of an entry
-pub table_cell : (cells : ℕ → Cell) (info : ChainInfo) (entry k : ℕ) → entry ≤ info.count → k < 8 → table_in cells info entry k ≡ cells (info.table_at + 8 * entry + k)
+pub table_cell : (cells : ℕ → Cell) (info : ChainInfo) (entry k : ℕ) → entry ≤ info.count → k < 8
+    → table_in cells info entry k ≡ cells (info.table_at + 8 * entry + k)
 unfolding table_in
 table_cell cells info entry k inside small =
     let place : info.table_at + 8 * min entry info.count + min k 7 ≡ info.table_at + 8 * entry + k = omega arith in
     ap cells place
 
 -- the cell behind which no entry lies
-pub table_same : (old new : ℕ → Cell) (info : ChainInfo) (size : ℕ) → info.table_at + 8 * (info.count + 1) ≤ size → ((x : ℕ) → x < size → new x ≡ old x) → table_in new info ≡ table_in old info
+pub table_same : (old new : ℕ → Cell) (info : ChainInfo) (size : ℕ) → info.table_at + 8 * (info.count + 1) ≤ size
+    → ((x : ℕ) → x < size → new x ≡ old x) → table_in new info ≡ table_in old info
 unfolding table_in
 table_same old new info size fits same = λ i. λ entry k. same (info.table_at + 8 * min entry info.count + min k 7) (omega arith) i
 
 -- a table stays where the cells do
-pub table_stays : (s t : State) (info : ChainInfo) → HasTable s.shape info → Stays s t None → IsTrue s.told → table_in t.cells info ≡ table_in s.cells info
+pub table_stays : (s t : State) (info : ChainInfo) → HasAllocationTable s.shape info → Stays s t None → IsTrue s.told
+    → table_in t.cells info ≡ table_in s.cells info
 table_stays s t info table stays told = table_same s.cells t.cells info s.shape.size table.table (stays.cells told)
 
-pub has_table_stays : (s t : State) (info : ChainInfo) → HasTable s.shape info → t.shape ≡ s.shape → HasTable t.shape info
-has_table_stays s t info table same = subst (λ (shape : Shape). HasTable shape info) (sym same) table
+pub has_table_stays : (s t : State) (info : ChainInfo) → HasAllocationTable s.shape info → t.shape ≡ s.shape → HasAllocationTable t.shape info
+has_table_stays s t info table same = subst (λ (shape : Shape). HasAllocationTable shape info) (sym same) table
 
 module _ (cells : ℕ → Cell) (info : ChainInfo) (entry at : ℕ) (inside : entry ≤ info.count) (place : at ≡ info.table_at + 8 * entry) where
   pub word_u-is : number_in 4 cells at ≡ word_u (table_in cells info) entry

@@ -18,44 +18,45 @@ use Rattle.save_bytes.proofs.WriteLemmas.{byte_stays}
 use Rattle.save_bytes.proofs.ViewLemmas.{Shows, IsRun, shown_put}
 use Rattle.alloc_chain.specs.declared.info.ChainInfo.{ChainInfo}
 use Rattle.alloc_chain.specs.declared.node.Lead.TheVariants.{Opens}
-use Rattle.alloc_chain.specs.Table.{table_in, HasTable}
-use Rattle.alloc_chain.specs.Bounded.{some_below}
+use Rattle.alloc_chain.specs.Table.{table_in, HasAllocationTable}
+use Rattle.alloc_chain.specs.Bounded.{some_passes}
 use Rattle.alloc_chain.specs.Walks.{list_in, has_length}
-use Rattle.alloc_chain.specs.Shown.{found_list, chain_list, is_shown, block_place, is_in_table, is_kept, place_of, shown_state, ShownLands, IsLocated}
+use Rattle.alloc_chain.specs.Shown.{found_list, chain_list, is_shown, block_place, is_in_table, is_kept, place_of, shown_state, ShownLands, IsLocatedRun}
 use Rattle.alloc_chain.proofs.TableLemmas.{table_same}
-use Rattle.alloc_chain.specs.ShownLaws.{HasRoom}
+use Rattle.alloc_chain.specs.ShownLaws.{CanShow}
 use Rattle.alloc_chain.proofs.ShownLemmas.{IsShown, is_shown-true, list_entry, linked-found, linked_stays, block_inside, block_some}
 
-each_below : (n : ℕ) (f g : ℕ → Bool) → ((k : ℕ) → k < n → g k ≡ f k) → some_below n g ≡ some_below n f
-unfolding some_below
+each_below : (n : ℕ) (f g : ℕ → Bool) → ((k : ℕ) → k < n → g k ≡ f k) → some_passes n g ≡ some_passes n f
+unfolding some_passes
 each_below zero f g each = refl
 each_below (suc n) f g each =
     let last : g n ≡ f n = each n (omega arith) in
-    let rest : some_below n g ≡ some_below n f = each_below n f g (λ k less. each k (omega arith)) in
+    let rest : some_passes n g ≡ some_passes n f = each_below n f g (λ k less. each k (omega arith)) in
     rw (last, rest) refl
 
-some_below-same : (n m : ℕ) (f g : ℕ → Bool) → m ≡ n → ((k : ℕ) → k < n → g k ≡ f k) → some_below m g ≡ some_below n f
-some_below-same n m f g same each = subst (λ (l : ℕ). some_below l g ≡ some_below n f) (sym same) (each_below n f g each)
+some_passes-same : (n m : ℕ) (f g : ℕ → Bool) → m ≡ n → ((k : ℕ) → k < n → g k ≡ f k) → some_passes m g ≡ some_passes n f
+some_passes-same n m f g same each = subst (λ (l : ℕ). some_passes l g ≡ some_passes n f) (sym same) (each_below n f g each)
 
 or_false : (x y : Bool) → (x || y) ≡ false → (x ≡ false) × (y ≡ false)
 or_false true y h = absurd (false≢true (sym h))
 or_false false y h = (refl, h)
 
-some_below-false : (n : ℕ) (test : ℕ → Bool) → some_below n test ≡ false → (k : ℕ) → k < n → test k ≡ false
-unfolding some_below
-some_below-false zero test h k less = absurd (omega (arith, less))
-some_below-false (suc n) test h k less =
-    let parts = or_false (test n) (some_below n test) h in
+some_passes-false : (n : ℕ) (test : ℕ → Bool) → some_passes n test ≡ false → (k : ℕ) → k < n → test k ≡ false
+unfolding some_passes
+some_passes-false zero test h k less = absurd (omega (arith, less))
+some_passes-false (suc n) test h k less =
+    let parts = or_false (test n) (some_passes n test) h in
     ⊎_elim
-    (λ (below : k < n). some_below-false n test parts.1 k below)
+    (λ (below : k < n). some_passes-false n test parts.1 k below)
     (λ (last : n ≤ k). (let same : n ≡ k = omega arith in subst (λ (m : ℕ). test m ≡ false) same parts.0))
     (cases_lt k n)
 
 -- a place that is not kept is no twin of one that is
-kept_apart : (base : State) (info : ChainInfo) (x y : ℕ) → is_kept base info x ≡ false → y < base.shape.size → (base.is_fixed y || is_in_table info y) ≡ true → base.bottom y ≢ base.bottom x
+kept_apart : (base : State) (info : ChainInfo) (x y : ℕ) → is_kept base info x ≡ false → y < base.shape.size
+    → (base.is_fixed y || is_in_table info y) ≡ true → base.bottom y ≢ base.bottom x
 unfolding is_kept
 kept_apart base info x y free inside kept same =
-    let none = some_below-false base.shape.size (λ z. (base.is_fixed z || is_in_table info z) && eqb (base.bottom z) (base.bottom x)) free y inside in
+    let none = some_passes-false base.shape.size (λ z. (base.is_fixed z || is_in_table info z) && eqb (base.bottom z) (base.bottom x)) free y inside in
     false≢true (sym none ∙ and_from _ _ kept (eq-eqb _ _ same))
 
 -- a place that is not kept is not fixed in the base
@@ -88,10 +89,15 @@ module _ (old new : State) (info : ChainInfo) (first blocks : ℕ) (same : SameL
   same_kept : SameTwins old new → (x : ℕ) → x < old.shape.size → is_kept new info x ≡ is_kept old info x
   unfolding is_kept
   same_kept twins x inside =
-      some_below-same old.shape.size new.shape.size (λ y. (old.is_fixed y || is_in_table info y) && eqb (old.bottom y) (old.bottom x)) (λ y. (new.is_fixed y || is_in_table info y) && eqb (new.bottom y) (new.bottom x)) same_size (λ y below. rw (twins.is_fixed y below, twins.bottom y below, twins.bottom x inside) refl)
+      some_passes-same old.shape.size new.shape.size
+      (λ y. (old.is_fixed y || is_in_table info y) && eqb (old.bottom y) (old.bottom x))
+      (λ y. (new.is_fixed y || is_in_table info y) && eqb (new.bottom y) (new.bottom x)) same_size
+      (λ y below. rw (twins.is_fixed y below, twins.bottom y below, twins.bottom x inside) refl)
 
 -- each place that is shown lies in the base
-pub place_inside : (base : State) (info : ChainInfo) (first blocks x : ℕ) → HasRoom base.shape info blocks → IsShown base info first blocks → x < base.shape.size + blocks * info.block → place_of base info first x < base.shape.size
+pub place_inside : (base : State) (info : ChainInfo) (first blocks x : ℕ) → CanShow base.shape info blocks
+    → IsShown base info first blocks → x < base.shape.size + blocks * info.block
+    → place_of base info first x < base.shape.size
 unfolding place_of
 place_inside base info first blocks x room shown inside =
     ⊎_elim
@@ -108,7 +114,9 @@ place_inside base info first blocks x room shown inside =
     (cases_lt x base.shape.size)
 
 -- the view shows its base, where the chain is as it should be
-pub view_shows : (base : State) (info : ChainInfo) (first blocks : ℕ) → HasRoom base.shape info blocks → is_shown base info first blocks ≡ true → Shows base (shown_state info first blocks base) (place_of base info first)
+pub view_shows : (base : State) (info : ChainInfo) (first blocks : ℕ) → CanShow base.shape info blocks
+    → is_shown base info first blocks ≡ true
+    → Shows base (shown_state info first blocks base) (place_of base info first)
 view_shows base info first blocks room good = record {
   inside = λ x below. place_inside base info first blocks x room (is_shown-true base info first blocks good) below;
   told = rw (good, and-true) refl;
@@ -128,7 +136,7 @@ pub chain_told : (base : State) (info : ChainInfo) (first blocks : ℕ) → IsTr
 chain_told base info first blocks told = is_shown-true base info first blocks (and_parts base.told (is_shown base info first blocks) told).1
 
 -- the list stays where the cells do
-found_stays : (old new : State) (info : ChainInfo) (first : ℕ) → HasTable old.shape info → new.shape ≡ old.shape → SameCells old new
+found_stays : (old new : State) (info : ChainInfo) (first : ℕ) → HasAllocationTable old.shape info → new.shape ≡ old.shape → SameCells old new
     → SameList old new info first
 unfolding found_list
 found_stays old new info first table shape cells = record {
@@ -137,7 +145,7 @@ found_stays old new info first table shape cells = record {
       (table_same old.cells new.cells info old.shape.size table.table cells);
 }
 
-module _ (old new : State) (info : ChainInfo) (first blocks : ℕ) (room : HasRoom old.shape info blocks) where
+module _ (old new : State) (info : ChainInfo) (first blocks : ℕ) (room : CanShow old.shape info blocks) where
   abbrev view : State → State
   view base = shown_state info first blocks base
 
@@ -191,7 +199,7 @@ module _ (old new : State) (info : ChainInfo) (first blocks : ℕ) (room : HasRo
   }
 
 module _ {A : Type 0} (states : A → State) (keeps : Spot → A → A → Type 0) (lands : A → ℕ → Spot → Type 0) (a b : A)
-    (info : ChainInfo) (first blocks : ℕ) (room : HasRoom (states a).shape info blocks) where
+    (info : ChainInfo) (first blocks : ℕ) (room : CanShow (states a).shape info blocks) where
   abbrev view_of : A → State
   view_of x = shown_state info first blocks (states x)
 
@@ -224,8 +232,8 @@ or_true : (x y : Bool) → y ≡ true → (x || y) ≡ true
 or_true true y h = refl
 or_true false y h = h
 
-module _ (old new : State) (info : ChainInfo) (first blocks at most place n : ℕ) (room : HasRoom old.shape info blocks)
-    (run : IsLocated old info first blocks at most (Ok (place, n))) (bytes : List ℕ) (len : length bytes ≡ n) where
+module _ (old new : State) (info : ChainInfo) (first blocks at most place n : ℕ) (room : CanShow old.shape info blocks)
+    (run : IsLocatedRun old info first blocks at most (Ok (place, n))) (bytes : List ℕ) (len : length bytes ≡ n) where
   abbrev shown : State → State
   shown base = shown_state info first blocks base
 
@@ -314,5 +322,5 @@ module _ (old new : State) (info : ChainInfo) (first blocks at most place n : �
   }
 
 -- room stays
-pub room_stays : (old new : Shape) (info : ChainInfo) (blocks : ℕ) → HasRoom old info blocks → new ≡ old → HasRoom new info blocks
-room_stays old new info blocks room same = subst (λ (shape : Shape). HasRoom shape info blocks) (sym same) room
+pub room_stays : (old new : Shape) (info : ChainInfo) (blocks : ℕ) → CanShow old info blocks → new ≡ old → CanShow new info blocks
+room_stays old new info blocks room same = subst (λ (shape : Shape). CanShow shape info blocks) (sym same) room

@@ -7,24 +7,24 @@ use Rattle.alloc_chain.specs.declared.node.Node.{Node}
 use Rattle.alloc_chain.specs.declared.node.Lead.{Lead}
 use Rattle.alloc_chain.specs.declared.node.Lead.TheVariants.{Opens, OpensFree, Follows}
 use Rattle.alloc_chain.specs.Table.{word_u, word_v, index_of, flagged, HasWords}
-use Rattle.alloc_chain.specs.Chains.{IsLead, IsInner, IsNode, start_of, AreNodes, entries_of, IsLinked}
-use Rattle.alloc_chain.specs.Bounded.{all_below}
+use Rattle.alloc_chain.specs.Chains.{IsLead, IsInner, IsNode, start_of, AreNodes, entries_of, IsLinkedBy}
+use Rattle.alloc_chain.specs.Bounded.{each_passes}
 use Rattle.alloc_chain.specs.Walks.{is_byte, has_words, is_lead, is_inner, is_node, node_at, list_in}
 
-pub all_below-true : (n : ℕ) (test : ℕ → Bool) → all_below n test ≡ true → (k : ℕ) → k < n → test k ≡ true
-unfolding all_below
-all_below-true zero test h k less = absurd (omega (arith, less))
-all_below-true (suc n) test h k less =
-    let parts = and_parts (test n) (all_below n test) h in
+pub each_passes-true : (n : ℕ) (test : ℕ → Bool) → each_passes n test ≡ true → (k : ℕ) → k < n → test k ≡ true
+unfolding each_passes
+each_passes-true zero test h k less = absurd (omega (arith, less))
+each_passes-true (suc n) test h k less =
+    let parts = and_parts (test n) (each_passes n test) h in
     ⊎_elim
-    (λ (below : k < n). all_below-true n test parts.1 k below)
+    (λ (below : k < n). each_passes-true n test parts.1 k below)
     (λ (last : n ≤ k). (let same : n ≡ k = omega arith in subst (λ (m : ℕ). test m ≡ true) same parts.0))
     (cases_lt k n)
 
-pub true-all_below : (n : ℕ) (test : ℕ → Bool) → ((k : ℕ) → k < n → test k ≡ true) → all_below n test ≡ true
-unfolding all_below
-true-all_below zero test h = refl
-true-all_below (suc n) test h = and_from (test n) (all_below n test) (h n (omega arith)) (true-all_below n test (λ k less. h k (omega arith)))
+pub true-each_passes : (n : ℕ) (test : ℕ → Bool) → ((k : ℕ) → k < n → test k ≡ true) → each_passes n test ≡ true
+unfolding each_passes
+true-each_passes zero test h = refl
+true-each_passes (suc n) test h = and_from (test n) (each_passes n test) (h n (omega arith)) (true-each_passes n test (λ k less. h k (omega arith)))
 
 is_byte-true : (cell : Cell) → is_byte cell ≡ true → IsByte cell
 is_byte-true (Byte value) h = tt
@@ -39,11 +39,11 @@ true-is_byte (Spoilt part level block) h = absurd h
 module _ (table : ℕ → ℕ → Cell) where
   has_words-true : (entry : ℕ) → has_words table entry ≡ true → HasWords table entry
   unfolding has_words
-  has_words-true entry h k less = is_byte-true (table entry k) (all_below-true 8 (λ j. is_byte (table entry j)) h k less)
+  has_words-true entry h k less = is_byte-true (table entry k) (each_passes-true 8 (λ j. is_byte (table entry j)) h k less)
 
   true-has_words : (entry : ℕ) → HasWords table entry → has_words table entry ≡ true
   unfolding has_words
-  true-has_words entry h = true-all_below 8 (λ j. is_byte (table entry j)) (λ k less. true-is_byte (table entry k) (h k less))
+  true-has_words entry h = true-each_passes 8 (λ j. is_byte (table entry j)) (λ k less. true-is_byte (table entry k) (h k less))
 
   is_lead-true : (lead : Lead) (word : ℕ) → is_lead lead word ≡ true → IsLead lead word
   is_lead-true Opens word h = eqb-true word (flagged 0) h
@@ -84,16 +84,26 @@ module _ (table : ℕ → ℕ → Cell) where
           u = is_lead-true lead (word_u table node.first) e.0;
           single = λ same. (let less : ltb node.first node.last ≡ false = le-ltb node.first node.last (omega arith) in eqb-true _ _ (rw less at e.1));
           several = λ more. (let less : ltb node.first node.last ≡ true = lt-ltb node.first node.last more in eqb-true _ _ (and_parts _ _ (rw less at e.1)).0);
-          second = λ more. (let less : ltb node.first node.last ≡ true = lt-ltb node.first node.last more in is_inner-true node (node.first + 1) (and_parts _ _ (and_parts _ _ (rw less at e.1)).1).0);
-          last = λ more. (let less : ltb node.first node.last ≡ true = lt-ltb node.first node.last more in is_inner-true node node.last (and_parts _ _ (and_parts _ _ (rw less at e.1)).1).1);
+          second = λ more. (let less : ltb node.first node.last ≡ true =
+              lt-ltb node.first node.last more in is_inner-true node (node.first + 1)
+              (and_parts _ _ (and_parts _ _ (rw less at e.1)).1).0);
+          last = λ more. (let less : ltb node.first node.last ≡ true =
+              lt-ltb node.first node.last more in is_inner-true node node.last
+              (and_parts _ _ (and_parts _ _ (rw less at e.1)).1).1);
         }
 
-    ends_true : IsNode table count lead node next → cond (ltb node.first node.last) (eqb (word_v table node.first) (flagged next) && (is_inner table node (node.first + 1) && is_inner table node node.last)) (eqb (word_v table node.first) next) ≡ true
+    ends_true : IsNode table count lead node next
+        → cond (ltb node.first node.last)
+        (eqb (word_v table node.first) (flagged next) &&
+        (is_inner table node (node.first + 1) && is_inner table node node.last))
+        (eqb (word_v table node.first) next) ≡ true
     ends_true h =
         ⊎_elim
         (λ (more : node.first < node.last).
         let less : ltb node.first node.last ≡ true = lt-ltb node.first node.last more in
-        rw less (and_from _ _ (eq-eqb _ _ (h.several more)) (and_from _ _ (true-is_inner node (node.first + 1) (h.second more)) (true-is_inner node node.last (h.last more)))))
+        rw less (and_from _ _ (eq-eqb _ _ (h.several more))
+        (and_from _ _ (true-is_inner node (node.first + 1) (h.second more))
+        (true-is_inner node node.last (h.last more)))))
         (λ (one : node.last ≤ node.first).
         let less : ltb node.first node.last ≡ false = le-ltb node.first node.last one in
         let same : node.first ≡ node.last = omega (arith, h.ordered) in
@@ -103,7 +113,11 @@ module _ (table : ℕ → ℕ → Cell) where
     true-is_node : IsNode table count lead node next → is_node table count lead node next ≡ true
     unfolding is_node
     true-is_node h =
-        and_from _ _ (le-leb _ _ h.starts) (and_from _ _ (le-leb _ _ h.ordered) (and_from _ _ (le-leb _ _ h.ends) (and_from _ _ (true-has_words node.first h.read) (and_from _ _ (true-is_lead lead (word_u table node.first) h.u) (ends_true h)))))
+        and_from _ _ (le-leb _ _ h.starts)
+        (and_from _ _ (le-leb _ _ h.ordered)
+        (and_from _ _ (le-leb _ _ h.ends)
+        (and_from _ _ (true-has_words node.first h.read)
+        (and_from _ _ (true-is_lead lead (word_u table node.first) h.u) (ends_true h)))))
 
 some_inj : (xs ys : List ℕ) → Some xs ≡ Some ys → xs ≡ ys
 some_inj xs ys e = cc
@@ -111,12 +125,14 @@ some_inj xs ys e = cc
 none_some : (ys : List ℕ) → None ≡ Some ys → ⊥
 none_some ys e = cc
 
-no_list : (table : ℕ → ℕ → Cell) (count : ℕ) (lead : Lead) (list : List ℕ) → Some [] ≡ Some list → IsLinked table count lead 0 list
+no_list : (table : ℕ → ℕ → Cell) (count : ℕ) (lead : Lead) (list : List ℕ) → Some [] ≡ Some list → IsLinkedBy table count lead 0 list
 no_list table count lead list e = record { nodes = []; linked = tt; starts = refl; entries = some_inj [] list e }
 
 module _ (table : ℕ → ℕ → Cell) (count : ℕ) where
   -- one node and the list behind it
-  longer_list : (lead : Lead) (first next : ℕ) (node : Node) (rest : List ℕ) → node.first ≡ first → IsNode table count lead node next → IsLinked table count (Follows first) next rest → IsLinked table count lead first (range_with_len first (node.last + 1 - first) ++ rest)
+  longer_list : (lead : Lead) (first next : ℕ) (node : Node) (rest : List ℕ) → node.first ≡ first
+      → IsNode table count lead node next → IsLinkedBy table count (Follows first) next rest
+      → IsLinkedBy table count lead first (range_with_len first (node.last + 1 - first) ++ rest)
   longer_list lead first next node rest same h linked = record {
     nodes = node ∷ linked.nodes;
     linked = (rw linked.starts h, subst (λ (f : ℕ). AreNodes table count (Follows f) linked.nodes 0) (sym same) linked.linked);
@@ -124,30 +140,42 @@ module _ (table : ℕ → ℕ → Cell) (count : ℕ) where
     entries = rw (same, linked.entries) refl;
   }
 
-  grown_list : (lead : Lead) (first next : ℕ) (node : Node) (list : List ℕ) (found : Option (List ℕ)) → node.first ≡ first → IsNode table count lead node next → ((rest : List ℕ) → found ≡ Some rest → IsLinked table count (Follows first) next rest) → option_map (λ rest. range_with_len first (node.last + 1 - first) ++ rest) found ≡ Some list → IsLinked table count lead first list
+  grown_list : (lead : Lead) (first next : ℕ) (node : Node) (list : List ℕ) (found : Option (List ℕ))
+      → node.first ≡ first → IsNode table count lead node next
+      → ((rest : List ℕ) → found ≡ Some rest → IsLinkedBy table count (Follows first) next rest)
+      → option_map (λ rest. range_with_len first (node.last + 1 - first) ++ rest) found ≡ Some list
+      → IsLinkedBy table count lead first list
   grown_list lead first next node list None same h linked e = absurd (none_some list e)
   grown_list lead first next node list (Some rest) same h linked e =
-      subst (λ (l : List ℕ). IsLinked table count lead first l) (some_inj (range_with_len first (node.last + 1 - first) ++ rest) list e) (longer_list lead first next node rest same h (linked rest refl))
+      subst (λ (l : List ℕ). IsLinkedBy table count lead first l)
+      (some_inj (range_with_len first (node.last + 1 - first) ++ rest) list e)
+      (longer_list lead first next node rest same h (linked rest refl))
 
   node_at-first : (first : ℕ) → (node_at table first).first ≡ first
   unfolding node_at
   node_at-first first = refl
 
   -- what is computed is linked
-  pub list_in-linked : (most : ℕ) (lead : Lead) (first : ℕ) (list : List ℕ) → list_in table count most lead first ≡ Some list → IsLinked table count lead first list
+  pub list_in-linked : (most : ℕ) (lead : Lead) (first : ℕ) (list : List ℕ)
+      → list_in table count most lead first ≡ Some list → IsLinkedBy table count lead first list
   unfolding list_in
   list_in-linked zero lead first list h =
       ⊎_elim
-      (λ (none : eqb first 0 ≡ true). subst (λ (f : ℕ). IsLinked table count lead f list) (sym (eqb-true first 0 none)) (no_list table count lead list (rw none at h)))
+      (λ (none : eqb first 0 ≡ true). subst (λ (f : ℕ). IsLinkedBy table count lead f list)
+      (sym (eqb-true first 0 none)) (no_list table count lead list (rw none at h)))
       (λ (some : eqb first 0 ≡ false). absurd (none_some list (rw some at h)))
       (cases_Bool (eqb first 0))
   list_in-linked (suc most) lead first list h =
       ⊎_elim
-      (λ (none : eqb first 0 ≡ true). subst (λ (f : ℕ). IsLinked table count lead f list) (sym (eqb-true first 0 none)) (no_list table count lead list (rw none at h)))
+      (λ (none : eqb first 0 ≡ true). subst (λ (f : ℕ). IsLinkedBy table count lead f list)
+      (sym (eqb-true first 0 none)) (no_list table count lead list (rw none at h)))
       (λ (some : eqb first 0 ≡ false).
       ⊎_elim
       (λ (good : is_node table count lead (node_at table first) (index_of (word_v table first)) ≡ true).
-      grown_list lead first (index_of (word_v table first)) (node_at table first) list (list_in table count most (Follows first) (index_of (word_v table first))) (node_at-first first) (is_node-true table count lead (node_at table first) (index_of (word_v table first)) good) (λ rest. list_in-linked most (Follows first) (index_of (word_v table first)) rest) (rw (some, good) at h))
+      grown_list lead first (index_of (word_v table first)) (node_at table first) list
+      (list_in table count most (Follows first) (index_of (word_v table first))) (node_at-first first)
+      (is_node-true table count lead (node_at table first) (index_of (word_v table first)) good)
+      (λ rest. list_in-linked most (Follows first) (index_of (word_v table first)) rest) (rw (some, good) at h))
       (λ (bad : is_node table count lead (node_at table first) (index_of (word_v table first)) ≡ false). absurd (none_some list (rw (some, bad) at h)))
       (cases_Bool (is_node table count lead (node_at table first) (index_of (word_v table first)))))
       (cases_Bool (eqb first 0))
@@ -184,7 +212,9 @@ module _ (table : ℕ → ℕ → Cell) (count : ℕ) where
   list_in-none (suc most) lead = refl
 
   -- and what is linked is computed
-  pub linked-list_in : count < 2 ^ 31 → (most : ℕ) (lead : Lead) (nodes : List Node) → AreNodes table count lead nodes 0 → length nodes ≤ most → list_in table count most lead (start_of nodes 0) ≡ Some (entries_of nodes)
+  pub linked-list_in : count < 2 ^ 31 → (most : ℕ) (lead : Lead) (nodes : List Node)
+      → AreNodes table count lead nodes 0 → length nodes ≤ most
+      → list_in table count most lead (start_of nodes 0) ≡ Some (entries_of nodes)
   unfolding list_in
   linked-list_in few most lead [] h enough = list_in-none most lead
   linked-list_in few zero lead (node ∷ nodes) h enough = absurd (omega (arith, enough))
@@ -194,5 +224,6 @@ module _ (table : ℕ → ℕ → Cell) (count : ℕ) where
       let is = node_at-is lead node (start_of nodes 0) small h.0 in
       let next = next_is lead node (start_of nodes 0) small h.0 in
       let good : is_node table count lead node (start_of nodes 0) ≡ true = true-is_node table count lead node (start_of nodes 0) h.0 in
-      let rest : list_in table count most (Follows node.first) (start_of nodes 0) ≡ Some (entries_of nodes) = linked-list_in few most (Follows node.first) nodes h.1 (omega (arith, enough)) in
+      let rest : list_in table count most (Follows node.first) (start_of nodes 0) ≡ Some (entries_of nodes) =
+      linked-list_in few most (Follows node.first) nodes h.1 (omega (arith, enough)) in
       rw (some, is, next, good, rest) refl

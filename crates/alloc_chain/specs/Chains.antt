@@ -60,7 +60,7 @@ occurrences x list = count_by (λ y. y == x) list
 
 -- The list consists of runs, which the table links in both directions, from the entry `first` on up to one that names
 -- none as the next.
-pub record IsLinked (table : ℕ → ℕ → Cell) (count : ℕ) (lead : Lead) (first : ℕ) (list : List ℕ) : Type 0 where
+pub record IsLinkedBy (table : ℕ → ℕ → Cell) (count : ℕ) (lead : Lead) (first : ℕ) (list : List ℕ) : Type 0 where
   pub nodes : List Node
   pub linked : AreNodes table count lead nodes 0
   pub starts : start_of nodes 0 ≡ first
@@ -69,11 +69,11 @@ pub record IsLinked (table : ℕ → ℕ → Cell) (count : ℕ) (lead : Lead) (
 -- the chain that begins with an entry is this list of entries, in which no number stands twice
 pub record IsChain (s : State) (info : ChainInfo) (first : ℕ) (list : List ℕ) : Type 0 where
   pub some : 1 ≤ first
-  pub linked : IsLinked (table_in s.cells info) info.count Opens first list
+  pub linked : IsLinkedBy (table_in s.cells info) info.count Opens first list
   pub once : (x : ℕ) → occurrences x list ≤ 1
 
 -- the free entries are this list, which begins where entry 0 says
 pub record IsFreeList (s : State) (info : ChainInfo) (list : List ℕ) : Type 0 where
   pub read : HasWords (table_in s.cells info) 0
-  pub linked : IsLinked (table_in s.cells info) info.count OpensFree (index_of (word_v (table_in s.cells info) 0)) list
+  pub linked : IsLinkedBy (table_in s.cells info) info.count OpensFree (index_of (word_v (table_in s.cells info) 0)) list
   pub once : (x : ℕ) → occurrences x list ≤ 1

@@ -36,7 +36,9 @@ pub record IsSecond (table : ℕ → ℕ → Cell) (count first : ℕ) : Type 0 
 pub data IsFaulty (table : ℕ → ℕ → Cell) (count : ℕ) (lead : Lead) (first entry : ℕ) : Type 0 where
   AtFirst : entry ≡ first → ¬ IsHead table count lead first → IsFaulty table count lead first entry
   AtSecond : IsHead table count lead first → IsLong table first → entry ≡ first + 1 → ¬ IsSecond table count first → IsFaulty table count lead first entry
-  AtLast : IsHead table count lead first → IsLong table first → IsSecond table count first → entry ≡ word_v table (first + 1) → ¬ IsInner table (record { first = first; last = entry }) entry → IsFaulty table count lead first entry
+  AtLast : IsHead table count lead first → IsLong table first → IsSecond table count first
+      → entry ≡ word_v table (first + 1) → ¬ IsInner table (record { first = first; last = entry }) entry
+      → IsFaulty table count lead first entry
 
 -- from `first` on some nodes are as they should be, and the one behind them is not, at this entry
 pub record FailsAt (table : ℕ → ℕ → Cell) (count : ℕ) (lead : Lead) (first entry : ℕ) : Type 0 where
@@ -74,11 +76,11 @@ pub data IsFreeNeeded (table : ℕ → ℕ → Cell) (count entry : ℕ) : Type 
   Listed : FailsAt table count OpensFree (index_of (word_v table 0)) entry → IsFreeNeeded table count entry
 
 -- P holds of the entry where the fault is a broken list
-abbrev pub IfBroken : Option ChainFault → (ℕ → Type 0) → Type 0
-IfBroken None P = ⊤
-IfBroken (Some (Refused bad)) P = ⊤
-IfBroken (Some (Broken entry)) P = P entry
-IfBroken (Some (Short need have)) P = ⊤
+abbrev pub IfListBroken : Option ChainFault → (ℕ → Type 0) → Type 0
+IfListBroken None P = ⊤
+IfListBroken (Some (Refused bad)) P = ⊤
+IfListBroken (Some (Broken entry)) P = P entry
+IfListBroken (Some (Short need have)) P = ⊤
 
 -- the fault is not that there are too few blocks
 abbrev pub NeverShort : Option ChainFault → Type 0
@@ -97,7 +99,8 @@ refusal_of (Some (Short need have)) = None
 -- Which fault comes when. A broken list is named at an entry where it is broken, and a damaged cell is one of an entry
 -- whose words are needed.
 pub record FaultsOnly (s : State) (info : ChainInfo) (Breaks Needs : ℕ → Type 0) (fault : Option ChainFault) : Type 0 where
-  pub broken : IsTrue s.told → IfBroken fault Breaks
-  pub damaged : IsTrue s.told → IfDamaged (refusal_of fault) (λ part level block. (entry : ℕ) × Needs entry × HasFault (table_in s.cells info) entry part level block)
+  pub broken : IsTrue s.told → IfListBroken fault Breaks
+  pub damaged : IsTrue s.told → IfDamaged (refusal_of fault)
+      (λ part level block. (entry : ℕ) × Needs entry × HasFault (table_in s.cells info) entry part level block)
   pub plain : IsTrue s.shape.plain → NeverDamaged (refusal_of fault)
   pub never_short : NeverShort fault

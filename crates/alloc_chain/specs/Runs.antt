@@ -10,7 +10,7 @@ use Rattle.alloc_chain.specs.declared.node.Node.{Node}
 use Rattle.alloc_chain.specs.declared.node.Lead.{Lead}
 use Rattle.alloc_chain.specs.declared.node.Lead.TheVariants.{Opens}
 use Rattle.alloc_chain.specs.declared.walk.Cursor.{Cursor}
-use Rattle.alloc_chain.specs.Chains.{start_of, AreNodes, IsNode, lead_after, entries_of, IsLinked}
+use Rattle.alloc_chain.specs.Chains.{start_of, AreNodes, IsNode, lead_after, entries_of, IsLinkedBy}
 
 -- a cursor stands behind some nodes of the list that begins with `first`
 pub record IsReached (table : ℕ → ℕ → Cell) (count : ℕ) (lead : Lead) (first : ℕ) (cursor : Cursor) : Type 0 where
@@ -23,10 +23,10 @@ pub record IsReached (table : ℕ → ℕ → Cell) (count : ℕ) (lead : Lead) 
 
 -- the list that begins with `first` has so many entries
 abbrev pub HasLength : (ℕ → ℕ → Cell) → ℕ → Lead → ℕ → ℕ → Type 0
-HasLength table count lead first n = (list : List ℕ) × IsLinked table count lead first list × (n ≡ length list)
+HasLength table count lead first n = (list : List ℕ) × IsLinkedBy table count lead first list × (n ≡ length list)
 
 -- a cursor is a place of the chain that begins with its first entry
-pub record IsPlaceIn (table : ℕ → ℕ → Cell) (count : ℕ) (cursor : Cursor) : Type 0 where
+pub record IsChainPlace (table : ℕ → ℕ → Cell) (count : ℕ) (cursor : Cursor) : Type 0 where
   pub reached : IsReached table count Opens cursor.first cursor
   pub bounded : cursor.passed ≤ count
 
@@ -36,7 +36,7 @@ IsAtEnd cursor = cursor.next ≡ 0
 
 -- a position lies in the list that begins with `first`
 abbrev pub HasPosition : (ℕ → ℕ → Cell) → ℕ → Lead → ℕ → ℕ → Type 0
-HasPosition table count lead first pos = (list : List ℕ) → IsLinked table count lead first list → pos < length list
+HasPosition table count lead first pos = (list : List ℕ) → IsLinkedBy table count lead first list → pos < length list
 
 -- the call was done, and P holds of what it gave, unless the disk failed
 abbrev pub DoneUnlessDisk : {A : Type 0} → Result A ChainFault → (A → Type 0) → Type 0

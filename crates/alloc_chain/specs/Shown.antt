@@ -7,9 +7,9 @@ use Rattle.save_bytes.specs.Refusals.{NeverDamaged}
 use Rattle.save_bytes.specs.Spots.{Spot}
 use Rattle.alloc_chain.specs.declared.info.ChainInfo.{ChainInfo}
 use Rattle.alloc_chain.specs.declared.node.Lead.TheVariants.{Opens}
-use Rattle.alloc_chain.specs.Table.{table_in, HasTable}
+use Rattle.alloc_chain.specs.Table.{table_in}
 use Rattle.alloc_chain.specs.Runs.{HasLength}
-use Rattle.alloc_chain.specs.Bounded.{some_below}
+use Rattle.alloc_chain.specs.Bounded.{some_passes}
 use Rattle.alloc_chain.specs.Walks.{list_in, has_length}
 
 -- the chain's list, if it is as it should be
@@ -40,7 +40,7 @@ is_in_table info x = nat_le info.table_at x && nat_lt x (info.table_at + 8 * (in
 -- the place is fixed in the base, or lies in the allocation table, or is a twin of such a place
 unfoldable pub is_kept : State → ChainInfo → ℕ → Bool
 is_kept base info x =
-    some_below base.shape.size (λ y. (base.is_fixed y || is_in_table info y) && (base.bottom y == base.bottom x))
+    some_passes base.shape.size (λ y. (base.is_fixed y || is_in_table info y) && (base.bottom y == base.bottom x))
 
 -- the table and the data blocks lie in the base, each of whose places may be written, and the length has 64 bits
 unfoldable pub can_show : Shape → ChainInfo → ℕ → Bool
@@ -73,7 +73,7 @@ abbrev pub ShownLands : {A : Type 0} → (A → State) → (A → ℕ → Spot �
 ShownLands states lands info first base x spot = lands base (place_of (states base) info first x) spot
 
 -- the table links a chain as it should, which has so many blocks at least, and not more than the table has
-pub record HasBlocks (base : State) (info : ChainInfo) (first blocks : ℕ) : Type 0 where
+pub record LinksBlocks (base : State) (info : ChainInfo) (first blocks : ℕ) : Type 0 where
   pub len : ℕ
   pub linked : HasLength (table_in base.cells info) info.count Opens first len
   pub enough : blocks ≤ len
@@ -81,7 +81,7 @@ pub record HasBlocks (base : State) (info : ChainInfo) (first blocks : ℕ) : Ty
 
 -- Where the bytes from `at` on lie in the base, and how many lie there in one piece: as many as are asked for, up to the
 -- end of the base or of a node.
-pub record IsLocated (base : State) (info : ChainInfo) (first blocks at most : ℕ) (result : Result (ℕ × ℕ) Bad) : Type 0 where
+pub record IsLocatedRun (base : State) (info : ChainInfo) (first blocks at most : ℕ) (result : Result (ℕ × ℕ) Bad) : Type 0 where
   pub some : IfOk result (λ run. 1 ≤ run.1)
   pub bounded : IfOk result (λ run. run.1 ≤ most)
   pub inside : IfOk result (λ run. at + run.1 ≤ base.shape.size + blocks * info.block)

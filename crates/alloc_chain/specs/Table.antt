@@ -33,7 +33,7 @@ abbrev pub HasFault : (ℕ → ℕ → Cell) → ℕ → ℕ → ℕ → ℕ →
 HasFault table entry part level block = (k : ℕ) × (k < 8) × Blames (table entry k) part level block
 
 -- a space has a table of fewer than 2^31 entries behind entry 0, and a data block for each; each place may be written
-pub record HasTable (shape : Shape) (info : ChainInfo) : Type 0 where
+pub record HasAllocationTable (shape : Shape) (info : ChainInfo) : Type 0 where
   pub sound : IsTrue shape.sound
   pub first : shape.first ≡ 0
   pub few : info.count < 2 ^ 31

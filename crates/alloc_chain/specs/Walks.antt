@@ -6,7 +6,7 @@ use Rattle.alloc_chain.specs.declared.node.Node.{Node}
 use Rattle.alloc_chain.specs.declared.node.Lead.{Lead}
 use Rattle.alloc_chain.specs.declared.node.Lead.TheVariants.{Opens, OpensFree, Follows}
 use Rattle.alloc_chain.specs.Table.{word_u, word_v, index_of, flagged}
-use Rattle.alloc_chain.specs.Bounded.{all_below}
+use Rattle.alloc_chain.specs.Bounded.{each_passes}
 
 abbrev pub is_byte : Cell → Bool
 is_byte (Byte value) = true
@@ -14,7 +14,7 @@ is_byte (Blank part level block) = false
 is_byte (Spoilt part level block) = false
 
 unfoldable pub has_words : (ℕ → ℕ → Cell) → ℕ → Bool
-has_words table entry = all_below 8 (λ k. is_byte (table entry k))
+has_words table entry = each_passes 8 (λ k. is_byte (table entry k))
 
 abbrev pub is_lead : Lead → ℕ → Bool
 is_lead Opens word = word == flagged 0
@@ -43,7 +43,8 @@ list_in table count zero lead first = if first == 0 then Some [] else None
 list_in table count (suc most) lead first =
     if first == 0 then Some []
     else (if is_node table count lead (node_at table first) (index_of (word_v table first))
-    then option_map (λ rest. range_with_len first ((node_at table first).last + 1 - first) ++ rest) (list_in table count most (Follows first) (index_of (word_v table first)))
+    then option_map (λ rest. range_with_len first ((node_at table first).last + 1 - first) ++ rest)
+    (list_in table count most (Follows first) (index_of (word_v table first)))
     else None)
 
 -- there is a list, of so many entries at least and at most

@@ -6,9 +6,9 @@ ghost use Rattle.std.proofs.lemmas.Bool.{false≢true};
 ghost use Rattle.save_bytes.specs.State.{State};
 ghost use Rattle.alloc_chain.specs.declared.node.Lead.TheVariants.{Opens};
 ghost use Rattle.alloc_chain.specs.Table.{table_in};
-ghost use Rattle.alloc_chain.specs.Chains.{IsLinked};
-ghost use Rattle.alloc_chain.specs.Shown.{chain_list, HasBlocks, place_of, ShownLands};
-ghost use Rattle.alloc_chain.specs.ShownLaws.{HasRoom, with_blocks, shown_size_fits, shown_told, shown_twins, shown_shape};
+ghost use Rattle.alloc_chain.specs.Chains.{IsLinkedBy};
+ghost use Rattle.alloc_chain.specs.Shown.{chain_list, LinksBlocks, place_of, ShownLands};
+ghost use Rattle.alloc_chain.specs.ShownLaws.{CanShow, with_blocks, shown_size_fits, shown_told, shown_twins, shown_shape};
 ghost use Rattle.alloc_chain.specs.Behind.{seen, IsSpaceOver};
 
 use crate::info::ChainInfo;
@@ -26,13 +26,13 @@ pub struct ChainSpace<'a, S: Space> {
 impl<'a, S: Space> ChainSpace<'a, S> {
     /// The base, and behind it the first `blocks` blocks of the chain that begins with entry `first`.
     pub fn new(base: &'a mut S, info: ChainInfo, first: u32, blocks: u32) -> ChainSpace<'a, S>
-        requires { HasRoom (S.state base.old).shape info blocks }
+        requires { CanShow (S.state base.old).shape info blocks }
         ensures holds { IsSpaceOver result base.entry info first blocks }
         ensures sound { IsTrue (seen S.state result).shape.sound }
-        ensures told { HasBlocks (S.state base.old) info first blocks
+        ensures told { LinksBlocks (S.state base.old) info first blocks
             → (seen S.state result).told ≡ (S.state base.old).told }
-        ensures chain { HasBlocks (S.state base.old) info first blocks → (list : List ℕ)
-            → IsLinked (table_in (S.state base.old).cells info) info.count Opens first list
+        ensures chain { LinksBlocks (S.state base.old) info first blocks → (list : List ℕ)
+            → IsLinkedBy (table_in (S.state base.old).cells info) info.count Opens first list
             → chain_list (S.state base.old) info first ≡ list }
     {
         let shown = Shown {

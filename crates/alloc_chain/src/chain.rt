@@ -4,10 +4,10 @@ ghost use Rattle.std.specs.Prelude.{◌≡◌, ℕ, ◌+◌, ◌<◌, ◌≤◌,
 ghost use Rattle.std.specs.Result.{result_err};
 ghost use Rattle.save_bytes.specs.Reads.{Reads};
 ghost use Rattle.alloc_chain.specs.declared.node.Lead.TheVariants.{Opens, OpensFree};
-ghost use Rattle.alloc_chain.specs.Table.{index_of, word_v, HasTable, IsEntry};
+ghost use Rattle.alloc_chain.specs.Table.{index_of, word_v, HasAllocationTable, IsEntry};
 ghost use Rattle.alloc_chain.specs.Chains.{IsChain, IsFreeList};
 ghost use Rattle.alloc_chain.specs.Faults.{FailsAt, IsBroken, IsFreeBroken, IsFreeNeeded, refusal_of, FaultsOnly};
-ghost use Rattle.alloc_chain.specs.Runs.{IsPlaceIn, HasLength, IsAtEnd, HasPosition, DoneUnlessDisk, IsRunIn, IsRestOfNode};
+ghost use Rattle.alloc_chain.specs.Runs.{IsChainPlace, HasLength, IsAtEnd, HasPosition, DoneUnlessDisk, IsRunIn, IsRestOfNode};
 ghost use Rattle.alloc_chain.specs.Held.{below, table_of, IsChainOver, SameChain};
 
 use crate::fault::ChainFault;
@@ -26,7 +26,7 @@ pub struct Chain<'a, S: Space> {
 impl<'a, S: Space> Chain<'a, S> {
     /// The chains of the table that `info` tells of.
     pub fn new(base: &'a mut S, info: ChainInfo) -> Chain<'a, S>
-        requires { HasTable (S.state base.old).shape info }
+        requires { HasAllocationTable (S.state base.old).shape info }
         ensures { IsChainOver result base.entry info }
     {
         Chain { base, info }
@@ -34,7 +34,7 @@ impl<'a, S: Space> Chain<'a, S> {
 
     /// How many blocks are free.
     pub fn free_count(&mut self) -> Result<u32, ChainFault>
-        requires { HasTable (below S.state self.old).shape self.old.info }
+        requires { HasAllocationTable (below S.state self.old).shape self.old.info }
         ensures length { let table = table_of S.state self.old in IsTrue (below S.state self.old).told
             → IfOk result (HasLength table self.old.info.count OpensFree (index_of (word_v table 0))) }
         ensures small { IfOk result (λ n. n ≤ self.old.info.count) }
@@ -52,7 +52,7 @@ impl<'a, S: Space> Chain<'a, S> {
 
     /// How many blocks the chain has that begins with entry `first`.
     pub fn length(&mut self, first: u32) -> Result<u32, ChainFault>
-        requires { HasTable (below S.state self.old).shape self.old.info }
+        requires { HasAllocationTable (below S.state self.old).shape self.old.info }
         ensures length { IsTrue (below S.state self.old).told
             → IfOk result (HasLength (table_of S.state self.old) self.old.info.count Opens first) }
         ensures small { IfOk result (λ n. n ≤ self.old.info.count) }
@@ -71,7 +71,7 @@ impl<'a, S: Space> Chain<'a, S> {
     /// The data blocks from block number `pos` of the chain on that lie side by side in one node: the rest of the node
     /// that has the block. The chain begins with entry `first`; `Broken` comes where it has no such block too.
     pub fn run_at(&mut self, first: u32, pos: u32) -> Result<Run, ChainFault>
-        requires { HasTable (below S.state self.old).shape self.old.info }
+        requires { HasAllocationTable (below S.state self.old).shape self.old.info }
         ensures some { IfOk result (λ run. 1 ≤ run.len) }
         ensures inside { IfOk result (λ run. run.block + run.len ≤ self.old.info.count) }
         ensures run { IsTrue (below S.state self.old).told
@@ -93,7 +93,7 @@ impl<'a, S: Space> Chain<'a, S> {
     /// The run behind a place of a chain, which is a whole node, and the place behind that run. To go over a chain by
     /// places reads each of its nodes once.
     pub fn run_behind(&mut self, cursor: Cursor) -> Result<(Run, Cursor), ChainFault>
-        requires table { HasTable (below S.state self.old).shape self.old.info }
+        requires table { HasAllocationTable (below S.state self.old).shape self.old.info }
         requires not_at_end { ¬ IsAtEnd cursor }
         ensures some { IfOk result (λ step. 1 ≤ step.0.len) }
         ensures inside { IfOk result (λ step. step.0.block + step.0.len ≤ self.old.info.count) }
@@ -101,17 +101,17 @@ impl<'a, S: Space> Chain<'a, S> {
         ensures passed { IfOk result (λ step. step.1.passed ≡ cursor.passed + step.0.len) }
         ensures bounded { IfOk result (λ step. step.1.passed ≤ self.old.info.count) }
         ensures place { let table = table_of S.state self.old in IsTrue (below S.state self.old).told
-            → IsPlaceIn table self.old.info.count cursor → IfOk result (λ step. IsPlaceIn table self.old.info.count step.1) }
+            → IsChainPlace table self.old.info.count cursor → IfOk result (λ step. IsChainPlace table self.old.info.count step.1) }
         ensures run { let table = table_of S.state self.old in IsTrue (below S.state self.old).told
-            → IsPlaceIn table self.old.info.count cursor
+            → IsChainPlace table self.old.info.count cursor
             → IfOk result (λ step. IsRestOfNode table self.old.info.count Opens cursor.first cursor.passed step.0) }
         ensures exact { IsTrue (below S.state self.old).told
-            → IsPlaceIn (table_of S.state self.old) self.old.info.count cursor → (list : List ℕ)
+            → IsChainPlace (table_of S.state self.old) self.old.info.count cursor → (list : List ℕ)
             → IsChain (below S.state self.old) self.old.info cursor.first list
             → DoneUnlessDisk result (λ step. IsRunIn list cursor.passed step.0) }
         ensures faults { let table = table_of S.state self.old in FaultsOnly (below S.state self.old) self.old.info
-            (λ e. IsPlaceIn table self.old.info.count cursor → IsBroken table self.old.info.count Opens cursor.first e)
-            (λ e. IsPlaceIn table self.old.info.count cursor → FailsAt table self.old.info.count Opens cursor.first e)
+            (λ e. IsChainPlace table self.old.info.count cursor → IsBroken table self.old.info.count Opens cursor.first e)
+            (λ e. IsChainPlace table self.old.info.count cursor → FailsAt table self.old.info.count Opens cursor.first e)
             (result_err result) }
         ensures reads { Reads S.state S.keeps S.lands self.old.base.now self.new.base.now (refusal_of (result_err result)) }
         ensures same { SameChain self.old self.new }

@@ -4,10 +4,10 @@ ghost use Rattle.std.specs.Prelude.{◌≡◌, ℕ, ◌+◌, ◌<◌, ◌≤◌,
 ghost use Rattle.std.specs.Result.{result_err};
 ghost use Rattle.save_bytes.specs.Reads.{Reads};
 ghost use Rattle.alloc_chain.specs.declared.node.Lead.TheVariants.{Opens, OpensFree};
-ghost use Rattle.alloc_chain.specs.Table.{table_in, index_of, word_v, HasWords, HasFault, HasTable, IsEntry};
+ghost use Rattle.alloc_chain.specs.Table.{table_in, index_of, word_v, HasWords, HasFault, HasAllocationTable, IsEntry};
 ghost use Rattle.alloc_chain.specs.Chains.{IsChain, IsFreeList};
 ghost use Rattle.alloc_chain.specs.Faults.{FailsAt, IsBroken, IsFreeBroken, IsFreeNeeded, refusal_of, FaultsOnly};
-ghost use Rattle.alloc_chain.specs.Runs.{IsPlaceIn, IsAtEnd, HasLength, HasPosition, DoneUnlessDisk, IsRunIn, IsRestOfNode};
+ghost use Rattle.alloc_chain.specs.Runs.{IsChainPlace, IsAtEnd, HasLength, HasPosition, DoneUnlessDisk, IsRunIn, IsRestOfNode};
 
 use crate::fault::ChainFault;
 use crate::info::{ChainInfo, Run};
@@ -17,7 +17,7 @@ use save_bytes::Space;
 
 // The first entry of the free list, or 0.
 fn free_first<S: Space>(base: &mut S, info: ChainInfo) -> Result<u32, ChainFault>
-    requires { HasTable (S.state base.old).shape info }
+    requires { HasAllocationTable (S.state base.old).shape info }
     ensures first { let table = table_in (S.state base.old).cells info in IsTrue (S.state base.old).told
         → IfOk result (λ first. HasWords table 0 × (first ≡ index_of (word_v table 0))) }
     ensures small { IfOk result (λ first. first ≤ info.count) }
@@ -38,7 +38,7 @@ fn free_first<S: Space>(base: &mut S, info: ChainInfo) -> Result<u32, ChainFault
 
 /// How many blocks are free.
 pub(crate) fn free_len<S: Space>(base: &mut S, info: ChainInfo) -> Result<u32, ChainFault>
-    requires { HasTable (S.state base.old).shape info }
+    requires { HasAllocationTable (S.state base.old).shape info }
     ensures length { let table = table_in (S.state base.old).cells info in IsTrue (S.state base.old).told
         → IfOk result (HasLength table info.count OpensFree (index_of (word_v table 0))) }
     ensures small { IfOk result (λ n. n ≤ info.count) }
@@ -61,7 +61,7 @@ pub(crate) fn chain_len<S: Space>(
     info: ChainInfo,
     first: u32,
 ) -> Result<u32, ChainFault>
-    requires { HasTable (S.state base.old).shape info }
+    requires { HasAllocationTable (S.state base.old).shape info }
     ensures length { IsTrue (S.state base.old).told
         → IfOk result (HasLength (table_in (S.state base.old).cells info) info.count Opens first) }
     ensures small { IfOk result (λ n. n ≤ info.count) }
@@ -85,7 +85,7 @@ pub(crate) fn chain_run<S: Space>(
     first: u32,
     pos: u32,
 ) -> Result<Run, ChainFault>
-    requires { HasTable (S.state base.old).shape info }
+    requires { HasAllocationTable (S.state base.old).shape info }
     ensures some { IfOk result (λ run. 1 ≤ run.len) }
     ensures inside { IfOk result (λ run. run.block + run.len ≤ info.count) }
     ensures run { IsTrue (S.state base.old).told
@@ -113,7 +113,7 @@ pub(crate) fn next_run<S: Space>(
     info: ChainInfo,
     cursor: Cursor,
 ) -> Result<(Run, Cursor), ChainFault>
-    requires table { HasTable (S.state base.old).shape info }
+    requires table { HasAllocationTable (S.state base.old).shape info }
     requires not_at_end { ¬ IsAtEnd cursor }
     ensures some { IfOk result (λ step. 1 ≤ step.0.len) }
     ensures inside { IfOk result (λ step. step.0.block + step.0.len ≤ info.count) }
@@ -121,16 +121,16 @@ pub(crate) fn next_run<S: Space>(
     ensures passed { IfOk result (λ step. step.1.passed ≡ cursor.passed + step.0.len) }
     ensures bounded { IfOk result (λ step. step.1.passed ≤ info.count) }
     ensures place { let table = table_in (S.state base.old).cells info in IsTrue (S.state base.old).told
-        → IsPlaceIn table info.count cursor → IfOk result (λ step. IsPlaceIn table info.count step.1) }
+        → IsChainPlace table info.count cursor → IfOk result (λ step. IsChainPlace table info.count step.1) }
     ensures run { let table = table_in (S.state base.old).cells info in IsTrue (S.state base.old).told
-        → IsPlaceIn table info.count cursor
+        → IsChainPlace table info.count cursor
         → IfOk result (λ step. IsRestOfNode table info.count Opens cursor.first cursor.passed step.0) }
     ensures exact { let table = table_in (S.state base.old).cells info in IsTrue (S.state base.old).told
-        → IsPlaceIn table info.count cursor → (list : List ℕ) → IsChain (S.state base.old) info cursor.first list
+        → IsChainPlace table info.count cursor → (list : List ℕ) → IsChain (S.state base.old) info cursor.first list
         → DoneUnlessDisk result (λ step. IsRunIn list cursor.passed step.0) }
     ensures faults { let table = table_in (S.state base.old).cells info in FaultsOnly (S.state base.old) info
-        (λ e. IsPlaceIn table info.count cursor → IsBroken table info.count Opens cursor.first e)
-        (λ e. IsPlaceIn table info.count cursor → FailsAt table info.count Opens cursor.first e) (result_err result) }
+        (λ e. IsChainPlace table info.count cursor → IsBroken table info.count Opens cursor.first e)
+        (λ e. IsChainPlace table info.count cursor → FailsAt table info.count Opens cursor.first e) (result_err result) }
     ensures reads { Reads S.state S.keeps S.lands base.old base.new (refusal_of (result_err result)) }
 {
     let count = info.count;

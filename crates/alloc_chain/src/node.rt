@@ -4,7 +4,7 @@ ghost use Rattle.std.specs.Prelude.{◌≡◌, ℕ, ◌+◌, ◌%◌, ◌^◌, �
 ghost use Rattle.std.specs.Result.{result_err};
 ghost use Rattle.save_bytes.specs.Refusals.{IfDamaged, NeverDamaged};
 ghost use Rattle.save_bytes.specs.Reads.{Reads};
-ghost use Rattle.alloc_chain.specs.Table.{table_in, word_u, word_v, index_of, flagged, HasWords, HasFault, HasTable, IsEntry};
+ghost use Rattle.alloc_chain.specs.Table.{table_in, word_u, word_v, index_of, flagged, HasWords, HasFault, HasAllocationTable, IsEntry};
 ghost use Rattle.alloc_chain.specs.Chains.{IsLead, IsInner, IsNode};
 ghost use Rattle.alloc_chain.specs.Faults.{IsLong, IsHead, IsSecond, IsFaulty, refusal_of, FaultsOnly};
 
@@ -62,7 +62,7 @@ impl Lead {
 
 /// Reads an entry's words.
 pub(crate) fn read_entry<S: Space>(base: &mut S, info: ChainInfo, entry: u32) -> Result<Entry, Bad>
-    requires table { HasTable (S.state base.old).shape info }
+    requires table { HasAllocationTable (S.state base.old).shape info }
     requires inside { entry ≤ info.count }
     ensures words { let table = table_in (S.state base.old).cells info in IsTrue (S.state base.old).told
         → IfOk result (λ e. HasWords table entry × (e.u ≡ word_u table entry) × (e.v ≡ word_v table entry)) }
@@ -90,7 +90,7 @@ fn read_head<S: Space>(
     lead: Lead,
     first: u32,
 ) -> Result<u32, ChainFault>
-    requires table { HasTable (S.state base.old).shape info }
+    requires table { HasAllocationTable (S.state base.old).shape info }
     requires entry { IsEntry info.count first }
     ensures head { let table = table_in (S.state base.old).cells info in IsTrue (S.state base.old).told
         → IfOk result (λ v. IsHead table info.count lead first × (v ≡ word_v table first)) }
@@ -115,7 +115,7 @@ fn read_head<S: Space>(
 
 // Reads the second entry of a node, and gives its last one.
 fn read_second<S: Space>(base: &mut S, info: ChainInfo, first: u32) -> Result<u32, ChainFault>
-    requires table { HasTable (S.state base.old).shape info }
+    requires table { HasAllocationTable (S.state base.old).shape info }
     requires room { first < info.count }
     ensures second { let table = table_in (S.state base.old).cells info in IsTrue (S.state base.old).told
         → IfOk result (λ last. IsSecond table info.count first × (last ≡ word_v table (first + 1))) }
@@ -138,7 +138,7 @@ fn read_second<S: Space>(base: &mut S, info: ChainInfo, first: u32) -> Result<u3
 
 // Reads the last entry of a node of more than one.
 fn read_last<S: Space>(base: &mut S, info: ChainInfo, node: Node) -> Result<(), ChainFault>
-    requires table { HasTable (S.state base.old).shape info }
+    requires table { HasAllocationTable (S.state base.old).shape info }
     requires inside { node.last ≤ info.count }
     requires ordered { node.first < node.last }
     ensures last { IsTrue (S.state base.old).told
@@ -165,7 +165,7 @@ pub(crate) fn read_node<S: Space>(
     lead: Lead,
     first: u32,
 ) -> Result<Link, ChainFault>
-    requires table { HasTable (S.state base.old).shape info }
+    requires table { HasAllocationTable (S.state base.old).shape info }
     requires entry { IsEntry info.count first }
     ensures node { IsTrue (S.state base.old).told
         → IfOk result (λ link. IsNode (table_in (S.state base.old).cells info) info.count lead link.node link.next) }

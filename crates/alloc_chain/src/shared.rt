@@ -4,7 +4,7 @@ ghost use Rattle.std.specs.Prelude.{◌≡◌, ℕ, ◌+◌, ◌-◌, ◌*◌, �
 ghost use Rattle.std.specs.Result.{result_err};
 ghost use Rattle.std.specs.List.{range_with_len};
 ghost use Rattle.save_bytes.specs.Reads.{Reads};
-ghost use Rattle.alloc_chain.specs.Table.{table_in, HasTable};
+ghost use Rattle.alloc_chain.specs.Table.{table_in, HasAllocationTable};
 ghost use Rattle.alloc_chain.specs.Chains.{entries_of};
 ghost use Rattle.alloc_chain.specs.Faults.{FailsAt, IsShared, IsBroken, refusal_of, FaultsOnly};
 ghost use Rattle.alloc_chain.specs.Runs.{IsReached};
@@ -38,7 +38,7 @@ fn list_between<S: Space>(
     low: u32,
     high: u32,
 ) -> Result<u64, ChainFault>
-    requires table { HasTable (S.state base.old).shape info }
+    requires table { HasAllocationTable (S.state base.old).shape info }
     requires first { first ≤ info.count }
     requires high { high ≤ info.count }
     requires next { end.next ≤ info.count }
@@ -72,7 +72,7 @@ fn shared_entry<S: Space>(
     first: u32,
     end: Cursor,
 ) -> Result<u32, ChainFault>
-    requires table { HasTable (S.state base.old).shape info }
+    requires table { HasAllocationTable (S.state base.old).shape info }
     requires first { first ≤ info.count }
     requires some { 1 ≤ info.count }
     requires next { end.next ≤ info.count }
@@ -110,7 +110,7 @@ pub(crate) fn shared_fault<S: Space>(
     first: u32,
     end: Cursor,
 ) -> ChainFault
-    requires table { HasTable (S.state base.old).shape info }
+    requires table { HasAllocationTable (S.state base.old).shape info }
     requires first { first ≤ info.count }
     requires some { 1 ≤ info.count }
     requires next { end.next ≤ info.count }

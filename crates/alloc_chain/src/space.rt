@@ -10,7 +10,7 @@ ghost use Rattle.save_bytes.specs.Puts.{Puts};
 ghost use Rattle.save_bytes.specs.Reads.{Reads};
 ghost use Rattle.save_bytes.specs.Spots.{MovesOnly};
 ghost use Rattle.alloc_chain.specs.Runs.{IsRunIn};
-ghost use Rattle.alloc_chain.specs.Shown.{chain_list, is_shown, place_of, can_show, shown_state, ShownLands, IsLocated};
+ghost use Rattle.alloc_chain.specs.Shown.{chain_list, is_shown, place_of, can_show, shown_state, ShownLands, IsLocatedRun};
 ghost use Rattle.alloc_chain.specs.ShownLaws.{with_blocks};
 
 use crate::info::{ChainInfo, Run};
@@ -87,7 +87,7 @@ pub(crate) fn locate<S: Space>(
 ) -> Result<(u64, u64), Bad>
     requires inside { IsInside (shown_state shown.info shown.first shown.blocks (S.state base.old)).shape at 1 }
     requires some { 1 ≤ most }
-    ensures located { IsLocated (S.state base.old) shown.info shown.first shown.blocks at most result }
+    ensures located { IsLocatedRun (S.state base.old) shown.info shown.first shown.blocks at most result }
     ensures reads { Reads S.state S.keeps S.lands base.old base.new (result_err result) }
 {
     let size = base.len();

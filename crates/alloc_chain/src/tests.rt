@@ -1,6 +1,6 @@
 ghost use Rattle.std.specs.Prelude.{◌≡◌, ◌+◌, ◌*◌, ◌≤◌, length};
 ghost use Rattle.save_bytes.specs.Spots.{Frame};
-ghost use Rattle.alloc_chain.specs.Table.{HasTable};
+ghost use Rattle.alloc_chain.specs.Table.{HasAllocationTable};
 ghost use Rattle.alloc_chain.specs.Held.{below, SameChain};
 
 use super::*;
@@ -80,7 +80,7 @@ fn counts(bytes: &mut [u8]) -> (Result<u32, ChainFault>, Result<u32, ChainFault>
 
 // The run that has a block of a chain, where the chain has so many.
 fn run_of<S: Space>(chain: &mut Chain<S>, first: u32, pos: u32) -> Result<Option<Run>, ChainFault>
-    requires { HasTable (below S.state chain.old).shape chain.old.info }
+    requires { HasAllocationTable (below S.state chain.old).shape chain.old.info }
     ensures same { SameChain chain.old chain.new }
     ensures frame { S.keeps Frame chain.old.base.now chain.new.base.now }
 {
@@ -243,7 +243,7 @@ fn two_free_nodes_that_name_each_other_are_broken(rt: HostRuntime) {
 
 // How many blocks the runs of a chain have, from front to end, and how many runs there are. At most 1,000 are read.
 fn by_runs<S: Space>(chain: &mut Chain<S>, first: u32) -> Result<(u64, u32), ChainFault>
-    requires { HasTable (below S.state chain.old).shape chain.old.info }
+    requires { HasAllocationTable (below S.state chain.old).shape chain.old.info }
 {
     let mut place = Cursor::of_chain(first);
     for runs in 0..1000 {

@@ -5,9 +5,9 @@ ghost use Rattle.std.specs.Result.{result_err};
 ghost use Rattle.save_bytes.specs.Cells.{Cell};
 ghost use Rattle.save_bytes.specs.Reads.{Reads};
 ghost use Rattle.alloc_chain.specs.declared.node.Lead.TheVariants.{Opens, Follows};
-ghost use Rattle.alloc_chain.specs.Table.{table_in, HasTable, IsEntry};
+ghost use Rattle.alloc_chain.specs.Table.{table_in, HasAllocationTable, IsEntry};
 ghost use Rattle.alloc_chain.specs.Faults.{FailsAt, IsBroken, refusal_of, FaultsOnly};
-ghost use Rattle.alloc_chain.specs.Runs.{IsReached, IsPlaceIn, IsAtEnd, HasLength, HasPosition, IsRestOfNode};
+ghost use Rattle.alloc_chain.specs.Runs.{IsReached, IsChainPlace, IsAtEnd, HasLength, HasPosition, IsRestOfNode};
 
 use crate::fault::ChainFault;
 use crate::info::{ChainInfo, Run};
@@ -40,7 +40,7 @@ fn node_len(node: Node) -> u32
 impl Cursor {
     /// The place before the first block of the chain that begins with entry `first`.
     pub fn of_chain(first: u32) -> Cursor
-        ensures place { (table : ℕ → ℕ → Cell) (count : ℕ) → IsEntry count first → IsPlaceIn table count result }
+        ensures place { (table : ℕ → ℕ → Cell) (count : ℕ) → IsEntry count first → IsChainPlace table count result }
         ensures first { result.first ≡ first }
         ensures passed { result.passed ≡ 0 }
     {
@@ -102,7 +102,7 @@ pub(crate) fn advance<S: Space>(
     lead: Lead,
     cursor: Cursor,
 ) -> Result<(Run, Cursor), ChainFault>
-    requires table { HasTable (S.state base.old).shape info }
+    requires table { HasAllocationTable (S.state base.old).shape info }
     requires next { IsEntry info.count cursor.next }
     requires first { cursor.first ≤ info.count }
     requires passed { cursor.passed ≤ info.count }
@@ -144,7 +144,7 @@ pub(crate) fn list_len<S: Space>(
     lead: Lead,
     first: u32,
 ) -> Result<u32, ChainFault>
-    requires table { HasTable (S.state base.old).shape info }
+    requires table { HasAllocationTable (S.state base.old).shape info }
     requires first { first ≤ info.count }
     ensures length { IsTrue (S.state base.old).told
         → IfOk result (HasLength (table_in (S.state base.old).cells info) info.count lead first) }
@@ -173,7 +173,7 @@ pub(crate) fn seek<S: Space>(
     first: u32,
     pos: u32,
 ) -> Result<Option<Run>, ChainFault>
-    requires table { HasTable (S.state base.old).shape info }
+    requires table { HasAllocationTable (S.state base.old).shape info }
     requires first { first ≤ info.count }
     ensures some { IfOk result (λ found. IfSome found (λ run. 1 ≤ run.len)) }
     ensures inside { IfOk result (λ found. IfSome found (λ run. run.block + run.len ≤ info.count)) }

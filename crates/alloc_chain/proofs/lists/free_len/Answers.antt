@@ -1,4 +1,4 @@
-use Rattle.std.proofs.Common.{◌≡◌, ℕ, length, IsTrue, IfOk, Err, sym, ◌∙◌, ap, subst}
+use Rattle.std.proofs.Common.{◌≡◌, ℕ, length, IfOk, Err, ◌∙◌, ap, subst}
 use Rattle.std.specs.Result.{result_err}
 use Rattle.save_bytes.specs.Cells.{Cell}
 use Rattle.save_bytes.proofs.CallLemmas.{IfOk-map}
@@ -33,7 +33,9 @@ returns-clause-length g c = λ told.
     let stays = c.in-Ok.ensures.reads.stays in
     let first = c.in-Ok.ensures.first told in
     let there = c.list_len.ensures.length (stays.space.told told) in
-    let here : IfOk c.list_len.result (HasLength table info.count OpensFree c.in-Ok.first) = subst (λ (t : ℕ → ℕ → Cell). IfOk c.list_len.result (HasLength t info.count OpensFree c.in-Ok.first)) (table_stays old mid info c.requires stays told) there in
+    let here : IfOk c.list_len.result (HasLength table info.count OpensFree c.in-Ok.first) =
+    subst (λ (t : ℕ → ℕ → Cell). IfOk c.list_len.result (HasLength t info.count OpensFree c.in-Ok.first))
+    (table_stays old mid info c.requires stays told) there in
     subst (λ (f : ℕ). IfOk c.list_len.result (HasLength table info.count OpensFree f)) first.1 here
 
 pub returns-clause-faults : goal.returns-clause-faults
@@ -44,10 +46,14 @@ returns-clause-faults g c =
     let stays = c.in-Ok.ensures.reads.stays in
     FaultsOnly-later old mid info (result_err c.list_len.result) c.requires stays
     (λ told e broken.
-    (let here : IsBroken (table_in old.cells info) info.count OpensFree c.in-Ok.first e = subst (λ (t : ℕ → ℕ → Cell). IsBroken t info.count OpensFree c.in-Ok.first e) (table_stays old mid info c.requires stays told) broken in
+    (let here : IsBroken (table_in old.cells info) info.count OpensFree c.in-Ok.first e =
+    subst (λ (t : ℕ → ℕ → Cell). IsBroken t info.count OpensFree c.in-Ok.first e)
+    (table_stays old mid info c.requires stays told) broken in
     InList (subst (λ (f : ℕ). IsBroken (table_in old.cells info) info.count OpensFree f e) (c.in-Ok.ensures.first told).1 here)))
     (λ told e fails.
-    (let here : FailsAt (table_in old.cells info) info.count OpensFree c.in-Ok.first e = subst (λ (t : ℕ → ℕ → Cell). FailsAt t info.count OpensFree c.in-Ok.first e) (table_stays old mid info c.requires stays told) fails in
+    (let here : FailsAt (table_in old.cells info) info.count OpensFree c.in-Ok.first e =
+    subst (λ (t : ℕ → ℕ → Cell). FailsAt t info.count OpensFree c.in-Ok.first e)
+    (table_stays old mid info c.requires stays told) fails in
     Listed (subst (λ (f : ℕ). FailsAt (table_in old.cells info) info.count OpensFree f e) (c.in-Ok.ensures.first told).1 here)))
     c.list_len.ensures.faults
 
@@ -61,4 +67,6 @@ returns-clause-exact g c = λ told list free.
     (no_free_break table info.count list few free.linked free.once)
     (no_free_need table info.count list few free.read free.linked)
     (returns-clause-faults g c)
-    (IfOk-map c.list_len.result (λ n (other, linked, is). is ∙ ap length (same_list table info.count few OpensFree (index_of (word_v table 0)) list free.linked other linked)) (returns-clause-length g c told))
+    (IfOk-map c.list_len.result (λ n (other, linked, is). is
+    ∙ ap length (same_list table info.count few OpensFree (index_of (word_v table 0)) list free.linked other
+    linked)) (returns-clause-length g c told))

@@ -1,4 +1,4 @@
-use Rattle.std.proofs.Common.{◌≡◌, ℕ, ◌+◌, IsTrue, Some, None, sym, subst}
+use Rattle.std.proofs.Common.{◌≡◌, ℕ, ◌+◌, IsTrue, Some, None, subst}
 use Rattle.save_bytes.specs.Cells.{Cell}
 use Rattle.save_bytes.proofs.CallLemmas.{Reads-join}
 use Rattle.save_bytes.proofs.SpaceLemmas.{Stays-join}
@@ -16,9 +16,12 @@ returns-in-Err-read_second-clause-faults g c =
     let mid = g.S.Space.state c.read_head.new.base in
     let table = c.requires.table in
     let stays = c.in-Ok.ensures.reads.stays in
-    let fault = λ (told : IsTrue old.told) (e : ℕ) (is : e ≡ c.args.first + 1) (isnt : ¬ IsSecond (table_in mid.cells c.args.info) c.args.info.count c.args.first).
+    let fault = λ (told : IsTrue old.told) (e : ℕ) (is : e ≡ c.args.first + 1)
+    (isnt : ¬ IsSecond (table_in mid.cells c.args.info) c.args.info.count c.args.first).
     (let head = c.in-Ok.ensures.head told in
-    second_fault (table_in old.cells c.args.info) (table_in mid.cells c.args.info) c.args.info.count c.args.lead c.args.first c.in-Ok.v (table_stays old mid c.args.info table stays told) head.0 head.1 c.if-v-lt-FLAG.false e is isnt) in
+    second_fault (table_in old.cells c.args.info) (table_in mid.cells c.args.info) c.args.info.count c.args.lead
+    c.args.first c.in-Ok.v (table_stays old mid c.args.info table stays told) head.0 head.1 c.if-v-lt-FLAG.false e
+    is isnt) in
     FaultsOnly-later old mid c.args.info (Some c.in-Err-read_second.fault) table stays
     (λ told e breaks. (subst (λ (t : ℕ → ℕ → Cell). HasWords t e) (table_stays old mid c.args.info table stays told) breaks.0, fault told e breaks.1 breaks.2))
     (λ told e needs. fault told e needs.0 needs.1)
@@ -38,7 +41,8 @@ returns-in-Ok-read_last-clause-node g c = λ told.
     let second = c.in-Ok-read_second.ensures.second (stays.space.told told) in
     let last = c.in-Ok-read_second.last in
     let inner = c.in-Ok-read_last.ensures.last (both.space.told told) in
-    long_node (table_in old.cells info) info.count c.args.lead c.args.first last c.in-Ok.v c.requires.entry.some (c.in-Ok.ensures.flag c.if-v-lt-FLAG.false) head.0 head.1
+    long_node (table_in old.cells info) info.count c.args.lead c.args.first last c.in-Ok.v c.requires.entry.some
+    (c.in-Ok.ensures.flag c.if-v-lt-FLAG.false) head.0 head.1
     (subst (λ (t : ℕ → ℕ → Cell). IsSecond t info.count c.args.first) mid_same second.0)
     (subst (λ (t : ℕ → ℕ → Cell). last ≡ word_v t (c.args.first + 1)) mid_same second.1)
     (subst (λ (t : ℕ → ℕ → Cell). IsInner t (record { first = c.args.first; last = last }) last) late_same inner)
@@ -47,7 +51,9 @@ pub returns-in-Ok-read_last-clause-reads : goal.returns-in-Ok-read_last-clause-r
 returns-in-Ok-read_last-clause-reads g c =
     let space = g.S.Space in
     let join = Reads-join space.state space.keeps space.lands g.met.S.Space.keeps_join in
-    join c.args.base.now c.read_second.new.base c.read_last.new.base None (join c.args.base.now c.read_head.new.base c.read_second.new.base None c.in-Ok.ensures.reads c.in-Ok-read_second.ensures.reads) c.in-Ok-read_last.ensures.reads
+    join c.args.base.now c.read_second.new.base c.read_last.new.base None
+    (join c.args.base.now c.read_head.new.base c.read_second.new.base None c.in-Ok.ensures.reads
+    c.in-Ok-read_second.ensures.reads) c.in-Ok-read_last.ensures.reads
 
 pub returns-in-Err-read_last-clause-faults : goal.returns-in-Err-read_last-clause-faults
 returns-in-Err-read_last-clause-faults g c =
@@ -59,10 +65,13 @@ returns-in-Err-read_last-clause-faults g c =
     let stays = c.in-Ok.ensures.reads.stays in
     let both = Stays-join old mid late None stays c.in-Ok-read_second.ensures.reads.stays in
     let last = c.in-Ok-read_second.last in
-    let fault = λ (told : IsTrue old.told) (e : ℕ) (is : e ≡ last) (isnt : ¬ IsInner (table_in late.cells info) (record { first = c.args.first; last = last }) last).
+    let fault = λ (told : IsTrue old.told) (e : ℕ) (is : e ≡ last)
+    (isnt : ¬ IsInner (table_in late.cells info) (record { first = c.args.first; last = last }) last).
     (let head = c.in-Ok.ensures.head told in
     let second = c.in-Ok-read_second.ensures.second (stays.space.told told) in
-    last_fault (table_in old.cells info) (table_in mid.cells info) (table_in late.cells info) info.count c.args.lead c.args.first c.in-Ok.v last (table_stays old mid info table stays told) (table_stays old late info table both told) head.0 head.1 c.if-v-lt-FLAG.false second.0 second.1 e is isnt) in
+    last_fault (table_in old.cells info) (table_in mid.cells info) (table_in late.cells info) info.count c.args.lead
+    c.args.first c.in-Ok.v last (table_stays old mid info table stays told)
+    (table_stays old late info table both told) head.0 head.1 c.if-v-lt-FLAG.false second.0 second.1 e is isnt) in
     FaultsOnly-later old late info (Some c.in-Err-read_last.fault) table both
     (λ told e breaks. (subst (λ (t : ℕ → ℕ → Cell). HasWords t e) (table_stays old late info table both told) breaks.0, fault told e breaks.1 breaks.2))
     (λ told e needs. fault told e needs.0 needs.1)
@@ -72,4 +81,6 @@ pub returns-in-Err-read_last-clause-reads : goal.returns-in-Err-read_last-clause
 returns-in-Err-read_last-clause-reads g c =
     let space = g.S.Space in
     let join = Reads-join space.state space.keeps space.lands g.met.S.Space.keeps_join in
-    join c.args.base.now c.read_second.new.base c.read_last.new.base (refusal_of (Some c.in-Err-read_last.fault)) (join c.args.base.now c.read_head.new.base c.read_second.new.base None c.in-Ok.ensures.reads c.in-Ok-read_second.ensures.reads) c.in-Err-read_last.ensures.reads
+    join c.args.base.now c.read_second.new.base c.read_last.new.base (refusal_of (Some c.in-Err-read_last.fault))
+    (join c.args.base.now c.read_head.new.base c.read_second.new.base None c.in-Ok.ensures.reads
+    c.in-Ok-read_second.ensures.reads) c.in-Err-read_last.ensures.reads

@@ -18,7 +18,9 @@ loop-cursor-init g c =
     record {
       next = omega (arith, started.next);
       between = omega arith;
-      reached = λ told. counted_start (table_in (g.S.Space.state c.args.base.now).cells c.args.info) c.args.info.count c.args.lead c.args.first c.start-cursor.result c.args.low c.args.high c.requires.first started.lead started.next started.passed;
+      reached = λ told. counted_start (table_in (g.S.Space.state c.args.base.now).cells c.args.info) c.args.info.count
+          c.args.lead c.args.first c.start-cursor.result c.args.low c.args.high c.requires.first started.lead
+          started.next started.passed;
       within = λ told end. omega (arith, started.passed);
       reads = Reads-same g.S.Space.state g.S.Space.keeps g.S.Space.lands g.met.S.Space.keeps_same c.args.base.now;
     }
@@ -35,7 +37,8 @@ returns-in-Err-clause-faults g c =
 pub returns-in-Err-clause-reads : goal.returns-in-Err-clause-reads
 returns-in-Err-clause-reads g c =
     let space = g.S.Space in
-    Reads-join space.state space.keeps space.lands g.met.S.Space.keeps_join c.args.base.now c.loop-cursor.base c.read_node.new.base (refusal_of (Some c.in-Err.fault)) c.loop-cursor.invariant.reads c.in-Err.ensures.reads
+    Reads-join space.state space.keeps space.lands g.met.S.Space.keeps_join c.args.base.now c.loop-cursor.base
+    c.read_node.new.base (refusal_of (Some c.in-Err.fault)) c.loop-cursor.invariant.reads c.in-Err.ensures.reads
 
 pub loop-cursor-preserved : goal.loop-cursor-preserved
 loop-cursor-preserved g c =
@@ -50,16 +53,25 @@ loop-cursor-preserved g c =
     let behind = c.behind-cursor.result in
     let link = c.in-Ok.link in
     let is_node = λ (told : IsTrue old.told).
-    (let here : IsNode table info.count cursor.lead link.node link.next = subst (λ (t : ℕ → ℕ → Cell). IsNode t info.count cursor.lead link.node link.next) (table_stays old now info c.requires.table stays told) (c.in-Ok.ensures.node (stays.space.told told)) in
+    (let here : IsNode table info.count cursor.lead link.node link.next =
+    subst (λ (t : ℕ → ℕ → Cell). IsNode t info.count cursor.lead link.node link.next)
+    (table_stays old now info c.requires.table stays told) (c.in-Ok.ensures.node (stays.space.told told)) in
     subst (λ (n : ℕ). IsNode table info.count cursor.lead link.node n) (sym c.behind-cursor.ensures.next) here) in
     record {
       next = omega (arith, c.in-Ok.ensures.next);
       between = omega (arith, c.node_between.ensures.small, invariant.between);
-      reached = λ told. counted_more table info.count c.args.lead c.args.first cursor behind link.node c.args.low c.args.high c.loop-cursor.between c.from-between.result (invariant.reached told) (is_node told) (omega (arith, c.in-Ok.ensures.next, c.behind-cursor.ensures.next)) c.in-Ok.ensures.first c.behind-cursor.ensures.lead c.behind-cursor.ensures.passed (c.from-between.ensures ∙ c.node_between.ensures.between);
+      reached = λ told. counted_more table info.count c.args.lead c.args.first cursor behind link.node c.args.low
+          c.args.high c.loop-cursor.between c.from-between.result (invariant.reached told) (is_node told)
+          (omega (arith, c.in-Ok.ensures.next, c.behind-cursor.ensures.next)) c.in-Ok.ensures.first
+          c.behind-cursor.ensures.lead c.behind-cursor.ensures.passed
+          (c.from-between.ensures ∙ c.node_between.ensures.between);
       within = λ told end.
-          (let step = step_within table info.count c.requires.table.few c.args.lead c.args.first cursor c.args.end (invariant.reached told).0 end invariant.next c.requires.next (invariant.within told end) link.node behind.next (omega (arith, c.in-Ok.ensures.next)) (is_node told) c.in-Ok.ensures.first (omega arith) in
+          (let step = step_within table info.count c.requires.table.few c.args.lead c.args.first cursor c.args.end
+          (invariant.reached told).0 end invariant.next c.requires.next (invariant.within told end) link.node
+          behind.next (omega (arith, c.in-Ok.ensures.next)) (is_node told) c.in-Ok.ensures.first (omega arith) in
           omega (arith, step));
-      reads = Reads-join space.state space.keeps space.lands g.met.S.Space.keeps_join c.args.base.now c.loop-cursor.base c.read_node.new.base None invariant.reads c.in-Ok.ensures.reads;
+      reads = Reads-join space.state space.keeps space.lands g.met.S.Space.keeps_join c.args.base.now
+          c.loop-cursor.base c.read_node.new.base None invariant.reads c.in-Ok.ensures.reads;
     }
 
 pub returns-else-cursor-ne0-clause-between : goal.returns-else-cursor-ne0-clause-between
@@ -67,7 +79,9 @@ returns-else-cursor-ne0-clause-between g c = λ told end.
     let info = c.args.info in
     let invariant = c.loop-cursor.invariant in
     let counted = invariant.reached told in
-    let same = same_entries (table_in (g.S.Space.state c.args.base.now).cells info) info.count c.requires.table.few c.args.lead c.args.first c.loop-cursor.cursor c.args.end counted.0 end invariant.next c.requires.next (invariant.within told end) (inr (omega arith)) in
+    let same = same_entries (table_in (g.S.Space.state c.args.base.now).cells info) info.count c.requires.table.few
+    c.args.lead c.args.first c.loop-cursor.cursor c.args.end counted.0 end invariant.next c.requires.next
+    (invariant.within told end) (inr (omega arith)) in
     counted.1 ∙ ap (count_between c.args.low c.args.high) same
 
 pub returns-after-loop-cursor-clause-between : goal.returns-after-loop-cursor-clause-between
@@ -75,5 +89,7 @@ returns-after-loop-cursor-clause-between g c = λ told end.
     let info = c.args.info in
     let invariant = c.loop-cursor.invariant in
     let counted = invariant.reached told in
-    let same = same_entries (table_in (g.S.Space.state c.args.base.now).cells info) info.count c.requires.table.few c.args.lead c.args.first c.loop-cursor.cursor c.args.end counted.0 end invariant.next c.requires.next (invariant.within told end) (inl (omega arith)) in
+    let same = same_entries (table_in (g.S.Space.state c.args.base.now).cells info) info.count c.requires.table.few
+    c.args.lead c.args.first c.loop-cursor.cursor c.args.end counted.0 end invariant.next c.requires.next
+    (invariant.within told end) (inl (omega arith)) in
     counted.1 ∙ ap (count_between c.args.low c.args.high) same

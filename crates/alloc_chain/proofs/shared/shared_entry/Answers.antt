@@ -1,4 +1,4 @@
-use Rattle.std.proofs.Common.{◌≡◌, ℕ, ◌+◌, ◌-◌, ◌/◌, ◌<◌, ◌≤◌, IsTrue, Some, None, refl, sym, subst, arith}
+use Rattle.std.proofs.Common.{◌≡◌, ℕ, ◌+◌, ◌-◌, ◌/◌, ◌<◌, ◌≤◌, Some, None, subst, arith}
 use Rattle.save_bytes.specs.Cells.{Cell}
 use Rattle.save_bytes.proofs.CallLemmas.{Reads-join}
 use Rattle.alloc_chain.specs.Table.{table_in}
@@ -19,7 +19,8 @@ loop-low-init g c =
     record {
       low = c.requires.some;
       high = omega arith;
-      crowded = λ told whole. crowded_all (table_in (g.S.Space.state c.args.base.now).cells c.args.info) c.args.info.count c.args.lead c.args.first c.args.end whole c.requires.many;
+      crowded = λ told whole. crowded_all (table_in (g.S.Space.state c.args.base.now).cells c.args.info)
+          c.args.info.count c.args.lead c.args.first c.args.end whole c.requires.many;
       reads = Reads-same g.S.Space.state g.S.Space.keeps g.S.Space.lands g.met.S.Space.keeps_same c.args.base.now;
     }
 
@@ -37,11 +38,17 @@ returns-in-Err-clause-faults g c =
 pub returns-in-Err-clause-reads : goal.returns-in-Err-clause-reads
 returns-in-Err-clause-reads g c =
     let space = g.S.Space in
-    Reads-join space.state space.keeps space.lands g.met.S.Space.keeps_join c.args.base.now c.loop-low.base c.list_between.new.base (refusal_of (Some c.in-Err.fault)) c.loop-low.invariant.reads c.in-Err.ensures.reads
+    Reads-join space.state space.keeps space.lands g.met.S.Space.keeps_join c.args.base.now c.loop-low.base
+    c.list_between.new.base (refusal_of (Some c.in-Err.fault)) c.loop-low.invariant.reads c.in-Err.ensures.reads
 
 -- the count in a table that is the same
-between_in : (old now : ℕ → ℕ → Cell) (count : ℕ) (lead : Lead) (first : ℕ) (end : Cursor) (low high between : ℕ) → now ≡ old → ((whole : IsReached now count lead first end) → between ≡ count_between low high (entries_of whole.nodes)) → (whole : IsReached old count lead first end) → between ≡ count_between low high (entries_of whole.nodes)
-between_in old now count lead first end low high between same is = subst (λ (t : ℕ → ℕ → Cell). (whole : IsReached t count lead first end) → between ≡ count_between low high (entries_of whole.nodes)) same is
+between_in : (old now : ℕ → ℕ → Cell) (count : ℕ) (lead : Lead) (first : ℕ) (end : Cursor) (low high between : ℕ)
+    → now ≡ old → ((whole : IsReached now count lead first end)
+    → between ≡ count_between low high (entries_of whole.nodes)) → (whole : IsReached old count lead first end)
+    → between ≡ count_between low high (entries_of whole.nodes)
+between_in old now count lead first end low high between same is =
+    subst (λ (t : ℕ → ℕ → Cell). (whole : IsReached t count lead first end)
+    → between ≡ count_between low high (entries_of whole.nodes)) same is
 
 pub loop-low-preserved-then-between-from : goal.loop-low-preserved-then-between-from
 loop-low-preserved-then-between-from g c =
@@ -56,9 +63,12 @@ loop-low-preserved-then-between-from g c =
       low = omega arith;
       high = omega (arith, invariant.high);
       crowded = λ told whole.
-          (let is = between_in (table_in old.cells info) (table_in now.cells info) info.count c.args.lead c.args.first c.args.end c.loop-low.low middle c.in-Ok.between (table_stays old now info c.requires.table stays told) (c.in-Ok.ensures.between (stays.space.told told)) whole in
+          (let is = between_in (table_in old.cells info) (table_in now.cells info) info.count c.args.lead c.args.first
+          c.args.end c.loop-low.low middle c.in-Ok.between (table_stays old now info c.requires.table stays told)
+          (c.in-Ok.ensures.between (stays.space.told told)) whole in
           omega (arith, is));
-      reads = Reads-join space.state space.keeps space.lands g.met.S.Space.keeps_join c.args.base.now c.loop-low.base c.list_between.new.base None invariant.reads c.in-Ok.ensures.reads;
+      reads = Reads-join space.state space.keeps space.lands g.met.S.Space.keeps_join c.args.base.now c.loop-low.base
+          c.list_between.new.base None invariant.reads c.in-Ok.ensures.reads;
     }
 
 pub loop-low-preserved : goal.loop-low-preserved
@@ -76,7 +86,11 @@ loop-low-preserved g c =
       low = omega arith;
       high = invariant.high;
       crowded = λ told whole.
-          (let is = between_in (table_in old.cells info) (table_in now.cells info) info.count c.args.lead c.args.first c.args.end c.loop-low.low middle c.in-Ok.between (table_stays old now info c.requires.table stays told) (c.in-Ok.ensures.between (stays.space.told told)) whole in
-          crowded_back (table_in old.cells info) info.count c.args.lead c.args.first c.args.end whole c.loop-low.low middle c.loop-low.high from below (invariant.crowded told whole) (omega (arith, is)));
-      reads = Reads-join space.state space.keeps space.lands g.met.S.Space.keeps_join c.args.base.now c.loop-low.base c.list_between.new.base None invariant.reads c.in-Ok.ensures.reads;
+          (let is = between_in (table_in old.cells info) (table_in now.cells info) info.count c.args.lead c.args.first
+          c.args.end c.loop-low.low middle c.in-Ok.between (table_stays old now info c.requires.table stays told)
+          (c.in-Ok.ensures.between (stays.space.told told)) whole in
+          crowded_back (table_in old.cells info) info.count c.args.lead c.args.first c.args.end whole c.loop-low.low
+          middle c.loop-low.high from below (invariant.crowded told whole) (omega (arith, is)));
+      reads = Reads-join space.state space.keeps space.lands g.met.S.Space.keeps_join c.args.base.now c.loop-low.base
+          c.list_between.new.base None invariant.reads c.in-Ok.ensures.reads;
     }

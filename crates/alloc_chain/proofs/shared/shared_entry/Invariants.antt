@@ -10,7 +10,9 @@ abbrev pub invariant-loop-low : goal.invariant-loop-low
 invariant-loop-low g l = record {
   low : l.low ≤ l.high;
   high : l.high ≤ l.info.count;
-  crowded : IsTrue (g.S.Space.state l.initial.base).told → (reached : IsReached (table_in (g.S.Space.state l.initial.base).cells l.info) l.info.count l.lead l.first l.end) → l.high + 1 - l.low < count_between l.low l.high (entries_of reached.nodes);
+  crowded : IsTrue (g.S.Space.state l.initial.base).told
+      → (reached : IsReached (table_in (g.S.Space.state l.initial.base).cells l.info) l.info.count l.lead l.first
+      l.end) → l.high + 1 - l.low < count_between l.low l.high (entries_of reached.nodes);
   reads : Reads g.S.Space.state g.S.Space.keeps g.S.Space.lands l.initial.base l.base None;
 }
 

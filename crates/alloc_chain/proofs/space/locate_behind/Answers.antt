@@ -1,6 +1,6 @@
 use Rattle.std.proofs.Common.{arith}
 use Rattle.std.proofs.lemmas.Nat.{mod_below}
-use Rattle.alloc_chain.specs.ShownLaws.{can_show-true}
+use Rattle.alloc_chain.specs.ShownLaws.{can_show-facts}
 use Rattle.alloc_chain.proofs.ShownLemmas.{block_some, run_inside, one_block, run_places}
 use Rattle.alloc_chain.proofs.space.locate_behind.Goals as goal
 
@@ -8,7 +8,7 @@ pub overflow_add-place : goal.overflow_add-place
 overflow_add-place g c =
     let base = g.S.Space.state c.args.base.now in
     let info = c.args.shown.info in
-    let room = can_show-true base.shape info c.args.shown.blocks c.requires.sound in
+    let room = can_show-facts base.shape info c.args.shown.blocks c.requires.sound in
     let run = c.in-Ok-Some.run' in
     let inside = rw c.in-Ok-Some.field-0-is at c.in-Ok-Some.ensures.inside in
     let here = run_inside info.region_at base.shape.size info.block info.count run.block run.len inside room.table.region in
@@ -18,7 +18,7 @@ pub overflow_add-place-in-Ok-Some : goal.overflow_add-place-in-Ok-Some
 overflow_add-place-in-Ok-Some g c =
     let base = g.S.Space.state c.args.base.now in
     let info = c.args.shown.info in
-    let room = can_show-true base.shape info c.args.shown.blocks c.requires.sound in
+    let room = can_show-facts base.shape info c.args.shown.blocks c.requires.sound in
     let run = c.in-Ok-Some.run' in
     let inside = rw c.in-Ok-Some.field-0-is at c.in-Ok-Some.ensures.inside in
     let some = rw c.in-Ok-Some.field-0-is at c.in-Ok-Some.ensures.some in
@@ -30,7 +30,7 @@ pub returns-in-Ok-Some-clause-in_base : goal.returns-in-Ok-Some-clause-in_base
 returns-in-Ok-Some-clause-in_base g c =
     let base = g.S.Space.state c.args.base.now in
     let info = c.args.shown.info in
-    let room = can_show-true base.shape info c.args.shown.blocks c.requires.sound in
+    let room = can_show-facts base.shape info c.args.shown.blocks c.requires.sound in
     let run = c.in-Ok-Some.run' in
     let inside = rw c.in-Ok-Some.field-0-is at c.in-Ok-Some.ensures.inside in
     let some = rw c.in-Ok-Some.field-0-is at c.in-Ok-Some.ensures.some in
@@ -50,5 +50,5 @@ returns-in-Ok-Some-clause-places g c = λ told k less.
 
 pub returns-in-Ok-None-clause-in_base : goal.returns-in-Ok-None-clause-in_base
 returns-in-Ok-None-clause-in_base g c =
-    let room = can_show-true (g.S.Space.state c.args.base.now).shape c.args.shown.info c.args.shown.blocks c.requires.sound in
+    let room = can_show-facts (g.S.Space.state c.args.base.now).shape c.args.shown.info c.args.shown.blocks c.requires.sound in
     omega (arith, room.table.table)

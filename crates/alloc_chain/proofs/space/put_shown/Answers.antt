@@ -7,7 +7,7 @@ use Rattle.save_bytes.proofs.CallLemmas.{Reads-join}
 use Rattle.save_bytes.proofs.JoinLemmas.{IsReady-before, IsReady-told, Puts-unput, MovesOnly-append, MovesOnly-longer, MovesOnly-read}
 use Rattle.alloc_chain.specs.declared.space.Shown.{Shown}
 use Rattle.alloc_chain.specs.Shown.{can_show, ShownLands}
-use Rattle.alloc_chain.specs.ShownLaws.{can_show-true, with_blocks}
+use Rattle.alloc_chain.specs.ShownLaws.{can_show-facts, with_blocks}
 use Rattle.alloc_chain.proofs.ViewLemmas.{view_stays, view_reads}
 use Rattle.alloc_chain.proofs.PutLemmas.{rest, rest_len, rest_can, rest_never, rest_refused, rest_put, nothing_put}
 use Rattle.alloc_chain.proofs.space.put_shown.Goals as goal
@@ -19,7 +19,7 @@ module _ {A : Type 0} (states : A → State) (keeps : Spot → A → A → Type 
       → Reads states keeps lands m b refusal
       → Reads (λ (x : A). with_blocks shown (states x)) keeps (ShownLands states lands shown.info shown.first) a b refusal
   reads_both refusal sound first second =
-      view_reads states keeps lands a b shown.info shown.first shown.blocks (can_show-true (states a).shape shown.info shown.blocks sound)
+      view_reads states keeps lands a b shown.info shown.first shown.blocks (can_show-facts (states a).shape shown.info shown.blocks sound)
       refusal (Reads-join states keeps lands join a m b refusal first second)
 
 pub returns-in-Err-ready_runs-clause-ready : goal.returns-in-Err-ready_runs-clause-ready
@@ -27,7 +27,7 @@ returns-in-Err-ready_runs-clause-ready g c = λ can.
     let shown = c.args.shown in
     let old = g.S.Space.state c.args.base.now in
     let mid = g.S.Space.state c.is_good.new.base in
-    let room = can_show-true old.shape shown.info shown.blocks c.requires.inside.sound in
+    let room = can_show-facts old.shape shown.info shown.blocks c.requires.inside.sound in
     IsReady-before (with_blocks shown old) (with_blocks shown mid) c.args.at (length c.args.bytes.now) (Some c.in-Err-ready_runs.bad)
     c.requires.inside.inside (view_stays old mid shown.info shown.first shown.blocks room None c.in-Ok-true.ensures.reads.stays)
     c.in-Err-ready_runs.ensures.ready
@@ -64,7 +64,7 @@ loop-done-init g c =
     let new = c.ready_runs.new.base in
     let reads = reads_both space.state space.keeps space.lands g.met.S.Space.keeps_join old mid new shown None c.requires.inside.sound
     c.in-Ok-true.ensures.reads c.in-Ok.ensures.reads in
-    let room = can_show-true (space.state old).shape shown.info shown.blocks c.requires.inside.sound in
+    let room = can_show-facts (space.state old).shape shown.info shown.blocks c.requires.inside.sound in
     let stays = view_stays (space.state old) (space.state mid) shown.info shown.first shown.blocks room None c.in-Ok-true.ensures.reads.stays in
     record {
       within = omega arith;
@@ -77,7 +77,7 @@ loop-done-init g c =
 pub overflow_add-at : goal.overflow_add-at
 overflow_add-at g c =
     let shown = c.args.shown in
-    let room = can_show-true (g.S.Space.state c.args.base.now).shape shown.info shown.blocks c.requires.inside.sound in
+    let room = can_show-facts (g.S.Space.state c.args.base.now).shape shown.info shown.blocks c.requires.inside.sound in
     omega (arith, room.fits, c.requires.inside.inside, c.loop-done.invariant.within)
 
 pub loop-done-preserved : goal.loop-done-preserved

@@ -1,4 +1,4 @@
-use Rattle.std.proofs.Common.{◌≡◌, ℕ, Some, subst}
+use Rattle.std.proofs.Common.{ℕ, Some, subst}
 use Rattle.save_bytes.specs.Cells.{Cell}
 use Rattle.save_bytes.proofs.CallLemmas.{Reads-join}
 use Rattle.save_bytes.proofs.SpaceLemmas.{Stays-same}

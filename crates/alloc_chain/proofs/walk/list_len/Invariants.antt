@@ -9,7 +9,8 @@ invariant-loop-cursor g l = record {
   first : l.cursor.first ≡ l.first;
   next : l.cursor.next ≤ l.info.count;
   passed : l.cursor.passed ≤ l.info.count;
-  reached : IsTrue (g.S.Space.state l.initial.base).told → IsReached (table_in (g.S.Space.state l.initial.base).cells l.info) l.info.count l.lead l.first l.cursor;
+  reached : IsTrue (g.S.Space.state l.initial.base).told
+      → IsReached (table_in (g.S.Space.state l.initial.base).cells l.info) l.info.count l.lead l.first l.cursor;
   reads : Reads g.S.Space.state g.S.Space.keeps g.S.Space.lands l.initial.base l.base None;
 }
 

@@ -10,7 +10,8 @@ invariant-loop-cursor g l = record {
   next : l.cursor.next ≤ l.info.count;
   passed : l.cursor.passed ≤ l.info.count;
   before : l.cursor.passed ≤ l.pos;
-  reached : IsTrue (g.S.Space.state l.initial.base).told → IsReached (table_in (g.S.Space.state l.initial.base).cells l.info) l.info.count l.lead l.first l.cursor;
+  reached : IsTrue (g.S.Space.state l.initial.base).told
+      → IsReached (table_in (g.S.Space.state l.initial.base).cells l.info) l.info.count l.lead l.first l.cursor;
   reads : Reads g.S.Space.state g.S.Space.keeps g.S.Space.lands l.initial.base l.base None;
 }
 

@@ -1,10 +1,10 @@
-use Rattle.std.proofs.Common.{◌≡◌, ◌<◌, ◌≤◌, ◌^◌, ℕ, Bool, true, ◌&&◌, List, [], length, Option, unwrap_or, refl, ap, arith}
+use Rattle.std.proofs.Common.{◌≡◌, ◌<◌, ◌≤◌, ◌^◌, ℕ, true, List, [], length, Option, unwrap_or, refl, ap, arith}
 use Rattle.std.proofs.Math.Bool.{and-true}
 use Rattle.save_bytes.specs.State.{State}
 use Rattle.alloc_chain.specs.declared.info.ChainInfo.{ChainInfo}
 use Rattle.alloc_chain.specs.declared.node.Lead.TheVariants.{Opens}
 use Rattle.alloc_chain.specs.Table.{table_in}
-use Rattle.alloc_chain.specs.Chains.{IsLinked}
+use Rattle.alloc_chain.specs.Chains.{IsLinkedBy}
 use Rattle.alloc_chain.specs.Shown.{is_shown, chain_list}
 use Rattle.alloc_chain.proofs.ExactLemmas.{same_list}
 use Rattle.alloc_chain.proofs.ShownLemmas.{true-can_show, true-is_shown, linked-found}
@@ -24,7 +24,7 @@ returns-clause-told g c = λ chain.
     rw (good, and-true) refl
 
 list_is : (base : State) (info : ChainInfo) (first : ℕ) (list : List ℕ) → info.count < 2 ^ 31
-    → IsLinked (table_in base.cells info) info.count Opens first list → length list ≤ info.count → chain_list base info first ≡ list
+    → IsLinkedBy (table_in base.cells info) info.count Opens first list → length list ≤ info.count → chain_list base info first ≡ list
 unfolding chain_list
 list_is base info first list few linked small =
     ap (λ (o : Option (List ℕ)). unwrap_or o []) (linked-found base info first list few linked small)
