@@ -11,8 +11,8 @@ use Rattle.name_buckets.specs.declared.table.EntryFault.TheVariants as fault
 use Rattle.name_buckets.specs.Kinds.{entry_size}
 use Rattle.name_buckets.specs.Tables.{table_in, entry_place}
 use Rattle.name_buckets.specs.Used.{used_entries}
-use Rattle.name_buckets.specs.Layout.{TellsTable, IsNeeded, OfZero, OfUsed, BlamesNeeded, IsReadAt, AtZero, AtPlace, BlamesRead}
-use Rattle.name_buckets.specs.Replies.{HasCause}
+use Rattle.name_buckets.specs.Layout.{TellsEntryTable, IsNeeded, OfZero, OfUsed, BlamesNeeded, IsReadAt, AtZero, AtPlace, BlamesRead}
+use Rattle.name_buckets.specs.Replies.{HasEntryCause}
 use Rattle.save_bytes.proofs.SpaceLemmas.{IfDamaged-map}
 
 -- a refusal of the space is passed on
@@ -21,12 +21,12 @@ passed_on (Ok value) bad h = absurd h
 passed_on (Err found) bad h = ap Err h
 
 module _ {A : Type 0} (s : State) (kind : EntryKind) (info : TableInfo) (Rule : Type 0) (Fails : ℕ → ℕ → Type 0) where
-  pub bad_cause : (bad : Bad) → (TellsTable s kind info → Rule → IfDamaged (Some bad) (BlamesNeeded kind info s.cells))
-      → (IsTrue s.shape.plain → NeverDamaged (Some bad)) → HasCause {A = A} s kind info Rule Fails (Err (fault.Bad bad))
+  pub bad_cause : (bad : Bad) → (TellsEntryTable s kind info → Rule → IfDamaged (Some bad) (BlamesNeeded kind info s.cells))
+      → (IsTrue s.shape.plain → NeverDamaged (Some bad)) → HasEntryCause {A = A} s kind info Rule Fails (Err (fault.Bad bad))
   bad_cause bad damaged plain = record { damaged = damaged; plain = plain; broken = λ tells. tt; never_full = tt }
 
-  pub broken_cause : (table entry : ℕ) → (TellsTable s kind info → Fails table entry)
-      → HasCause {A = A} s kind info Rule Fails (Err (fault.Broken table entry))
+  pub broken_cause : (table entry : ℕ) → (TellsEntryTable s kind info → Fails table entry)
+      → HasEntryCause {A = A} s kind info Rule Fails (Err (fault.Broken table entry))
   broken_cause table entry fails = record { damaged = λ tells rule. tt; plain = λ plain. tt; broken = fails; never_full = tt }
 
 -- what is plain stays plain
@@ -34,19 +34,22 @@ pub plain_stays : (old new : Shape) → new ≡ old → IsTrue old.plain → IsT
 plain_stays old new same plain = subst (λ (shape : Shape). IsTrue shape.plain) (sym same) plain
 
 -- the bytes of a used entry are needed
-module _ (s : State) (kind : EntryKind) (info : TableInfo) (entry offset n : ℕ) (fits : offset + n ≤ entry_size kind) (used : used_entries (table_in s.cells kind info) entry) where
+module _ (s : State) (kind : EntryKind) (info : TableInfo) (entry offset n : ℕ) (fits : offset + n ≤ entry_size kind)
+    (used : used_entries (table_in s.cells kind info) entry) where
   needed_place : (x : ℕ) → IsReadAt kind info (entry_place kind info entry + offset) n x → IsNeeded kind info (table_in s.cells kind info) x
   needed_place x (AtZero within) = OfZero within
   needed_place x (AtPlace within) = OfUsed entry used (record { from = omega (arith, within.from); before = omega (arith, within.before, fits) })
 
-  needed_entry : (part level block : ℕ) → BlamesRead kind info (entry_place kind info entry + offset) n s.cells part level block → BlamesNeeded kind info s.cells part level block
-  needed_entry part level block h = record { at = h.at; needed = needed_place h.at h.read; blames = h.blames }
+  needed_entry : (part level block : ℕ)
+      → BlamesRead kind info (entry_place kind info entry + offset) n s.cells part level block
+      → BlamesNeeded kind info s.cells part level block
+  needed_entry part level block h = record { place = h.place; needed = needed_place h.place h.read; blames = h.blames }
 
 pub entry_cause : {A : Type 0} (s : State) (kind : EntryKind) (info : TableInfo) (entry offset n : ℕ) (result : Result A EntryFault)
     (bad : Bad) → offset + n ≤ entry_size kind → IsErrAnd result (λ found. found ≡ fault.Bad bad)
     → (IsTrue s.told → IfDamaged (Some bad) (BlamesRead kind info (entry_place kind info entry + offset) n s.cells))
     → (IsTrue s.shape.plain → NeverDamaged (Some bad))
-    → HasCause s kind info (used_entries (table_in s.cells kind info) entry) (λ table place. ⊥) result
+    → HasEntryCause s kind info (used_entries (table_in s.cells kind info) entry) (λ table place. ⊥) result
 entry_cause s kind info entry offset n result bad fits is damaged plain =
     rw (passed_on result bad is)
     (bad_cause s kind info (used_entries (table_in s.cells kind info) entry) (λ table place. ⊥) bad

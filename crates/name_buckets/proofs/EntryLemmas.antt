@@ -23,7 +23,8 @@ pub entry_long : (kind : EntryKind) → 40 ≤ entry_size kind
 entry_long Dir = omega arith
 entry_long File = omega arith
 
-module _ (cells : ℕ → Cell) (kind : EntryKind) (info : TableInfo) (e : ℕ) (bytes : List ℕ) (long : length bytes ≡ entry_size kind) (are : AreBytesAt cells (entry_place kind info e + 0) bytes) where
+module _ (cells : ℕ → Cell) (kind : EntryKind) (info : TableInfo) (e : ℕ) (bytes : List ℕ)
+    (long : length bytes ≡ entry_size kind) (are : AreBytesAt cells (entry_place kind info e + 0) bytes) where
   parent_read : number_at 4 bytes 0 ≡ (table_in cells kind info).parent e
   parent_read = field_is 4 cells (entry_place kind info e + 0) 0 (entry_place kind info e) bytes are (omega (arith, long, entry_long kind)) (omega arith)
 
@@ -31,7 +32,8 @@ module _ (cells : ℕ → Cell) (kind : EntryKind) (info : TableInfo) (e : ℕ) 
   name_read = part_is 16 cells (entry_place kind info e + 0) 4 (entry_place kind info e + 4) bytes are (omega (arith, long, entry_long kind)) (omega arith)
 
   pub link_read : number_at 4 bytes (link_offset kind) ≡ (table_in cells kind info).link e
-  link_read = field_is 4 cells (entry_place kind info e + 0) (link_offset kind) (entry_place kind info e + link_offset kind) bytes are (omega (arith, long, link_last kind)) (omega arith)
+  link_read = field_is 4 cells (entry_place kind info e + 0) (link_offset kind)
+      (entry_place kind info e + link_offset kind) bytes are (omega (arith, long, link_last kind)) (omega arith)
 
   -- its parent and name are those that its bytes have
   pub matches_read : (parent : ℕ) (name : List ℕ) → ¬ IsRoot kind e → HasKey bytes parent name → Matches kind (table_in cells kind info) parent name e

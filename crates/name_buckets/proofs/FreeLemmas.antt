@@ -1,6 +1,6 @@
 -- The list of freed entries, as far as it was followed.
 use Rattle.std.proofs.Common.{◌≡◌, ◌≢◌, ℕ, ◌+◌, ◌-◌, ◌<◌, ◌≤◌, Bool, true, false, List, [], ◌∷◌, ◌++◌, length, nat_eq, refl, sym, ◌∙◌, subst, arith, length-append}
-use Rattle.std.specs.List.{All, Contains}
+use Rattle.std.specs.List.{All, Contains, IsDistinct}
 use Rattle.std.specs.Set.{is_member}
 use Rattle.std.proofs.lemmas.Bool.{false≢true}
 use Rattle.std.proofs.lemmas.Bool.Decides.{Decides-eqb}
@@ -10,9 +10,9 @@ use Rattle.name_buckets.specs.declared.table.EntryKind.{EntryKind}
 use Rattle.name_buckets.specs.declared.table.TableInfo.{TableInfo}
 use Rattle.name_buckets.specs.Kinds.{link_offset}
 use Rattle.name_buckets.specs.Tables.{Table, entry_place}
-use Rattle.name_buckets.specs.Links.{LeadsTo, IsLinked, last_of}
+use Rattle.name_buckets.specs.Links.{LeadsTo, LeadsToEnd, last_of}
 use Rattle.name_buckets.specs.Rules.{CanBeFreed, HasFreedList, NamesWrongly}
-use Rattle.name_buckets.specs.Layout.{IsWithin, IsNeeded, OfZero, OfFreed}
+use Rattle.name_buckets.specs.Layout.{LiesWithin, IsNeeded, OfZero, OfFreed}
 use Rattle.name_buckets.specs.Replies.{IsRoom}
 use Rattle.name_buckets.proofs.EntryLemmas.{link_last, least_some}
 use Rattle.name_buckets.proofs.LinkLemmas.{LeadsTo-push, last_of-push, Contains-head, Contains-tail, whole_list, LeadsTo-distinct, few_between}
@@ -25,18 +25,6 @@ pub record HasFollowed (kind : EntryKind) (t : Table) (steps from : ℕ) : Type 
   pub many : length front ≡ steps
   pub inside : All (CanBeFreed kind t) front
 
-pub HasFollowed-none : (kind : EntryKind) (t : Table) → HasFollowed kind t 0 0
-HasFollowed-none kind t = record { front = []; leads = refl; last = refl; many = refl; inside = All-nil (CanBeFreed kind t) }
-
-pub HasFollowed-more : (kind : EntryKind) (t : Table) (steps from next : ℕ) → HasFollowed kind t steps from → next ≡ t.link from → next ≢ 0 → CanBeFreed kind t next → HasFollowed kind t (steps + 1) next
-HasFollowed-more kind t steps from next h is some can = record {
-  front = h.front ++ next ∷ [];
-  leads = LeadsTo-push t.link (t.link 0) h.front next (subst (λ (n : ℕ). LeadsTo t.link (t.link 0) h.front n) (sym is) h.leads) some;
-  last = last_of-push 0 h.front next;
-  many = omega (arith, length-append h.front (next ∷ []), h.many);
-  inside = All-push (CanBeFreed kind t) h.front next h.inside can;
-}
-
 -- the last entry is one of them, or there is none
 last_in : (from : ℕ) (list : List ℕ) → Contains (from ∷ list) (last_of from list)
 last_in from [] = Contains-head from []
@@ -46,68 +34,91 @@ last_below : (kind : EntryKind) (t : Table) (list : List ℕ) → 1 ≤ t.count 
 last_below kind t [] some inside = some
 last_below kind t (x ∷ xs) some inside = (All-contains (CanBeFreed kind t) (x ∷ xs) (last_of x xs) inside (last_in x xs)).1
 
--- it lies in the table
-pub followed_below : (kind : EntryKind) (t : Table) (steps from : ℕ) → 1 ≤ t.count → HasFollowed kind t steps from → from < t.count
-followed_below kind t steps from some h = subst (λ (n : ℕ). n < t.count) h.last (last_below kind t h.front some h.inside)
-
--- and its last word is needed
-last_needed : (kind : EntryKind) (info : TableInfo) (t : Table) (x : ℕ) (front whole rest : List ℕ) → IsLinked t.link (t.link 0) whole → whole ≡ front ++ rest → IsWithin (entry_place kind info (last_of 0 front) + link_offset kind) 4 x → IsNeeded kind info t x
-last_needed kind info t x [] whole rest linked is within = OfZero (record { from = omega (arith, within.from); before = omega (arith, within.before, link_last kind) })
+-- the last word of one is needed
+last_needed : (kind : EntryKind) (info : TableInfo) (t : Table) (x : ℕ) (front whole rest : List ℕ) → LeadsToEnd t.link (t.link 0) whole
+    → whole ≡ front ++ rest → LiesWithin (entry_place kind info (last_of 0 front) + link_offset kind) 4 x → IsNeeded kind info t x
+last_needed kind info t x [] whole rest linked is within =
+    OfZero (record { from = omega (arith, within.from); before = omega (arith, within.before, link_last kind) })
 last_needed kind info t x (e ∷ front) whole rest linked is within =
     OfFreed (last_of e front) whole linked (rw is (Contains-append_left (e ∷ front) rest (last_of e front) (last_in e front))) within
 
-pub followed_needed : (kind : EntryKind) (info : TableInfo) (t : Table) (steps from x : ℕ) → HasFollowed kind t steps from → HasFreedList kind t → IsWithin (entry_place kind info from + link_offset kind) 4 x → IsNeeded kind info t x
-followed_needed kind info t steps from x h list within =
-    let whole = whole_list t.link (t.link 0) h.front (t.link from) list.0 h.leads list.1.leads in
-    last_needed kind info t x h.front list.0 whole.0 list.1.leads whole.1 (subst (λ (n : ℕ). IsWithin (entry_place kind info n + link_offset kind) 4 x) (sym h.last) within)
-
-some_freed : (kind : EntryKind) (t : Table) (list : List ℕ) (e : ℕ) → All (CanBeFreed kind t) list → Contains list e → (1 ≤ e) × (e < t.count)
+some_freed : (kind : EntryKind) (t : Table) (list : List ℕ) (e : ℕ) → All (CanBeFreed kind t) list → Contains list e
+    → (1 ≤ e) × (e < t.count)
 some_freed kind t list e inside within =
     let can = All-contains (CanBeFreed kind t) list e inside within in
     (omega (arith, can.0, least_some kind), can.1)
 
--- where the list ends, the freed entries are counted
-pub room_counted : (kind : EntryKind) (t : Table) (steps from n : ℕ) → HasFollowed kind t steps from → t.link from ≡ 0 → n ≡ t.most - t.count + steps → IsRoom kind t n
-room_counted kind t steps from n h ends is =
-    let linked : IsLinked t.link (t.link 0) h.front = subst (λ (e : ℕ). LeadsTo t.link (t.link 0) h.front e) ends h.leads in
-    record {
-      freed = h.front;
-      list = record {
-        leads = linked;
-        inside = h.inside;
-        once = LeadsTo-distinct t.link (t.link 0) h.front 0 linked (λ within. (let can = some_freed kind t h.front 0 h.inside within in omega (arith, can.0)));
-      };
-      is = rw h.many is;
-    }
+pub HasFollowed-none : (kind : EntryKind) (t : Table) → HasFollowed kind t 0 0
+HasFollowed-none kind t =
+    record { front = []; leads = refl; last = refl; many = refl; inside = All-nil (CanBeFreed kind t) }
 
--- an entry that names a number which no freed entry can have
-pub wrong_number : (kind : EntryKind) (t : Table) (steps from next : ℕ) → HasFollowed kind t steps from → next ≡ t.link from → next ≢ 0 → ¬ CanBeFreed kind t next → NamesWrongly kind t from
-wrong_number kind t steps from next h is some cannot = record {
-  front = h.front;
-  leads = h.leads;
-  last = h.last;
-  inside = h.inside;
-  named = λ none. some (is ∙ none);
-  wrong = λ can. absurd (cannot (subst (CanBeFreed kind t) (sym is) can));
-}
+module _ {kind : EntryKind} {t : Table} {steps from : ℕ} (h : HasFollowed kind t steps from) where
+  pub HasFollowed-more : (next : ℕ) → next ≡ t.link from → next ≢ 0 → CanBeFreed kind t next → HasFollowed kind t (steps + 1) next
+  HasFollowed-more next is some can = record {
+    front = h.front ++ next ∷ [];
+    leads = LeadsTo-push t.link (t.link 0) h.front next (subst (λ (n : ℕ). LeadsTo t.link (t.link 0) h.front n) (sym is) h.leads) some;
+    last = last_of-push 0 h.front next;
+    many = omega (arith, length-append h.front (next ∷ []), h.many);
+    inside = All-push (CanBeFreed kind t) h.front next h.inside can;
+  }
 
--- as many freed entries as there are numbers: the next was named before
-pub named_before : (kind : EntryKind) (t : Table) (steps from : ℕ) → HasFollowed kind t steps from → t.count ≤ steps → 1 ≤ t.count → NamesWrongly kind t from
-named_before kind t steps from h long some = record {
-  front = h.front;
-  leads = h.leads;
-  last = h.last;
-  inside = h.inside;
-  named = λ none. (let can = some_freed kind t h.front (t.link from) h.inside again in omega (arith, can.0, none));
-  wrong = λ can. again;
-}
-  where
-    decided : (member : Bool) → is_member nat_eq h.front (t.link from) ≡ member → Contains h.front (t.link from)
-    decided true is = (is_member-Decides Decides-eqb h.front (t.link from)).0 is
-    decided false is =
-        let apart : ¬ Contains h.front (t.link from) = λ within. false≢true (sym is ∙ (is_member-Decides Decides-eqb h.front (t.link from)).1 within) in
-        let few : length h.front < t.count = few_between h.front t.count some (LeadsTo-distinct t.link (t.link 0) h.front (t.link from) h.leads apart) (λ e within. some_freed kind t h.front e h.inside within) in
-        absurd (omega (arith, few, h.many, long))
+  -- the last one lies in the table
+  pub followed_below : 1 ≤ t.count → from < t.count
+  followed_below some = subst (λ (n : ℕ). n < t.count) h.last (last_below kind t h.front some h.inside)
 
-    again : Contains h.front (t.link from)
-    again = decided (is_member nat_eq h.front (t.link from)) refl
+  -- and its last word is needed
+  pub followed_needed : (info : TableInfo) (x : ℕ) → HasFreedList kind t → LiesWithin (entry_place kind info from + link_offset kind) 4 x
+      → IsNeeded kind info t x
+  followed_needed info x list within =
+      let whole = whole_list t.link (t.link 0) h.front (t.link from) list.0 h.leads list.1.leads in
+      last_needed kind info t x h.front list.0 whole.0 list.1.leads whole.1
+      (subst (λ (n : ℕ). LiesWithin (entry_place kind info n + link_offset kind) 4 x) (sym h.last) within)
+
+  freed_once : ¬ Contains h.front (t.link from) → IsDistinct nat_eq h.front
+  freed_once apart = LeadsTo-distinct t.link (t.link 0) h.front (t.link from) h.leads apart
+
+  -- where the list ends, the freed entries are counted
+  pub room_counted : (n : ℕ) → t.link from ≡ 0 → n ≡ t.most - t.count + steps → IsRoom kind t n
+  room_counted n ends is = record {
+    freed = h.front;
+    list = record {
+      leads = subst (λ (e : ℕ). LeadsTo t.link (t.link 0) h.front e) ends h.leads;
+      inside = h.inside;
+      once = freed_once (λ within. (let can = some_freed kind t h.front (t.link from) h.inside within in omega (arith, can.0, ends)));
+    };
+    is = rw h.many is;
+  }
+
+  -- an entry that names a number which no freed entry can have
+  pub wrong_number : (next : ℕ) → next ≡ t.link from → next ≢ 0 → ¬ CanBeFreed kind t next → NamesWrongly kind t from
+  wrong_number next is some cannot = record {
+    front = h.front;
+    leads = h.leads;
+    last = h.last;
+    inside = h.inside;
+    named = λ none. some (is ∙ none);
+    wrong = λ can. absurd (cannot (subst (CanBeFreed kind t) (sym is) can));
+  }
+
+  -- as many freed entries as there are numbers: the next was named before
+  pub named_before : t.count ≤ steps → 1 ≤ t.count → NamesWrongly kind t from
+  named_before long some = record {
+    front = h.front;
+    leads = h.leads;
+    last = h.last;
+    inside = h.inside;
+    named = λ none. (let can = some_freed kind t h.front (t.link from) h.inside again in omega (arith, can.0, none));
+    wrong = λ can. again;
+  }
+    where
+      decided : (member : Bool) → is_member nat_eq h.front (t.link from) ≡ member → Contains h.front (t.link from)
+      decided true is = (is_member-Decides Decides-eqb h.front (t.link from)).0 is
+      decided false is =
+          let apart : ¬ Contains h.front (t.link from) = λ within.
+          false≢true (sym is ∙ (is_member-Decides Decides-eqb h.front (t.link from)).1 within) in
+          let few : length h.front < t.count =
+          few_between h.front t.count some (freed_once apart) (λ e within. some_freed kind t h.front e h.inside within) in
+          absurd (omega (arith, few, h.many, long))
+
+      again : Contains h.front (t.link from)
+      again = decided (is_member nat_eq h.front (t.link from)) refl

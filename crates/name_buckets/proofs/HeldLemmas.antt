@@ -6,12 +6,12 @@ use Rattle.save_bytes.specs.Spots.{Spot}
 use Rattle.save_bytes.specs.Reads.{Reads}
 use Rattle.name_buckets.specs.declared.table.EntryKind.{EntryKind}
 use Rattle.name_buckets.specs.declared.view.Entries.{Entries}
-use Rattle.name_buckets.specs.Layout.{HasCounts, HasTables}
-use Rattle.name_buckets.specs.Held.{tables_of, place_of, IsLaidOut, Tells, ReadsEntries}
+use Rattle.name_buckets.specs.Layout.{HasCounts, HasEntryTables}
+use Rattle.name_buckets.specs.Held.{tables_of, place_of, HoldsTables, TellsTableOf, ReadsEntries}
 use Rattle.name_buckets.proofs.StayLemmas.{SameEntry, count_stays, entry_stays, tells_later}
 
 module _ {S : Type 0} (states : S → State) (keeps : Spot → S → S → Type 0) (lands : S → ℕ → Spot → Type 0) (old new : Entries S)
-    (tables : IsLaidOut states old) where
+    (tables : HoldsTables states old) where
   -- a call on the space that only reads, of the entries that hold it
   pub entries_read : (refusal : Option Bad) → new.space.ghost_name ≡ old.space.ghost_name → new.dirs ≡ old.dirs
       → new.files ≡ old.files → Reads states keeps lands old.space.now new.space.now refusal
@@ -20,12 +20,12 @@ module _ {S : Type 0} (states : S → State) (keeps : Spot → S → S → Type 
     reads = reads;
     same = record { same_space = same_space; same_dirs = same_dirs; same_files = same_files };
     laid_out = rw (same_dirs, same_files)
-        (subst (λ (shape : Shape). HasTables shape old.dirs old.files) (sym reads.stays.space.shape) tables);
+        (subst (λ (shape : Shape). HasEntryTables shape old.dirs old.files) (sym reads.stays.space.shape) tables);
   }
 
   -- for callers: what a call that only reads leaves of an entry
-  module _ (read : ReadsEntries states keeps lands old new None) (kind : EntryKind) (tells : Tells states old kind) where
-    pub still_tells : Tells states new kind
+  module _ (read : ReadsEntries states keeps lands old new None) (kind : EntryKind) (tells : TellsTableOf states old kind) where
+    pub still_tells : TellsTableOf states new kind
     still_tells = rw (read.same.same_dirs, read.same.same_files)
         (tells_later (states old.space.now) (states new.space.now) read.reads.stays kind (place_of old kind) (tables kind) tells)
 

@@ -1,13 +1,13 @@
 -- Tables that follow each other in bytes lie in a memory as they should.
-use Rattle.std.proofs.Common.{◌+◌, ◌*◌, ◌≤◌, List, length, IsTrue, ℕ, arith}
+use Rattle.std.proofs.Common.{◌≤◌, List, length, IsTrue, ℕ, arith}
 use Rattle.save_bytes.specs.State.{Shape}
 use Rattle.name_buckets.specs.declared.table.EntryKind.TheVariants.{Dir, File}
 use Rattle.name_buckets.specs.declared.table.TableInfo.{TableInfo}
-use Rattle.name_buckets.specs.Layout.{HasTables}
+use Rattle.name_buckets.specs.Layout.{HasEntryTables}
 use Rattle.name_buckets.specs.InOrder.{FollowInOrder}
 
 pub lie_in_order : (shape : Shape) (bytes : List ℕ) (dirs files : TableInfo) → IsTrue shape.sound → length bytes ≤ shape.size
-    → FollowInOrder bytes dirs files → HasTables shape dirs files
+    → FollowInOrder bytes dirs files → HasEntryTables shape dirs files
 lie_in_order shape bytes dirs files sound fits order Dir = record {
   sound = sound;
   some = order.dir_buckets.some;

@@ -4,6 +4,7 @@ pub mod LinkLemmas
 pub mod StayLemmas
 pub mod CauseLemmas
 pub mod FindLemmas
+pub mod LookLemmas
 pub mod FreeLemmas
 pub mod HeldLemmas
 pub mod ChildLemmas

@@ -7,7 +7,7 @@ use Rattle.std.proofs.lemmas.List.Elements.{recursion_from_All, All-from_get_or,
 use Rattle.std.proofs.lemmas.Map.Keys.{IsDistinct-cons}
 use Rattle.std.proofs.lemmas.Map.Made.{is_member-Decides}
 use Rattle.std.proofs.lemmas.Map.Steps.{length-le_from_distinct_below}
-use Rattle.name_buckets.specs.Links.{LeadsTo, IsLinked, last_of}
+use Rattle.name_buckets.specs.Links.{LeadsTo, LeadsToEnd, last_of}
 
 -- one entry more
 pub LeadsTo-push : (next : ℕ → ℕ) (from : ℕ) (xs : List ℕ) (e : ℕ) → LeadsTo next from xs e → e ≢ 0 → LeadsTo next from (xs ++ e ∷ []) (next e)
@@ -29,32 +29,33 @@ cons_same : (x y : ℕ) (xs ys : List ℕ) → x ≡ y → xs ≡ ys → x ∷ x
 cons_same x y xs ys head tail = cc
 
 -- a whole list is a front of it, and what is left from the front's end on
-pub whole_list : (next : ℕ → ℕ) (from : ℕ) (xs : List ℕ) (e : ℕ) (list : List ℕ) → LeadsTo next from xs e → IsLinked next from list → (rest : List ℕ) × (list ≡ xs ++ rest) × IsLinked next e rest
-whole_list next from [] e list leads linked = (list, refl, subst (λ (n : ℕ). IsLinked next n list) leads linked)
+pub whole_list : (next : ℕ → ℕ) (from : ℕ) (xs : List ℕ) (e : ℕ) (list : List ℕ) → LeadsTo next from xs e
+    → LeadsToEnd next from list → (rest : List ℕ) × (list ≡ xs ++ rest) × LeadsToEnd next e rest
+whole_list next from [] e list leads linked = (list, refl, subst (λ (n : ℕ). LeadsToEnd next n list) leads linked)
 whole_list next from (x ∷ xs) e [] leads linked = absurd (leads.1 (sym leads.0 ∙ linked))
 whole_list next from (x ∷ xs) e (y ∷ ys) leads linked =
     let same : y ≡ x = sym linked.0 ∙ leads.0 in
-    let tail = whole_list next (next x) xs e ys leads.2 (subst (λ (n : ℕ). IsLinked next (next n) ys) same linked.2) in
+    let tail = whole_list next (next x) xs e ys leads.2 (subst (λ (n : ℕ). LeadsToEnd next (next n) ys) same linked.2) in
     (tail.0, cons_same y x ys (xs ++ tail.0) same tail.1, tail.2)
 
 -- what is left from 0 on is nothing
-pub nothing_left : (next : ℕ → ℕ) (rest : List ℕ) → IsLinked next 0 rest → rest ≡ []
+pub nothing_left : (next : ℕ → ℕ) (rest : List ℕ) → LeadsToEnd next 0 rest → rest ≡ []
 nothing_left next [] linked = refl
 nothing_left next (x ∷ xs) linked = absurd (linked.1 (sym linked.0))
 
 -- what is left from another number on begins with it
-pub first_left : (next : ℕ → ℕ) (e : ℕ) (rest : List ℕ) → e ≢ 0 → IsLinked next e rest → Contains rest e
+pub first_left : (next : ℕ → ℕ) (e : ℕ) (rest : List ℕ) → e ≢ 0 → LeadsToEnd next e rest → Contains rest e
 first_left next e [] some linked = absurd (some linked)
 first_left next e (x ∷ xs) some linked = rw linked.0 (Contains-head x xs)
 
 -- an entry that a front of a list leads to is in the list
-pub reached : (next : ℕ → ℕ) (from : ℕ) (xs : List ℕ) (e : ℕ) (list : List ℕ) → LeadsTo next from xs e → e ≢ 0 → IsLinked next from list → Contains list e
+pub reached : (next : ℕ → ℕ) (from : ℕ) (xs : List ℕ) (e : ℕ) (list : List ℕ) → LeadsTo next from xs e → e ≢ 0 → LeadsToEnd next from list → Contains list e
 reached next from xs e list leads some linked =
     let whole = whole_list next from xs e list leads linked in
     rw whole.1 (Contains-append_right xs whole.0 e (first_left next e whole.0 some whole.2))
 
 -- a front that leads to 0 is the list
-pub whole_front : (next : ℕ → ℕ) (from : ℕ) (xs list : List ℕ) → LeadsTo next from xs 0 → IsLinked next from list → list ≡ xs ++ []
+pub whole_front : (next : ℕ → ℕ) (from : ℕ) (xs list : List ℕ) → LeadsTo next from xs 0 → LeadsToEnd next from list → list ≡ xs ++ []
 whole_front next from xs list leads linked =
     let whole = whole_list next from xs 0 list leads linked in
     whole.1 ∙ ap (λ (l : List ℕ). xs ++ l) (nothing_left next whole.0 whole.2)
@@ -84,7 +85,8 @@ behind next from (y ∷ ys) e x (suc k) leads h is =
     }
 
 -- from one number to one that is not on the way there is one way
-one_way : (next : ℕ → ℕ) (from : ℕ) (xs ys : List ℕ) (e : ℕ) → LeadsTo next from xs e → LeadsTo next from ys e → ¬ Contains xs e → ¬ Contains ys e → length xs ≡ length ys
+one_way : (next : ℕ → ℕ) (from : ℕ) (xs ys : List ℕ) (e : ℕ) → LeadsTo next from xs e → LeadsTo next from ys e
+    → ¬ Contains xs e → ¬ Contains ys e → length xs ≡ length ys
 one_way next from [] [] e leads other apart apart_too = refl
 one_way next from [] (y ∷ ys) e leads other apart apart_too =
     let same : y ≡ e = sym other.0 ∙ leads in
@@ -108,11 +110,15 @@ LeadsTo-distinct next from (x ∷ xs) e leads apart =
     let apart_tail : ¬ Contains xs e = λ within. apart (Contains-tail x xs e within) in
     let once : (y : ℕ) → Contains xs y → x ≢ y = λ y within same.
     (let later = behind next (next x) xs e x within.0 leads.2 within.1 (rw same (subst (λ (d : ℕ). get_or xs within.0 d ≡ y) refl within.2)) in
-    let long : length xs ≡ length later.rest = one_way next (next x) xs later.rest e leads.2 later.leads apart_tail (λ there. apart_tail (later.kept e there)) in
+    let long : length xs ≡ length later.rest =
+    one_way next (next x) xs later.rest e leads.2 later.leads apart_tail
+    (λ there. apart_tail (later.kept e there)) in
     omega (arith, later.shorter, long))
     in
     IsDistinct-cons nat_eq x xs
-    (recursion_from_All (λ y. nat_eq x y ≡ false) xs (All-from_get_or (λ y. nat_eq x y ≡ false) xs 0 (λ i h. ne_eqb x (get_or xs i 0) (once (get_or xs i 0) (Contains-get_or xs i 0 h)))))
+    (recursion_from_All (λ y. nat_eq x y ≡ false) xs
+    (All-from_get_or (λ y. nat_eq x y ≡ false) xs 0
+    (λ i h. ne_eqb x (get_or xs i 0) (once (get_or xs i 0) (Contains-get_or xs i 0 h)))))
     (LeadsTo-distinct next (next x) xs e leads.2 apart_tail)
 
 -- distinct numbers from 1 below n are fewer than n
@@ -121,10 +127,13 @@ few_between xs n some distinct between =
     let apart : (e : ℕ) → Contains xs e → 0 ≢ e = λ e within. omega (arith, (between e within).0) in
     let with_zero : IsDistinct nat_eq (0 ∷ xs) =
     IsDistinct-cons nat_eq 0 xs
-    (recursion_from_All (λ y. nat_eq 0 y ≡ false) xs (All-from_get_or (λ y. nat_eq 0 y ≡ false) xs 0 (λ i h. ne_eqb 0 (get_or xs i 0) (apart (get_or xs i 0) (Contains-get_or xs i 0 h)))))
+    (recursion_from_All (λ y. nat_eq 0 y ≡ false) xs
+    (All-from_get_or (λ y. nat_eq 0 y ≡ false) xs 0
+    (λ i h. ne_eqb 0 (get_or xs i 0) (apart (get_or xs i 0) (Contains-get_or xs i 0 h)))))
     distinct
     in
-    let below : (q : ℕ) → list_any (nat_eq q) (0 ∷ xs) ≡ true → q < n = λ q member. below_in xs n some between q ((is_member-Decides Decides-eqb (0 ∷ xs) q).0 member) in
+    let below : (q : ℕ) → list_any (nat_eq q) (0 ∷ xs) ≡ true
+    → q < n = λ q member. below_in xs n some between q ((is_member-Decides Decides-eqb (0 ∷ xs) q).0 member) in
     omega (arith, length-le_from_distinct_below (0 ∷ xs) n with_zero below)
   where
     below_in : (xs : List ℕ) (n : ℕ) → 1 ≤ n → ((e : ℕ) → Contains xs e → (1 ≤ e) × (e < n)) → (q : ℕ) → Contains (0 ∷ xs) q → q < n

@@ -10,7 +10,7 @@ use Rattle.name_buckets.specs.declared.table.EntryKind.{EntryKind}
 use Rattle.name_buckets.specs.declared.table.TableInfo.{TableInfo}
 use Rattle.name_buckets.specs.Kinds.{entry_size, link_offset}
 use Rattle.name_buckets.specs.Tables.{Table, table_in, entry_place, bucket_place}
-use Rattle.name_buckets.specs.Layout.{IsWithin, HasCounts, HasTable, TellsTable, IsNeeded, OfZero, BlamesNeeded, IsReadAt, AtZero, AtPlace, BlamesRead}
+use Rattle.name_buckets.specs.Layout.{LiesWithin, HasCounts, HasEntryTable, TellsEntryTable, IsNeeded, OfZero, BlamesNeeded, IsReadAt, AtZero, AtPlace, BlamesRead}
 use Rattle.save_bytes.proofs.CellLemmas.{bytes_in-same}
 use Rattle.name_buckets.proofs.EntryLemmas.{link_last, entry_long}
 
@@ -31,7 +31,7 @@ module _ (old new : State) (stays : Stays old new None) where
   number_stays : (n at : ℕ) → IsTrue old.told → at + n ≤ old.shape.size → number_in n new.cells at ≡ number_in n old.cells at
   number_stays n at told fits = ap (λ (bytes : List ℕ). number_at n bytes 0) (bytes_stay n at told fits)
 
-  module _ (kind : EntryKind) (info : TableInfo) (table : HasTable old.shape kind info) where
+  module _ (kind : EntryKind) (info : TableInfo) (table : HasEntryTable old.shape kind info) where
     had_counts : IsTrue old.told → HasCounts new.cells info → HasCounts old.cells info
     had_counts told known k h =
         rw (sym (stays.cells told (info.table_at + k) (omega (arith, h, table.zero, entry_long kind)))) (known k h)
@@ -43,11 +43,11 @@ module _ (old new : State) (stays : Stays old new None) where
     most_stays told = number_stays 4 (info.table_at + 4) told (omega (arith, table.zero, entry_long kind))
 
     -- the table still lies in the space
-    pub HasTable-stays : HasTable new.shape kind info
-    HasTable-stays = subst (λ (shape : Shape). HasTable shape kind info) (sym stays.space.shape) table
+    pub HasEntryTable-stays : HasEntryTable new.shape kind info
+    HasEntryTable-stays = subst (λ (shape : Shape). HasEntryTable shape kind info) (sym stays.space.shape) table
 
     -- and is told as a whole
-    pub tells_later : TellsTable old kind info → TellsTable new kind info
+    pub tells_later : TellsEntryTable old kind info → TellsEntryTable new kind info
     tells_later tells = record {
       told = stays.space.told tells.told;
       entries = λ known e h. omega (
@@ -59,7 +59,7 @@ module _ (old new : State) (stays : Stays old new None) where
       most = λ known. omega (arith, count_stays tells.told, most_stays tells.told, tells.most (had_counts tells.told known));
     }
 
-    module _ (tells : TellsTable old kind info) (known : HasCounts old.cells info) (e : ℕ)
+    module _ (tells : TellsEntryTable old kind info) (known : HasCounts old.cells info) (e : ℕ)
         (below : e < (table_in old.cells kind info).count) where
       -- an entry lies in the space, and is as it was
       pub entry_fits : entry_place kind info e + entry_size kind ≤ old.shape.size
@@ -84,26 +84,27 @@ module _ (old new : State) (stays : Stays old new None) where
 
     -- a cell that was read and is no byte is one that is needed
     pub needed_read : IsTrue old.told → (from n part level block : ℕ) → from + n ≤ old.shape.size
-        → ((x : ℕ) → IsWithin from n x → IsNeeded kind info (table_in old.cells kind info) x)
+        → ((x : ℕ) → LiesWithin from n x → IsNeeded kind info (table_in old.cells kind info) x)
         → BlamesRead kind info from n new.cells part level block → BlamesNeeded kind info old.cells part level block
-    needed_read told from n part level block fits needed h = go h.at h.read h.blames
+    needed_read told from n part level block fits needed h = go h.place h.read h.blames
       where
         go : (x : ℕ) → IsReadAt kind info from n x → Blames (new.cells x) part level block → BlamesNeeded kind info old.cells part level block
         go x (AtZero within) blames = record {
-          at = x;
+          place = x;
           needed = OfZero within;
           blames = subst (λ (cell : Cell). Blames cell part level block) (stays.cells told x (omega (arith, within.before, table.zero))) blames;
         }
         go x (AtPlace within) blames = record {
-          at = x;
+          place = x;
           needed = needed x within;
           blames = subst (λ (cell : Cell). Blames cell part level block) (stays.cells told x (omega (arith, within.before, fits))) blames;
         }
 
 -- a first fault in n places is one of a cell there
-pub fault_read : (kind : EntryKind) (info : TableInfo) (cells : ℕ → Cell) (from n part level block : ℕ) → IsFirstFault cells from n part level block → BlamesRead kind info from n cells part level block
+pub fault_read : (kind : EntryKind) (info : TableInfo) (cells : ℕ → Cell) (from n part level block : ℕ)
+    → IsFirstFault cells from n part level block → BlamesRead kind info from n cells part level block
 fault_read kind info cells from n part level block first = record {
-  at = from + first.k;
+  place = from + first.k;
   read = AtPlace (record { from = omega arith; before = omega (arith, first.within) });
   blames = first.fault;
 }

@@ -9,7 +9,7 @@ use Rattle.name_buckets.specs.declared.table.EntryKind.{EntryKind}
 use Rattle.name_buckets.specs.declared.table.TableInfo.{TableInfo}
 use Rattle.name_buckets.specs.declared.view.Entries.{Entries}
 use Rattle.name_buckets.specs.Tables.{Tables, tables_in, info_of}
-use Rattle.name_buckets.specs.Layout.{HasTables, TellsTable}
+use Rattle.name_buckets.specs.Layout.{HasEntryTables, TellsEntryTable}
 
 -- what a contract sees of the space, its tables, and where one stands
 abbrev pub space_of : {S : Type 0} → (S → State) → Entries S → State
@@ -22,12 +22,12 @@ abbrev pub place_of : {S : Type 0} → Entries S → EntryKind → TableInfo
 place_of entries kind = info_of entries.dirs entries.files kind
 
 -- both tables lie in the space
-abbrev pub IsLaidOut : {S : Type 0} → (S → State) → Entries S → Type 0
-IsLaidOut states entries = HasTables (states entries.space.now).shape entries.dirs entries.files
+abbrev pub HoldsTables : {S : Type 0} → (S → State) → Entries S → Type 0
+HoldsTables states entries = HasEntryTables (states entries.space.now).shape entries.dirs entries.files
 
 -- the cells are told, and where it can be counted, a table lies in the space as a whole
-abbrev pub Tells : {S : Type 0} → (S → State) → Entries S → EntryKind → Type 0
-Tells states entries kind = TellsTable (states entries.space.now) kind (info_of entries.dirs entries.files kind)
+abbrev pub TellsTableOf : {S : Type 0} → (S → State) → Entries S → EntryKind → Type 0
+TellsTableOf states entries kind = TellsEntryTable (states entries.space.now) kind (info_of entries.dirs entries.files kind)
 
 -- the entries hold this space and these places
 pub record IsEntriesIn {S : Type 0} (entries : Entries S) (space : MutBor S) (dirs files : TableInfo) : Type 0 where
@@ -47,4 +47,4 @@ pub record ReadsEntries {S : Type 0} (states : S → State) (keeps : Spot → S 
     (old new : Entries S) (refusal : Option Bad) : Type 0 where
   pub reads : Reads states keeps lands old.space.now new.space.now refusal
   pub same : SameEntries old new
-  pub laid_out : IsLaidOut states new
+  pub laid_out : HoldsTables states new

@@ -7,8 +7,8 @@ LeadsTo next from [] end = from ≡ end
 LeadsTo next from (e ∷ list) end = (from ≡ e) × (e ≢ 0) × LeadsTo next (next e) list end
 
 -- a whole list, which ends at 0
-abbrev pub IsLinked : (ℕ → ℕ) → ℕ → List ℕ → Type 0
-IsLinked next from list = LeadsTo next from list 0
+abbrev pub LeadsToEnd : (ℕ → ℕ) → ℕ → List ℕ → Type 0
+LeadsToEnd next from list = LeadsTo next from list 0
 
 -- the last of a number and the entries behind it
 abbrev pub last_of : ℕ → List ℕ → ℕ

@@ -10,7 +10,7 @@ use Rattle.name_buckets.specs.declared.table.EntryFault.TheVariants as fault
 use Rattle.name_buckets.specs.Tables.{Table, Tables}
 use Rattle.name_buckets.specs.Used.{named_entries}
 use Rattle.name_buckets.specs.Rules.{IsFreedList, IsChildList}
-use Rattle.name_buckets.specs.Layout.{TellsTable, BlamesNeeded}
+use Rattle.name_buckets.specs.Layout.{TellsEntryTable, BlamesNeeded}
 
 -- the refusal of a space that an answer passes on
 abbrev pub bad_of : {A : Type 0} → Result A EntryFault → Option Bad
@@ -20,11 +20,11 @@ bad_of (Err (fault.Broken table entry)) = None
 bad_of (Err (fault.NoEntry most)) = None
 
 -- P holds of the table and the entry at which a rule is said to fail
-abbrev pub IfBroken : {A : Type 0} → Result A EntryFault → (ℕ → ℕ → Type 0) → Type 0
-IfBroken (Ok value) P = ⊤
-IfBroken (Err (fault.Bad bad)) P = ⊤
-IfBroken (Err (fault.Broken table entry)) P = P table entry
-IfBroken (Err (fault.NoEntry most)) P = ⊤
+abbrev pub IfRuleBroken : {A : Type 0} → Result A EntryFault → (ℕ → ℕ → Type 0) → Type 0
+IfRuleBroken (Ok value) P = ⊤
+IfRuleBroken (Err (fault.Bad bad)) P = ⊤
+IfRuleBroken (Err (fault.Broken table entry)) P = P table entry
+IfRuleBroken (Err (fault.NoEntry most)) P = ⊤
 
 -- the answer is not that no entry can be added
 abbrev pub NeverNoEntry : {A : Type 0} → Result A EntryFault → Type 0
@@ -35,11 +35,11 @@ NeverNoEntry (Err (fault.NoEntry most)) = ⊥
 
 -- Why a reading call is refused: for a damaged cell only where it is needed, as far as a rule holds; for a rule only
 -- where it fails.
-pub record HasCause {A : Type 0} (s : State) (kind : EntryKind) (info : TableInfo) (Rule : Type 0) (Fails : ℕ → ℕ → Type 0)
+pub record HasEntryCause {A : Type 0} (s : State) (kind : EntryKind) (info : TableInfo) (Rule : Type 0) (Fails : ℕ → ℕ → Type 0)
     (result : Result A EntryFault) : Type 0 where
-  pub damaged : TellsTable s kind info → Rule → IfDamaged (bad_of result) (BlamesNeeded kind info s.cells)
+  pub damaged : TellsEntryTable s kind info → Rule → IfDamaged (bad_of result) (BlamesNeeded kind info s.cells)
   pub plain : IsTrue s.shape.plain → NeverDamaged (bad_of result)
-  pub broken : TellsTable s kind info → IfBroken result Fails
+  pub broken : TellsEntryTable s kind info → IfRuleBroken result Fails
   pub never_full : NeverNoEntry result
 
 -- the entry with this parent and name, the root left out
@@ -49,9 +49,9 @@ pub record IsEntryOf (kind : EntryKind) (t : Table) (parent : ℕ) (name : List 
   pub name_is : t.name e ≡ name
 
 -- what was found is that entry, or there is none
-abbrev pub IsFound : EntryKind → Table → ℕ → List ℕ → Option ℕ → Type 0
-IsFound kind t parent name (Some e) = IsEntryOf kind t parent name e
-IsFound kind t parent name None = (e : ℕ) → ¬ IsEntryOf kind t parent name e
+abbrev pub IsFoundEntry : EntryKind → Table → ℕ → List ℕ → Option ℕ → Type 0
+IsFoundEntry kind t parent name (Some e) = IsEntryOf kind t parent name e
+IsFoundEntry kind t parent name None = (e : ℕ) → ¬ IsEntryOf kind t parent name e
 
 -- so many entries can be added: those that were never used, and the freed ones
 pub record IsRoom (kind : EntryKind) (t : Table) (n : ℕ) : Type 0 where
@@ -65,4 +65,5 @@ IsFirstChild t kind dir e = (list : List ℕ) → IsChildList t kind dir list �
 
 -- the entry behind one in its directory's list, 0 behind the last
 abbrev pub IsNextChild : Tables → EntryKind → ℕ → ℕ → Type 0
-IsNextChild t kind entry e = (dir : ℕ) (list : List ℕ) (k : ℕ) → IsChildList t kind dir list → k < length list → slice_index list k ≡ entry → e ≡ slice_index list (k + 1)
+IsNextChild t kind entry e = (dir : ℕ) (list : List ℕ) (k : ℕ) → IsChildList t kind dir list → k < length list
+    → slice_index list k ≡ entry → e ≡ slice_index list (k + 1)

@@ -6,7 +6,7 @@ use Rattle.name_buckets.specs.declared.table.EntryKind.TheVariants.{Dir}
 use Rattle.name_buckets.specs.Kinds.{least_freed, IsRoot}
 use Rattle.name_buckets.specs.Hash.{bucket_number}
 use Rattle.name_buckets.specs.Tables.{Table, Tables}
-use Rattle.name_buckets.specs.Links.{LeadsTo, IsLinked, last_of}
+use Rattle.name_buckets.specs.Links.{LeadsTo, LeadsToEnd, last_of}
 use Rattle.name_buckets.specs.Used.{freed_entries, used_entries, named_entries, children_of, path_of}
 
 -- a number that a freed entry can have
@@ -23,14 +23,14 @@ abbrev pub HasFreedList : EntryKind → Table → Type 0
 HasFreedList kind t = (list : List ℕ) × IsFreedList kind t list
 
 -- an entry other than the root has a used directory as parent, a name, and a path of at most 64 names
-pub record IsPlaced (t : Tables) (kind : EntryKind) (e : ℕ) : Type 0 where
+pub record IsPlacedEntry (t : Tables) (kind : EntryKind) (e : ℕ) : Type 0 where
   pub parent : used_entries (t.table Dir) ((t.table kind).parent e)
   pub named : (t.table kind).name e ≢ replicate 16 0
   pub path : (names : List (List ℕ)) × path_of t kind e names × (length names ≤ 64)
 
 -- a directory's list, through next siblings, has exactly its entries of a kind, each once
 pub record IsChildList (t : Tables) (kind : EntryKind) (dir : ℕ) (list : List ℕ) : Type 0 where
-  pub leads : IsLinked (t.table kind).sibling (t.first kind dir) list
+  pub leads : LeadsToEnd (t.table kind).sibling (t.first kind dir) list
   pub once : IsDistinct nat_eq list
   pub children : (e : ℕ) → Contains list e → children_of t kind dir e
   pub all : (e : ℕ) → children_of t kind dir e → Contains list e
@@ -51,7 +51,7 @@ pub record StandsIn (kind : EntryKind) (t : Table) (bucket e : ℕ) : Type 0 whe
 
 -- a bucket's list has exactly the entries whose bucket it is, each once, and perhaps the root
 pub record IsBucketList (kind : EntryKind) (t : Table) (bucket : ℕ) (list : List ℕ) : Type 0 where
-  pub leads : IsLinked t.link (t.head bucket) list
+  pub leads : LeadsToEnd t.link (t.head bucket) list
   pub once : IsDistinct nat_eq list
   pub entries : (e : ℕ) → Contains list e → StandsIn kind t bucket e
   pub all : (e : ℕ) → named_entries kind t e → bucket_of t e ≡ bucket → Contains list e
@@ -62,9 +62,9 @@ HasBucketLists kind t = (bucket : ℕ) → bucket < t.buckets → (list : List �
 -- all rules of both tables and their buckets
 pub record IsOrderly (t : Tables) : Type 0 where
   pub freed : (kind : EntryKind) → HasFreedList kind (t.table kind)
-  pub placed : (kind : EntryKind) (e : ℕ) → named_entries kind (t.table kind) e → IsPlaced t kind e
+  pub placed : (kind : EntryKind) (e : ℕ) → named_entries kind (t.table kind) e → IsPlacedEntry t kind e
   pub listed : (kind : EntryKind) (dir : ℕ) → used_entries (t.table Dir) dir → (list : List ℕ) × IsChildList t kind dir list
-  pub apart : (kind : EntryKind) → HasApartNames kind (t.table kind)
+  pub names_apart : (kind : EntryKind) → HasApartNames kind (t.table kind)
   pub buckets : (kind : EntryKind) → HasBucketLists kind (t.table kind)
 
 -- The rule on freed entries fails at an entry, 0 included, to which their list leads: its last word names a number that

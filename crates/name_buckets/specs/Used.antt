@@ -4,11 +4,11 @@ use Rattle.name_buckets.specs.declared.table.EntryKind.{EntryKind}
 use Rattle.name_buckets.specs.declared.table.EntryKind.TheVariants.{Dir}
 use Rattle.name_buckets.specs.Kinds.{IsRoot}
 use Rattle.name_buckets.specs.Tables.{Table, Tables}
-use Rattle.name_buckets.specs.Links.{LeadsTo, IsLinked}
+use Rattle.name_buckets.specs.Links.{LeadsTo, LeadsToEnd}
 
 -- the freed entries, in the order in which the last words name them, from entry 0 on
 abbrev pub freed_entries : Table → List ℕ → Type 0
-freed_entries t list = IsLinked t.link (t.link 0) list
+freed_entries t list = LeadsToEnd t.link (t.link 0) list
 
 -- the numbers from 1 below the count that are not freed
 pub record used_entries (t : Table) (e : ℕ) : Type 0 where
@@ -35,6 +35,6 @@ pub record dir_path (t : Tables) (dir : ℕ) (path : List (List ℕ)) : Type 0 w
 
 -- the path of an entry other than the root: that of its parent, and its name
 pub record path_of (t : Tables) (kind : EntryKind) (e : ℕ) (path : List (List ℕ)) : Type 0 where
-  pub above : List (List ℕ)
-  pub parent : dir_path t ((t.table kind).parent e) above
-  pub names : path ≡ above ++ (t.table kind).name e ∷ []
+  pub parents_path : List (List ℕ)
+  pub parent : dir_path t ((t.table kind).parent e) parents_path
+  pub names : path ≡ parents_path ++ (t.table kind).name e ∷ []

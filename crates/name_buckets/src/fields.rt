@@ -6,8 +6,8 @@ ghost use Rattle.save_bytes.specs.Reads.{Reads};
 ghost use Rattle.name_buckets.specs.Kinds.{entry_size};
 ghost use Rattle.name_buckets.specs.Tables.{table_in, entry_place};
 ghost use Rattle.name_buckets.specs.Used.{used_entries};
-ghost use Rattle.name_buckets.specs.Layout.{HasTable, TellsTable};
-ghost use Rattle.name_buckets.specs.Replies.{bad_of, HasCause};
+ghost use Rattle.name_buckets.specs.Layout.{HasEntryTable, TellsEntryTable};
+ghost use Rattle.name_buckets.specs.Replies.{bad_of, HasEntryCause};
 ghost use Rattle.name_buckets.specs.declared.table.EntryKind.TheVariants.{File};
 
 use crate::reads::{entry_bytes, entry_word};
@@ -22,11 +22,11 @@ pub(crate) fn word_in<S: Space>(
     entry: u32,
     offset: u64,
 ) -> Result<u32, EntryFault>
-    requires table { HasTable (S.state space.old).shape kind info }
+    requires table { HasEntryTable (S.state space.old).shape kind info }
     requires inside { offset + 4 ≤ entry_size kind }
-    ensures word { TellsTable (S.state space.old) kind info → entry < (table_in (S.state space.old).cells kind info).count
+    ensures word { TellsEntryTable (S.state space.old) kind info → entry < (table_in (S.state space.old).cells kind info).count
         → IfOk result (λ word. word ≡ number_in 4 (S.state space.old).cells (entry_place kind info entry + offset)) }
-    ensures cause { HasCause (S.state space.old) kind info (used_entries (table_in (S.state space.old).cells kind info) entry)
+    ensures cause { HasEntryCause (S.state space.old) kind info (used_entries (table_in (S.state space.old).cells kind info) entry)
         (λ _ _. ⊥) result }
     ensures reads { Reads S.state S.keeps S.lands space.old space.new (bad_of result) }
 {
@@ -41,10 +41,10 @@ pub(crate) fn name_in<S: Space>(
     info: TableInfo,
     entry: u32,
 ) -> Result<Name, EntryFault>
-    requires { HasTable (S.state space.old).shape kind info }
-    ensures name { TellsTable (S.state space.old) kind info → entry < (table_in (S.state space.old).cells kind info).count
+    requires { HasEntryTable (S.state space.old).shape kind info }
+    ensures name { TellsEntryTable (S.state space.old) kind info → entry < (table_in (S.state space.old).cells kind info).count
         → IfOk result (λ name. name.0 ≡ (table_in (S.state space.old).cells kind info).name entry) }
-    ensures cause { HasCause (S.state space.old) kind info (used_entries (table_in (S.state space.old).cells kind info) entry)
+    ensures cause { HasEntryCause (S.state space.old) kind info (used_entries (table_in (S.state space.old).cells kind info) entry)
         (λ _ _. ⊥) result }
     ensures reads { Reads S.state S.keeps S.lands space.old space.new (bad_of result) }
 {
@@ -59,12 +59,12 @@ pub(crate) fn fields_in<S: Space>(
     info: TableInfo,
     entry: u32,
 ) -> Result<FileFields, EntryFault>
-    requires { HasTable (S.state space.old).shape File info }
-    ensures start { TellsTable (S.state space.old) File info → entry < (table_in (S.state space.old).cells File info).count
+    requires { HasEntryTable (S.state space.old).shape File info }
+    ensures start { TellsEntryTable (S.state space.old) File info → entry < (table_in (S.state space.old).cells File info).count
         → IfOk result (λ fields. fields.start ≡ number_in 4 (S.state space.old).cells (entry_place File info entry + 0x1C)) }
-    ensures wide { TellsTable (S.state space.old) File info → entry < (table_in (S.state space.old).cells File info).count
+    ensures wide { TellsEntryTable (S.state space.old) File info → entry < (table_in (S.state space.old).cells File info).count
         → IfOk result (λ fields. fields.wide ≡ number_in 8 (S.state space.old).cells (entry_place File info entry + 0x20)) }
-    ensures cause { HasCause (S.state space.old) File info (used_entries (table_in (S.state space.old).cells File info) entry)
+    ensures cause { HasEntryCause (S.state space.old) File info (used_entries (table_in (S.state space.old).cells File info) entry)
         (λ _ _. ⊥) result }
     ensures reads { Reads S.state S.keeps S.lands space.old space.new (bad_of result) }
 {

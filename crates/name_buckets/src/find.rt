@@ -8,8 +8,8 @@ ghost use Rattle.name_buckets.specs.Kinds.{entry_size, bucket_table};
 ghost use Rattle.name_buckets.specs.Hash.{bucket_number};
 ghost use Rattle.name_buckets.specs.Tables.{table_in, entry_place};
 ghost use Rattle.name_buckets.specs.Rules.{HasBucketLists, IsBrokenBucket};
-ghost use Rattle.name_buckets.specs.Layout.{HasTable, TellsTable, BlamesRead};
-ghost use Rattle.name_buckets.specs.Replies.{bad_of, HasCause, IsFound};
+ghost use Rattle.name_buckets.specs.Layout.{HasEntryTable, TellsEntryTable, BlamesRead};
+ghost use Rattle.name_buckets.specs.Replies.{bad_of, HasEntryCause, IsFoundEntry};
 ghost use Rattle.name_buckets.specs.Looks.{HasKey, IsLook};
 
 use crate::hash::bucket;
@@ -43,8 +43,8 @@ fn look_at<S: Space>(
     parent: u32,
     name: &Name,
 ) -> Result<Look, Bad>
-    requires { HasTable (S.state space.old).shape kind info }
-    ensures look { TellsTable (S.state space.old) kind info → entry < (table_in (S.state space.old).cells kind info).count
+    requires { HasEntryTable (S.state space.old).shape kind info }
+    ensures look { TellsEntryTable (S.state space.old) kind info → entry < (table_in (S.state space.old).cells kind info).count
         → IfOk result (IsLook kind (table_in (S.state space.old).cells kind info) parent name.now.0 entry) }
     ensures damaged { IsTrue (S.state space.old).told → IfDamaged (result_err result)
         (BlamesRead kind info (entry_place kind info entry) (entry_size kind) (S.state space.old).cells) }
@@ -69,10 +69,10 @@ pub(crate) fn find_in<S: Space>(
     parent: u32,
     name: &Name,
 ) -> Result<Option<u32>, EntryFault>
-    requires { HasTable (S.state space.old).shape kind info }
-    ensures found { TellsTable (S.state space.old) kind info → HasBucketLists kind (table_in (S.state space.old).cells kind info)
-        → IfOk result (IsFound kind (table_in (S.state space.old).cells kind info) parent name.now.0) }
-    ensures cause { HasCause (S.state space.old) kind info (HasBucketLists kind (table_in (S.state space.old).cells kind info))
+    requires { HasEntryTable (S.state space.old).shape kind info }
+    ensures found { TellsEntryTable (S.state space.old) kind info → HasBucketLists kind (table_in (S.state space.old).cells kind info)
+        → IfOk result (IsFoundEntry kind (table_in (S.state space.old).cells kind info) parent name.now.0) }
+    ensures cause { HasEntryCause (S.state space.old) kind info (HasBucketLists kind (table_in (S.state space.old).cells kind info))
         (λ table entry. (table ≡ bucket_table kind) × (entry ≡ bucket_number parent name.now.0 info.buckets)
         × IsBrokenBucket kind (table_in (S.state space.old).cells kind info) entry) result }
     ensures reads { Reads S.state S.keeps S.lands space.old space.new (bad_of result) }

@@ -5,8 +5,8 @@ ghost use Rattle.save_bytes.specs.Reads.{Reads};
 ghost use Rattle.name_buckets.specs.Kinds.{table_number};
 ghost use Rattle.name_buckets.specs.Tables.{table_in};
 ghost use Rattle.name_buckets.specs.Rules.{HasFreedList, NamesWrongly};
-ghost use Rattle.name_buckets.specs.Layout.{HasTable, TellsTable};
-ghost use Rattle.name_buckets.specs.Replies.{bad_of, HasCause, IsRoom};
+ghost use Rattle.name_buckets.specs.Layout.{HasEntryTable, TellsEntryTable};
+ghost use Rattle.name_buckets.specs.Replies.{bad_of, HasEntryCause, IsRoom};
 
 use crate::reads::{entry_word, read_counts};
 use crate::table::{EntryFault, EntryKind, TableInfo};
@@ -19,9 +19,9 @@ pub(crate) fn free_in<S: Space>(
     kind: EntryKind,
     info: TableInfo,
 ) -> Result<u32, EntryFault>
-    requires { HasTable (S.state space.old).shape kind info }
-    ensures free { TellsTable (S.state space.old) kind info → IfOk result (IsRoom kind (table_in (S.state space.old).cells kind info)) }
-    ensures cause { HasCause (S.state space.old) kind info (HasFreedList kind (table_in (S.state space.old).cells kind info))
+    requires { HasEntryTable (S.state space.old).shape kind info }
+    ensures free { TellsEntryTable (S.state space.old) kind info → IfOk result (IsRoom kind (table_in (S.state space.old).cells kind info)) }
+    ensures cause { HasEntryCause (S.state space.old) kind info (HasFreedList kind (table_in (S.state space.old).cells kind info))
         (λ table entry. (table ≡ table_number kind) × NamesWrongly kind (table_in (S.state space.old).cells kind info) entry) result }
     ensures reads { Reads S.state S.keeps S.lands space.old space.new (bad_of result) }
 {

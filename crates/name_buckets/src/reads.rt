@@ -9,7 +9,7 @@ ghost use Rattle.save_bytes.specs.Answers.{IsRead};
 ghost use Rattle.save_bytes.specs.Reads.{Reads};
 ghost use Rattle.name_buckets.specs.Kinds.{entry_size};
 ghost use Rattle.name_buckets.specs.Tables.{table_in, entry_place};
-ghost use Rattle.name_buckets.specs.Layout.{HasCounts, HasTable, TellsTable, BlamesRead};
+ghost use Rattle.name_buckets.specs.Layout.{HasCounts, HasEntryTable, TellsEntryTable, BlamesRead};
 
 use crate::table::{EntryKind, TableInfo};
 use save_bytes::{Bad, Space, space_copy, u32_at};
@@ -27,7 +27,7 @@ pub(crate) fn read_counts<S: Space>(
     kind: EntryKind,
     info: TableInfo,
 ) -> Result<Counts, Bad>
-    requires { HasTable (S.state space.old).shape kind info }
+    requires { HasEntryTable (S.state space.old).shape kind info }
     ensures count { IsTrue (S.state space.old).told
         → IfOk result (λ counts. counts.count ≡ (table_in (S.state space.old).cells kind info).count) }
     ensures most { IsTrue (S.state space.old).told
@@ -70,9 +70,9 @@ pub(crate) fn entry_bytes<S: Space>(
     offset: u64,
     out: &mut [u8],
 ) -> Result<(), Bad>
-    requires table { HasTable (S.state space.old).shape kind info }
+    requires table { HasEntryTable (S.state space.old).shape kind info }
     requires inside { offset + length out.old ≤ entry_size kind }
-    ensures bytes { TellsTable (S.state space.old) kind info → entry < (table_in (S.state space.old).cells kind info).count
+    ensures bytes { TellsEntryTable (S.state space.old) kind info → entry < (table_in (S.state space.old).cells kind info).count
         → OnOk result (AreBytesAt (S.state space.old).cells (entry_place kind info entry + offset) out.new) }
     ensures damaged { IsTrue (S.state space.old).told → IfDamaged (result_err result)
         (BlamesRead kind info (entry_place kind info entry + offset) (length out.old) (S.state space.old).cells) }
@@ -96,9 +96,9 @@ pub(crate) fn entry_word<S: Space>(
     entry: u32,
     offset: u64,
 ) -> Result<u32, Bad>
-    requires table { HasTable (S.state space.old).shape kind info }
+    requires table { HasEntryTable (S.state space.old).shape kind info }
     requires inside { offset + 4 ≤ entry_size kind }
-    ensures word { TellsTable (S.state space.old) kind info → entry < (table_in (S.state space.old).cells kind info).count
+    ensures word { TellsEntryTable (S.state space.old) kind info → entry < (table_in (S.state space.old).cells kind info).count
         → IfOk result (λ word. word ≡ number_in 4 (S.state space.old).cells (entry_place kind info entry + offset)) }
     ensures damaged { IsTrue (S.state space.old).told → IfDamaged (result_err result)
         (BlamesRead kind info (entry_place kind info entry + offset) 4 (S.state space.old).cells) }

@@ -5,7 +5,7 @@ ghost use Rattle.name_buckets.specs.InOrder.{untold_state};
 ghost use Rattle.name_buckets.specs.InOrder.{HasEntriesBefore, FollowInOrder};
 ghost use Rattle.name_buckets.specs.Rules.{IsOrderly};
 ghost use Rattle.name_buckets.specs.Layout.{HasCounts};
-ghost use Rattle.name_buckets.specs.Held.{space_of, tables_of, place_of, IsLaidOut, Tells};
+ghost use Rattle.name_buckets.specs.Held.{space_of, tables_of, place_of, HoldsTables, TellsTableOf};
 
 use super::*;
 use save_bytes::{Bad, MemSpace, Name, Space, set_u32, set_u64, u32_at};
@@ -128,8 +128,8 @@ fn found_name<S: Space>(
     parent: u32,
     name: &Name,
 ) -> Result<Option<Name>, EntryFault>
-    requires { IsLaidOut S.state entries.old }
-    ensures { Tells S.state entries.old kind → HasCounts (space_of S.state entries.old).cells (place_of entries.old kind)
+    requires { HoldsTables S.state entries.old }
+    ensures { TellsTableOf S.state entries.old kind → HasCounts (space_of S.state entries.old).cells (place_of entries.old kind)
         → IsOrderly (tables_of S.state entries.old)
         → IfOk result (λ found. IfSome found (λ its. its.0 ≡ name.now.0)) }
 {
@@ -144,7 +144,7 @@ fn found_name<S: Space>(
 }
 
 fn answer<S: Space>(entries: &mut Entries<S>, call: Call) -> Reply
-    requires { IsLaidOut S.state entries.old }
+    requires { HoldsTables S.state entries.old }
 {
     match call {
         Call::Find(kind, parent, name) => Reply::Found(entries.find(kind, parent, &name)),

@@ -7,9 +7,9 @@ ghost use Rattle.name_buckets.specs.Hash.{bucket_number};
 ghost use Rattle.name_buckets.specs.Tables.{info_of};
 ghost use Rattle.name_buckets.specs.Used.{used_entries};
 ghost use Rattle.name_buckets.specs.Rules.{HasFreedList, HasBucketLists, NamesWrongly, IsBrokenBucket};
-ghost use Rattle.name_buckets.specs.Layout.{HasTables};
-ghost use Rattle.name_buckets.specs.Replies.{bad_of, HasCause, IsFound, IsRoom, IsFirstChild, IsNextChild};
-ghost use Rattle.name_buckets.specs.Held.{space_of, tables_of, place_of, IsLaidOut, Tells, IsEntriesIn, ReadsEntries};
+ghost use Rattle.name_buckets.specs.Layout.{HasEntryTables};
+ghost use Rattle.name_buckets.specs.Replies.{bad_of, HasEntryCause, IsFoundEntry, IsRoom, IsFirstChild, IsNextChild};
+ghost use Rattle.name_buckets.specs.Held.{space_of, tables_of, place_of, HoldsTables, TellsTableOf, IsEntriesIn, ReadsEntries};
 
 use crate::fields::{fields_in, name_in, word_in};
 use crate::find::find_in;
@@ -36,9 +36,9 @@ pub struct Entries<'a, S: Space> {
 impl<'a, S: Space> Entries<'a, S> {
     /// The entries of the tables that stand at these places.
     pub fn new(space: &'a mut S, dirs: TableInfo, files: TableInfo) -> Entries<'a, S>
-        requires { HasTables (S.state space.old).shape dirs files }
+        requires { HasEntryTables (S.state space.old).shape dirs files }
         ensures holds { IsEntriesIn result space.entry dirs files }
-        ensures laid_out { IsLaidOut S.state result }
+        ensures laid_out { HoldsTables S.state result }
     {
         Entries { space, dirs, files }
     }
@@ -51,11 +51,11 @@ impl<'a, S: Space> Entries<'a, S> {
         parent: u32,
         name: &Name,
     ) -> Result<Option<u32>, EntryFault>
-        requires { IsLaidOut S.state self.old }
-        ensures found { Tells S.state self.old kind → HasBucketLists kind ((tables_of S.state self.old).table kind)
-            → IfOk result (IsFound kind ((tables_of S.state self.old).table kind) parent name.now.0) }
+        requires { HoldsTables S.state self.old }
+        ensures found { TellsTableOf S.state self.old kind → HasBucketLists kind ((tables_of S.state self.old).table kind)
+            → IfOk result (IsFoundEntry kind ((tables_of S.state self.old).table kind) parent name.now.0) }
         ensures cause { let t = (tables_of S.state self.old).table kind in
-            HasCause (space_of S.state self.old) kind (place_of self.old kind) (HasBucketLists kind t)
+            HasEntryCause (space_of S.state self.old) kind (place_of self.old kind) (HasBucketLists kind t)
             (λ table entry. (table ≡ bucket_table kind) × (entry ≡ bucket_number parent name.now.0 t.buckets)
             × IsBrokenBucket kind t entry) result }
         ensures reads { ReadsEntries S.state S.keeps S.lands self.old self.new (bad_of result) }
@@ -67,12 +67,12 @@ impl<'a, S: Space> Entries<'a, S> {
 
     /// A directory's first entry of a kind, and 0 where it has none. The list of its entries begins there.
     pub fn first(&mut self, kind: EntryKind, dir: u32) -> Result<u32, EntryFault>
-        requires { IsLaidOut S.state self.old }
-        ensures word { Tells S.state self.old Dir → dir < ((tables_of S.state self.old).table Dir).count
+        requires { HoldsTables S.state self.old }
+        ensures word { TellsTableOf S.state self.old Dir → dir < ((tables_of S.state self.old).table Dir).count
             → IfOk result (λ first. first ≡ (tables_of S.state self.old).first kind dir) }
-        ensures child { Tells S.state self.old Dir → dir < ((tables_of S.state self.old).table Dir).count
+        ensures child { TellsTableOf S.state self.old Dir → dir < ((tables_of S.state self.old).table Dir).count
             → IfOk result (IsFirstChild (tables_of S.state self.old) kind dir) }
-        ensures cause { HasCause (space_of S.state self.old) Dir (place_of self.old Dir)
+        ensures cause { HasEntryCause (space_of S.state self.old) Dir (place_of self.old Dir)
             (used_entries ((tables_of S.state self.old).table Dir) dir) (λ _ _. ⊥) result }
         ensures reads { ReadsEntries S.state S.keeps S.lands self.old self.new (bad_of result) }
     {
@@ -83,12 +83,12 @@ impl<'a, S: Space> Entries<'a, S> {
 
     /// The entry behind this one in the list of its directory, and 0 behind the last.
     pub fn next(&mut self, kind: EntryKind, entry: u32) -> Result<u32, EntryFault>
-        requires { IsLaidOut S.state self.old }
-        ensures word { Tells S.state self.old kind → entry < ((tables_of S.state self.old).table kind).count
+        requires { HoldsTables S.state self.old }
+        ensures word { TellsTableOf S.state self.old kind → entry < ((tables_of S.state self.old).table kind).count
             → IfOk result (λ next. next ≡ ((tables_of S.state self.old).table kind).sibling entry) }
-        ensures child { Tells S.state self.old kind → entry < ((tables_of S.state self.old).table kind).count
+        ensures child { TellsTableOf S.state self.old kind → entry < ((tables_of S.state self.old).table kind).count
             → IfOk result (IsNextChild (tables_of S.state self.old) kind entry) }
-        ensures cause { HasCause (space_of S.state self.old) kind (place_of self.old kind)
+        ensures cause { HasEntryCause (space_of S.state self.old) kind (place_of self.old kind)
             (used_entries ((tables_of S.state self.old).table kind) entry) (λ _ _. ⊥) result }
         ensures reads { ReadsEntries S.state S.keeps S.lands self.old self.new (bad_of result) }
     {
@@ -99,10 +99,10 @@ impl<'a, S: Space> Entries<'a, S> {
 
     /// The name of an entry.
     pub fn name(&mut self, kind: EntryKind, entry: u32) -> Result<Name, EntryFault>
-        requires { IsLaidOut S.state self.old }
-        ensures name { Tells S.state self.old kind → entry < ((tables_of S.state self.old).table kind).count
+        requires { HoldsTables S.state self.old }
+        ensures name { TellsTableOf S.state self.old kind → entry < ((tables_of S.state self.old).table kind).count
             → IfOk result (λ name. name.0 ≡ ((tables_of S.state self.old).table kind).name entry) }
-        ensures cause { HasCause (space_of S.state self.old) kind (place_of self.old kind)
+        ensures cause { HasEntryCause (space_of S.state self.old) kind (place_of self.old kind)
             (used_entries ((tables_of S.state self.old).table kind) entry) (λ _ _. ⊥) result }
         ensures reads { ReadsEntries S.state S.keeps S.lands self.old self.new (bad_of result) }
     {
@@ -113,12 +113,12 @@ impl<'a, S: Space> Entries<'a, S> {
 
     /// What a file's entry says of its contents.
     pub fn fields(&mut self, entry: u32) -> Result<FileFields, EntryFault>
-        requires { IsLaidOut S.state self.old }
-        ensures start { Tells S.state self.old File → entry < ((tables_of S.state self.old).table File).count
+        requires { HoldsTables S.state self.old }
+        ensures start { TellsTableOf S.state self.old File → entry < ((tables_of S.state self.old).table File).count
             → IfOk result (λ fields. fields.start ≡ (tables_of S.state self.old).start entry) }
-        ensures wide { Tells S.state self.old File → entry < ((tables_of S.state self.old).table File).count
+        ensures wide { TellsTableOf S.state self.old File → entry < ((tables_of S.state self.old).table File).count
             → IfOk result (λ fields. fields.wide ≡ (tables_of S.state self.old).wide entry) }
-        ensures cause { HasCause (space_of S.state self.old) File (place_of self.old File)
+        ensures cause { HasEntryCause (space_of S.state self.old) File (place_of self.old File)
             (used_entries ((tables_of S.state self.old).table File) entry) (λ _ _. ⊥) result }
         ensures reads { ReadsEntries S.state S.keeps S.lands self.old self.new (bad_of result) }
     {
@@ -130,10 +130,10 @@ impl<'a, S: Space> Entries<'a, S> {
     /// How many entries of a kind can still be added. It is answered only where the freed entries of this kind have the
     /// list that they should.
     pub fn free(&mut self, kind: EntryKind) -> Result<u32, EntryFault>
-        requires { IsLaidOut S.state self.old }
-        ensures room { Tells S.state self.old kind → IfOk result (IsRoom kind ((tables_of S.state self.old).table kind)) }
+        requires { HoldsTables S.state self.old }
+        ensures room { TellsTableOf S.state self.old kind → IfOk result (IsRoom kind ((tables_of S.state self.old).table kind)) }
         ensures cause { let t = (tables_of S.state self.old).table kind in
-            HasCause (space_of S.state self.old) kind (place_of self.old kind) (HasFreedList kind t)
+            HasEntryCause (space_of S.state self.old) kind (place_of self.old kind) (HasFreedList kind t)
             (λ table entry. (table ≡ table_number kind) × NamesWrongly kind t entry) result }
         ensures reads { ReadsEntries S.state S.keeps S.lands self.old self.new (bad_of result) }
     {

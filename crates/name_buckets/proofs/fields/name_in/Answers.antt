@@ -8,7 +8,9 @@ use Rattle.name_buckets.proofs.fields.name_in.Goals as goal
 
 pub returns-in_err-entry_bytes-clause-cause : goal.returns-in_err-entry_bytes-clause-cause
 returns-in_err-entry_bytes-clause-cause g c =
-    entry_cause (g.S.Space.state c.args.space.now) c.args.kind c.args.info c.args.entry 4 16 _ c.in_err-entry_bytes.field-0.0 (omega (arith, entry_long c.args.kind)) c.from_residual.ensures.1 c.in_err-entry_bytes.ensures.damaged c.in_err-entry_bytes.ensures.plain
+    entry_cause (g.S.Space.state c.args.space.now) c.args.kind c.args.info c.args.entry 4 16 _
+    c.in_err-entry_bytes.field-0.0 (omega (arith, entry_long c.args.kind)) c.from_residual.ensures.1
+    c.in_err-entry_bytes.ensures.damaged c.in_err-entry_bytes.ensures.plain
 
 pub returns-clause-name : goal.returns-clause-name
 returns-clause-name g c = λ told below.

@@ -1,23 +1,29 @@
-use Rattle.std.proofs.Common.{◌≡◌, ◌+◌, ◌*◌, ◌<◌, ◌≤◌, Some, None, refl, sym, ◌∙◌, arith}
+use Rattle.std.proofs.Common.{◌≡◌, ◌+◌, ◌*◌, ◌<◌, ◌≤◌, ℕ, List, Some, None, refl, sym, ◌∙◌, arith}
 use Rattle.save_bytes.proofs.CallLemmas.{Reads-join}
+use Rattle.save_bytes.proofs.SpaceLemmas.{IfDamaged-map}
 use Rattle.name_buckets.specs.Hash.{bucket_number}
 use Rattle.name_buckets.specs.Kinds.{entry_size}
 use Rattle.name_buckets.specs.Tables.{table_in, entry_place, bucket_place}
 use Rattle.name_buckets.specs.Layout.{OfBucket, OfUsed}
 use Rattle.name_buckets.proofs.EntryLemmas.{least_some}
-use Rattle.name_buckets.proofs.StayLemmas.{tells_later, count_stays, head_stays, HasTable-stays, entry_fits, entry_stays, needed_read, fault_read}
-use Rattle.save_bytes.proofs.SpaceLemmas.{IfDamaged-map}
+use Rattle.name_buckets.proofs.StayLemmas.{head_stays, HasEntryTable-stays, entry_fits, needed_read, fault_read}
 use Rattle.name_buckets.proofs.CauseLemmas.{passed_on, bad_cause, broken_cause, plain_stays}
-use Rattle.name_buckets.proofs.FindLemmas.{HasPassed-none, HasPassed-more, Matches-stays, Matches-was, passed_stands, match_found, none_found, broken_past, broken_long}
+use Rattle.name_buckets.proofs.FindLemmas.{HasPassed-none, HasPassed-more, passed_stands, match_found, none_found, broken_past, broken_long}
+use Rattle.name_buckets.proofs.LookLemmas.{look_stays}
 use Rattle.name_buckets.proofs.find.find_in.Goals as goal
+
+-- the bucket is one of the table's
+own_below : (parent : ℕ) (name : List ℕ) (buckets number : ℕ) → number ≡ bucket_number parent name buckets → number < buckets
+    → bucket_number parent name buckets < buckets
+own_below parent name buckets number is below = rw (sym is) below
 
 pub returns-in_err-entry-clause-reads : goal.returns-in_err-entry-clause-reads
 returns-in_err-entry-clause-reads g c =
     let space = g.S.Space in
     let bad = c.in_err-entry.field-0.0 in
     rw (passed_on _ bad c.from_residual-in_err-entry.ensures.1)
-    (Reads-join space.state space.keeps space.lands g.met.S.Space.keeps_join c.args.space.now c.read_counts.new.space c.space_u32.new.space (Some bad) c.in_ok-count.ensures.reads
-    c.in_err-entry.ensures.reads)
+    (Reads-join space.state space.keeps space.lands g.met.S.Space.keeps_join c.args.space.now c.read_counts.new.space
+    c.space_u32.new.space (Some bad) c.in_ok-count.ensures.reads c.in_err-entry.ensures.reads)
 
 pub returns-in_err-entry-clause-cause : goal.returns-in_err-entry-clause-cause
 returns-in_err-entry-clause-cause g c =
@@ -26,6 +32,7 @@ returns-in_err-entry-clause-cause g c =
     let kind = c.args.kind in
     let info = c.args.info in
     let number = c.bucket-number.result in
+    let below = c.bucket-number.ensures.below in
     let bad = c.in_err-entry.field-0.0 in
     let stays = c.in_ok-count.ensures.reads.stays in
     let read = c.in_err-entry.ensures.read in
@@ -33,7 +40,9 @@ returns-in_err-entry-clause-cause g c =
     rw (passed_on _ bad c.from_residual-in_err-entry.ensures.1)
     (bad_cause old kind info _ _ bad
     (λ tells rule. IfDamaged-map (Some bad)
-    (λ part level block first. needed_read old mid stays kind info c.requires tells.told (bucket_place info number) 4 part level block (omega (arith, c.bucket-number.ensures.below, c.requires.buckets)) (λ x within. OfBucket number c.bucket-number.ensures.below within) (fault_read kind info mid.cells (bucket_place info number) 4 part level block first))
+    (λ part level block first. needed_read old mid stays kind info c.requires tells.told (bucket_place info number) 4 part level block
+    (omega (arith, below, c.requires.buckets)) (λ x within. OfBucket number below within)
+    (fault_read kind info mid.cells (bucket_place info number) 4 part level block first))
     (rw there at read.damaged (stays.space.told tells.told)))
     (λ plain. read.plain (plain_stays old.shape mid.shape stays.space.shape plain)))
 
@@ -44,39 +53,40 @@ loop-step-init g c =
     let mid = space.state c.read_counts.new.space in
     let stays = c.in_ok-count.ensures.reads.stays in
     let info = c.args.info in
+    let number = c.bucket-number.ensures in
     let own = bucket_number c.args.parent c.args.name.now.0 info.buckets in
-    let below : own < info.buckets = rw (sym c.bucket-number.ensures.number) c.bucket-number.ensures.below in
-    let there : info.buckets_at + 4 * c.from.result ≡ bucket_place info own = rw (c.from.ensures, c.bucket-number.ensures.number) refl in
+    let below = own_below c.args.parent c.args.name.now.0 info.buckets c.bucket-number.result number.number number.below in
+    let there : info.buckets_at + 4 * c.from.result ≡ bucket_place info own = rw (c.from.ensures, number.number) refl in
     record {
-      reads = Reads-join space.state space.keeps space.lands g.met.S.Space.keeps_join c.args.space.now c.read_counts.new.space c.space_u32.new.space None c.in_ok-count.ensures.reads c.in_ok-entry.ensures.reads;
-      passed = λ tells. HasPassed-none c.args.kind (table_in old.cells c.args.kind info) c.args.parent c.args.name.now.0 own c.in_ok-entry.entry
-          ((rw there at c.in_ok-entry.ensures.number (stays.space.told tells.told)) ∙ head_stays old mid stays c.args.kind info c.requires own tells.told below);
+      reads = Reads-join space.state space.keeps space.lands g.met.S.Space.keeps_join c.args.space.now c.read_counts.new.space
+          c.space_u32.new.space None c.in_ok-count.ensures.reads c.in_ok-entry.ensures.reads;
+      passed = λ tells. HasPassed-none c.in_ok-entry.entry ((rw there at c.in_ok-entry.ensures.number (stays.space.told tells.told))
+          ∙ head_stays old mid stays c.args.kind info c.requires own tells.told below);
     }
 
 pub returns-then-entry-eq0-clause-found : goal.returns-then-entry-eq0-clause-found
 returns-then-entry-eq0-clause-found g c = λ tells lists.
-    let t = table_in (g.S.Space.state c.args.space.now).cells c.args.kind c.args.info in
-    let own = bucket_number c.args.parent c.args.name.now.0 c.args.info.buckets in
-    let below : own < c.args.info.buckets = rw (sym c.bucket-number.ensures.number) c.bucket-number.ensures.below in
-    none_found c.args.kind t c.args.parent c.args.name.now.0 own c.loop-step._step (rw c.if-entry-eq0.true at c.loop-step.invariant.passed tells) refl below lists
+    let number = c.bucket-number.ensures in
+    none_found (rw c.if-entry-eq0.true at c.loop-step.invariant.passed tells) refl
+    (own_below c.args.parent c.args.name.now.0 c.args.info.buckets c.bucket-number.result number.number number.below) lists
 
 pub returns-then-entry-count-clause-cause : goal.returns-then-entry-count-clause-cause
 returns-then-entry-count-clause-cause g c =
     let old = g.S.Space.state c.args.space.now in
-    let t = table_in old.cells c.args.kind c.args.info in
-    let own = bucket_number c.args.parent c.args.name.now.0 c.args.info.buckets in
-    let below : own < c.args.info.buckets = rw (sym c.bucket-number.ensures.number) c.bucket-number.ensures.below in
+    let number = c.bucket-number.ensures in
+    let below = own_below c.args.parent c.args.name.now.0 c.args.info.buckets c.bucket-number.result number.number number.below in
     broken_cause old c.args.kind c.args.info _ _ c.bucket_table.result c.bucket-number.result
     (λ tells. (
       c.bucket_table.ensures,
-      c.bucket-number.ensures.number,
-      rw c.bucket-number.ensures.number
-          (broken_past c.args.kind t c.args.parent c.args.name.now.0 own c.loop-step._step c.loop-step.entry (c.loop-step.invariant.passed tells) c.if-entry-eq0.false below (omega (arith, c.if-entry-count.true, c.in_ok-count.ensures.count tells.told))),
+      number.number,
+      rw number.number (broken_past (c.loop-step.invariant.passed tells) c.if-entry-eq0.false below
+          (omega (arith, c.if-entry-count.true, c.in_ok-count.ensures.count tells.told))),
     ))
 
 pub look_at-requires : goal.look_at-requires
 look_at-requires g c =
-    HasTable-stays (g.S.Space.state c.args.space.now) (g.S.Space.state c.loop-step.space) c.loop-step.invariant.reads.stays c.args.kind c.args.info c.requires
+    HasEntryTable-stays (g.S.Space.state c.args.space.now) (g.S.Space.state c.loop-step.space) c.loop-step.invariant.reads.stays
+    c.args.kind c.args.info c.requires
 
 pub returns-in_err-look_at-clause-cause : goal.returns-in_err-look_at-clause-cause
 returns-in_err-look_at-clause-cause g c =
@@ -84,18 +94,21 @@ returns-in_err-look_at-clause-cause g c =
     let mid = g.S.Space.state c.loop-step.space in
     let kind = c.args.kind in
     let info = c.args.info in
-    let t = table_in old.cells kind info in
     let own = bucket_number c.args.parent c.args.name.now.0 info.buckets in
-    let below : own < info.buckets = rw (sym c.bucket-number.ensures.number) c.bucket-number.ensures.below in
+    let number = c.bucket-number.ensures in
+    let below = own_below c.args.parent c.args.name.now.0 info.buckets c.bucket-number.result number.number number.below in
     let e = c.loop-step.entry in
     let bad = c.in_err-look_at.field-0.0 in
     let stays = c.loop-step.invariant.reads.stays in
     rw (passed_on _ bad c.from_residual-in_err-look_at.ensures.1)
     (bad_cause old kind info _ _ bad
     (λ tells rule.
-    let used = (passed_stands kind t c.args.parent c.args.name.now.0 own c.loop-step._step e (rule own below).0 (c.loop-step.invariant.passed tells) c.if-entry-eq0.false (rule own below).1).used in
+    let list = rule own below in
+    let used = (passed_stands (c.loop-step.invariant.passed tells) list.0 c.if-entry-eq0.false list.1).used in
     let fits = entry_fits old mid stays kind info c.requires tells (c.in_ok-count.ensures.known tells.told) e used.below in
-    IfDamaged-map (Some bad) (λ part level block. needed_read old mid stays kind info c.requires tells.told (entry_place kind info e) (entry_size kind) part level block fits (λ x within. OfUsed e used within)) (c.in_err-look_at.ensures.damaged (stays.space.told tells.told)))
+    IfDamaged-map (Some bad)
+    (λ part level block. needed_read old mid stays kind info c.requires tells.told (entry_place kind info e) (entry_size kind) part
+    level block fits (λ x within. OfUsed e used within)) (c.in_err-look_at.ensures.damaged (stays.space.told tells.told)))
     (λ plain. c.in_err-look_at.ensures.plain (plain_stays old.shape mid.shape stays.space.shape plain)))
 
 pub returns-in_err-look_at-clause-reads : goal.returns-in_err-look_at-clause-reads
@@ -103,50 +116,42 @@ returns-in_err-look_at-clause-reads g c =
     let space = g.S.Space in
     let bad = c.in_err-look_at.field-0.0 in
     rw (passed_on _ bad c.from_residual-in_err-look_at.ensures.1)
-    (Reads-join space.state space.keeps space.lands g.met.S.Space.keeps_join c.args.space.now c.loop-step.space c.look_at.new.space (Some bad) c.loop-step.invariant.reads c.in_err-look_at.ensures.reads)
+    (Reads-join space.state space.keeps space.lands g.met.S.Space.keeps_join c.args.space.now c.loop-step.space c.look_at.new.space
+    (Some bad) c.loop-step.invariant.reads c.in_err-look_at.ensures.reads)
 
 pub returns-in-Found-clause-found : goal.returns-in-Found-clause-found
 returns-in-Found-clause-found g c = λ tells lists.
     let old = g.S.Space.state c.args.space.now in
     let mid = g.S.Space.state c.loop-step.space in
-    let kind = c.args.kind in
-    let info = c.args.info in
-    let t = table_in old.cells kind info in
-    let stays = c.loop-step.invariant.reads.stays in
-    let own = bucket_number c.args.parent c.args.name.now.0 info.buckets in
-    let below : own < info.buckets = rw (sym c.bucket-number.ensures.number) c.bucket-number.ensures.below in
-    let in_table : c.loop-step.entry < t.count = omega (arith, c.if-entry-count.false, c.in_ok-count.ensures.count tells.told) in
-    let in_mid : c.loop-step.entry < (table_in mid.cells kind info).count = omega (arith, in_table, count_stays old mid stays kind info c.requires tells.told) in
-    let matches = rw c.in-Found.is at c.in_ok-look_at.ensures.look (tells_later old mid stays kind info c.requires tells) in_mid in
-    match_found kind t c.args.parent c.args.name.now.0 own c.loop-step._step c.loop-step.entry (c.loop-step.invariant.passed tells) c.if-entry-eq0.false below
-    (Matches-stays kind t (table_in mid.cells kind info) c.args.parent c.args.name.now.0 c.loop-step.entry (entry_stays old mid stays kind info c.requires tells (c.in_ok-count.ensures.known tells.told) c.loop-step.entry in_table) matches)
-    lists
+    let counts = c.in_ok-count.ensures in
+    let number = c.bucket-number.ensures in
+    let below = own_below c.args.parent c.args.name.now.0 c.args.info.buckets c.bucket-number.result number.number number.below in
+    let look = rw c.in-Found.is at (look_stays old mid c.loop-step.invariant.reads.stays c.args.kind c.args.info c.requires tells
+    (counts.known tells.told) c.loop-step.entry (omega (arith, c.if-entry-count.false, counts.count tells.told)) c.args.parent
+    c.args.name.now.0 _ c.in_ok-look_at.ensures.look) in
+    match_found (c.loop-step.invariant.passed tells) c.if-entry-eq0.false below look lists
 
 pub returns-in-Found-clause-reads : goal.returns-in-Found-clause-reads
 returns-in-Found-clause-reads g c =
     let space = g.S.Space in
-    Reads-join space.state space.keeps space.lands g.met.S.Space.keeps_join c.args.space.now c.loop-step.space c.look_at.new.space None c.loop-step.invariant.reads c.in_ok-look_at.ensures.reads
+    Reads-join space.state space.keeps space.lands g.met.S.Space.keeps_join c.args.space.now c.loop-step.space c.look_at.new.space
+    None c.loop-step.invariant.reads c.in_ok-look_at.ensures.reads
 
 pub loop-step-preserved : goal.loop-step-preserved
 loop-step-preserved g c =
     let space = g.S.Space in
     let old = space.state c.args.space.now in
     let mid = space.state c.loop-step.space in
-    let kind = c.args.kind in
-    let info = c.args.info in
-    let t = table_in old.cells kind info in
-    let stays = c.loop-step.invariant.reads.stays in
-    let own = bucket_number c.args.parent c.args.name.now.0 info.buckets in
+    let counts = c.in_ok-count.ensures in
+    let before = c.loop-step.invariant in
     record {
-      reads = Reads-join space.state space.keeps space.lands g.met.S.Space.keeps_join c.args.space.now c.loop-step.space c.look_at.new.space None c.loop-step.invariant.reads c.in_ok-look_at.ensures.reads;
+      reads = Reads-join space.state space.keeps space.lands g.met.S.Space.keeps_join c.args.space.now c.loop-step.space
+          c.look_at.new.space None before.reads c.in_ok-look_at.ensures.reads;
       passed = λ tells.
-          (let in_table : c.loop-step.entry < t.count = omega (arith, c.if-entry-count.false, c.in_ok-count.ensures.count tells.told) in
-          let in_mid : c.loop-step.entry < (table_in mid.cells kind info).count = omega (arith, in_table, count_stays old mid stays kind info c.requires tells.told) in
-          let look = rw c.in-Other.is at c.in_ok-look_at.ensures.look (tells_later old mid stays kind info c.requires tells) in_mid in
-          let same = entry_stays old mid stays kind info c.requires tells (c.in_ok-count.ensures.known tells.told) c.loop-step.entry in_table in
-          HasPassed-more kind t c.args.parent c.args.name.now.0 own c.loop-step._step c.loop-step.entry c.in-Other.next (c.loop-step.invariant.passed tells) c.if-entry-eq0.false
-          (λ matches. look.0 (Matches-was kind t (table_in mid.cells kind info) c.args.parent c.args.name.now.0 c.loop-step.entry same matches))
-          (look.1 ∙ same.link));
+          (let look = rw c.in-Other.is at (look_stays old mid before.reads.stays c.args.kind c.args.info c.requires tells
+          (counts.known tells.told) c.loop-step.entry (omega (arith, c.if-entry-count.false, counts.count tells.told)) c.args.parent
+          c.args.name.now.0 _ c.in_ok-look_at.ensures.look) in
+          HasPassed-more (before.passed tells) c.in-Other.next c.if-entry-eq0.false look.0 look.1);
     }
 
 pub returns-clause-cause : goal.returns-clause-cause
@@ -155,14 +160,14 @@ returns-clause-cause g c =
     let kind = c.args.kind in
     let info = c.args.info in
     let t = table_in old.cells kind info in
-    let own = bucket_number c.args.parent c.args.name.now.0 info.buckets in
-    let below : own < info.buckets = rw (sym c.bucket-number.ensures.number) c.bucket-number.ensures.below in
+    let number = c.bucket-number.ensures in
+    let below = own_below c.args.parent c.args.name.now.0 info.buckets c.bucket-number.result number.number number.below in
     broken_cause old kind info _ _ c.bucket_table.result c.bucket-number.result
     (λ tells. (
       c.bucket_table.ensures,
-      c.bucket-number.ensures.number,
-      (let counted = c.in_ok-count.ensures.count tells.told in
-          let some : 1 ≤ t.count = omega (arith, least_some kind, tells.least (c.in_ok-count.ensures.known tells.told)) in
-          rw c.bucket-number.ensures.number
-          (broken_long kind t c.args.parent c.args.name.now.0 own c.loop-step._step c.loop-step.entry (c.loop-step.invariant.passed tells) below (omega (arith, counted, c.loop-step-test.false)) some)),
+      number.number,
+      (let counts = c.in_ok-count.ensures in
+          let some : 1 ≤ t.count = omega (arith, least_some kind, tells.least (counts.known tells.told)) in
+          rw number.number (broken_long (c.loop-step.invariant.passed tells) below
+          (omega (arith, counts.count tells.told, c.loop-step-test.false)) some)),
     ))

@@ -11,7 +11,8 @@ use Rattle.name_buckets.proofs.find.look_at.Goals as goal
 pub returns-then-has_key-clause-look : goal.returns-then-has_key-clause-look
 returns-then-has_key-clause-look g c = λ told below.
     let long : length c.entry_bytes.new.out ≡ entry_size c.args.kind = grind (arith, places) in
-    matches_read (g.S.Space.state c.args.space.now).cells c.args.kind c.args.info c.args.entry c.entry_bytes.new.out long (c.in_ok-entry_bytes.ensures.bytes told below) c.args.parent c.args.name.now.0
+    matches_read (g.S.Space.state c.args.space.now).cells c.args.kind c.args.info c.args.entry c.entry_bytes.new.out
+    long (c.in_ok-entry_bytes.ensures.bytes told below) c.args.parent c.args.name.now.0
     (λ root. false≢true (sym c.if-not-is_root.true ∙ c.is_root.ensures.1 root))
     (c.has_key.ensures.0 c.if-has_key.true)
 

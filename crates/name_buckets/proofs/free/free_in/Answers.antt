@@ -1,19 +1,29 @@
-use Rattle.std.proofs.Common.{◌+◌, ◌<◌, ◌≤◌, Some, None, refl, sym, ◌∙◌, arith}
+use Rattle.std.proofs.Common.{◌+◌, ◌≤◌, Some, None, refl, sym, ◌∙◌, arith}
+use Rattle.save_bytes.specs.State.{State}
 use Rattle.save_bytes.proofs.CallLemmas.{Reads-join}
+use Rattle.save_bytes.proofs.SpaceLemmas.{IfDamaged-map}
+use Rattle.name_buckets.specs.declared.table.EntryKind.{EntryKind}
+use Rattle.name_buckets.specs.declared.table.TableInfo.{TableInfo}
 use Rattle.name_buckets.specs.Kinds.{table_number, link_offset}
 use Rattle.name_buckets.specs.Tables.{table_in, entry_place}
+use Rattle.name_buckets.specs.Layout.{HasCounts, TellsEntryTable}
 use Rattle.name_buckets.specs.Rules.{CanBeFreed}
 use Rattle.name_buckets.proofs.EntryLemmas.{least_some, link_last}
-use Rattle.name_buckets.proofs.StayLemmas.{tells_later, count_stays, HasTable-stays, entry_fits, last_word, needed_read}
-use Rattle.save_bytes.proofs.SpaceLemmas.{IfDamaged-map}
+use Rattle.name_buckets.proofs.StayLemmas.{HasEntryTable-stays, entry_fits, needed_read}
 use Rattle.name_buckets.proofs.CauseLemmas.{passed_on, bad_cause, broken_cause, plain_stays}
+use Rattle.name_buckets.proofs.LookLemmas.{link_stays}
 use Rattle.name_buckets.proofs.FreeLemmas.{HasFollowed-more, followed_below, followed_needed, room_counted, wrong_number, named_before}
 use Rattle.name_buckets.proofs.free.free_in.Goals.{then-next-least_freed-via-then-next-least_freed, then-next-least_freed-via-else-next-least_freed+then-next-counts}
 use Rattle.name_buckets.proofs.free.free_in.Goals as goal
 
+some_counted : (s : State) (kind : EntryKind) (info : TableInfo) → TellsEntryTable s kind info → HasCounts s.cells info
+    → 1 ≤ (table_in s.cells kind info).count
+some_counted s kind info tells known = omega (arith, least_some kind, tells.least known)
+
 pub entry_word-requires-clause-table : goal.entry_word-requires-clause-table
 entry_word-requires-clause-table g c =
-    HasTable-stays (g.S.Space.state c.args.space.now) (g.S.Space.state c.loop-freed.space) c.loop-freed.invariant.reads.stays c.args.kind c.args.info c.requires
+    HasEntryTable-stays (g.S.Space.state c.args.space.now) (g.S.Space.state c.loop-freed.space) c.loop-freed.invariant.reads.stays
+    c.args.kind c.args.info c.requires
 
 pub returns-in_err-next-clause-cause : goal.returns-in_err-next-clause-cause
 returns-in_err-next-clause-cause g c =
@@ -21,7 +31,6 @@ returns-in_err-next-clause-cause g c =
     let mid = g.S.Space.state c.loop-freed.space in
     let kind = c.args.kind in
     let info = c.args.info in
-    let t = table_in old.cells kind info in
     let from = c.loop-freed.from in
     let bad = c.in_err-next.field-0.0 in
     let stays = c.loop-freed.invariant.reads.stays in
@@ -29,10 +38,12 @@ returns-in_err-next-clause-cause g c =
     (bad_cause old kind info _ _ bad
     (λ tells rule.
     let known = c.in_ok-counts.ensures.known tells.told in
-    let some : 1 ≤ t.count = omega (arith, least_some kind, tells.least known) in
     let followed = c.loop-freed.invariant.followed tells in
-    let fits = entry_fits old mid stays kind info c.requires tells known from (followed_below kind t c.loop-freed.freed from some followed) in
-    IfDamaged-map (Some bad) (λ part level block. needed_read old mid stays kind info c.requires tells.told (entry_place kind info from + link_offset kind) 4 part level block (omega (arith, fits, link_last kind)) (λ x within. followed_needed kind info t c.loop-freed.freed from x followed rule within))
+    let below = followed_below followed (some_counted old kind info tells known) in
+    let fits = entry_fits old mid stays kind info c.requires tells known from below in
+    IfDamaged-map (Some bad)
+    (λ part level block. needed_read old mid stays kind info c.requires tells.told (entry_place kind info from + link_offset kind) 4
+    part level block (omega (arith, fits, link_last kind)) (λ x within. followed_needed followed info x rule within))
     (rw c.link_offset.ensures at c.in_err-next.ensures.damaged (stays.space.told tells.told)))
     (λ plain. c.in_err-next.ensures.plain (plain_stays old.shape mid.shape stays.space.shape plain)))
 
@@ -41,99 +52,89 @@ returns-in_err-next-clause-reads g c =
     let space = g.S.Space in
     let bad = c.in_err-next.field-0.0 in
     rw (passed_on _ bad c.from_residual-in_err-next.ensures.1)
-    (Reads-join space.state space.keeps space.lands g.met.S.Space.keeps_join c.args.space.now c.loop-freed.space c.entry_word.new.space (Some bad) c.loop-freed.invariant.reads c.in_err-next.ensures.reads)
+    (Reads-join space.state space.keeps space.lands g.met.S.Space.keeps_join c.args.space.now c.loop-freed.space c.entry_word.new.space
+    (Some bad) c.loop-freed.invariant.reads c.in_err-next.ensures.reads)
 
 pub returns-then-next-eq0-clause-free : goal.returns-then-next-eq0-clause-free
 returns-then-next-eq0-clause-free g c = λ tells.
     let old = g.S.Space.state c.args.space.now in
-    let mid = g.S.Space.state c.loop-freed.space in
-    let kind = c.args.kind in
-    let info = c.args.info in
-    let t = table_in old.cells kind info in
-    let from = c.loop-freed.from in
-    let stays = c.loop-freed.invariant.reads.stays in
-    let known = c.in_ok-counts.ensures.known tells.told in
-    let some : 1 ≤ t.count = omega (arith, least_some kind, tells.least known) in
+    let counts = c.in_ok-counts.ensures in
+    let known = counts.known tells.told in
     let followed = c.loop-freed.invariant.followed tells in
-    let below = followed_below kind t c.loop-freed.freed from some followed in
-    let in_mid : from < (table_in mid.cells kind info).count = omega (arith, below, count_stays old mid stays kind info c.requires tells.told) in
-    let next = last_word old mid stays kind info c.requires tells known from below c.in_ok-next.next c.link_offset.result c.link_offset.ensures (c.in_ok-next.ensures.word (tells_later old mid stays kind info c.requires tells) in_mid) in
-    room_counted kind t c.loop-freed.freed from (c.saturating_sub.result + c.loop-freed.freed) followed (sym next ∙ c.if-next-eq0.true)
-    (rw (c.saturating_sub.ensures, c.in_ok-counts.ensures.count tells.told, c.in_ok-counts.ensures.most tells.told) refl)
+    let next = link_stays old (g.S.Space.state c.loop-freed.space) c.loop-freed.invariant.reads.stays c.args.kind c.args.info c.requires
+    tells known c.loop-freed.from (followed_below followed (some_counted old c.args.kind c.args.info tells known)) c.in_ok-next.next
+    c.link_offset.result c.link_offset.ensures c.in_ok-next.ensures.word in
+    room_counted followed (c.saturating_sub.result + c.loop-freed.freed) (sym next ∙ c.if-next-eq0.true)
+    (rw (c.saturating_sub.ensures, counts.count tells.told, counts.most tells.told) refl)
 
 pub returns-then-next-eq0-clause-reads : goal.returns-then-next-eq0-clause-reads
 returns-then-next-eq0-clause-reads g c =
     let space = g.S.Space in
-    Reads-join space.state space.keeps space.lands g.met.S.Space.keeps_join c.args.space.now c.loop-freed.space c.entry_word.new.space None c.loop-freed.invariant.reads c.in_ok-next.ensures.reads
+    Reads-join space.state space.keeps space.lands g.met.S.Space.keeps_join c.args.space.now c.loop-freed.space c.entry_word.new.space
+    None c.loop-freed.invariant.reads c.in_ok-next.ensures.reads
 
 pub returns-then-next-least_freed-clause-reads : goal.returns-then-next-least_freed-clause-reads
 returns-then-next-least_freed-clause-reads g c =
     let space = g.S.Space in
     rw c.names_wrongly.ensures
-    (Reads-join space.state space.keeps space.lands g.met.S.Space.keeps_join c.args.space.now c.loop-freed.space c.entry_word.new.space None c.loop-freed.invariant.reads c.in_ok-next.ensures.reads)
+    (Reads-join space.state space.keeps space.lands g.met.S.Space.keeps_join c.args.space.now c.loop-freed.space c.entry_word.new.space
+    None c.loop-freed.invariant.reads c.in_ok-next.ensures.reads)
 
 pub returns-then-next-least_freed-clause-cause : goal.returns-then-next-least_freed-clause-cause
 returns-then-next-least_freed-clause-cause g c =
     let old = g.S.Space.state c.args.space.now in
-    let mid = g.S.Space.state c.loop-freed.space in
     let kind = c.args.kind in
-    let info = c.args.info in
-    let t = table_in old.cells kind info in
-    let from = c.loop-freed.from in
-    let stays = c.loop-freed.invariant.reads.stays in
+    let t = table_in old.cells kind c.args.info in
     rw c.names_wrongly.ensures
-    (broken_cause old kind info _ _ (table_number kind) from
+    (broken_cause old kind c.args.info _ _ (table_number kind) c.loop-freed.from
     (λ tells. (
       refl,
-      (let known = c.in_ok-counts.ensures.known tells.told in
-          let some : 1 ≤ t.count = omega (arith, least_some kind, tells.least known) in
+      (let counts = c.in_ok-counts.ensures in
+          let known = counts.known tells.told in
           let followed = c.loop-freed.invariant.followed tells in
-          let below = followed_below kind t c.loop-freed.freed from some followed in
-          let in_mid : from < (table_in mid.cells kind info).count = omega (arith, below, count_stays old mid stays kind info c.requires tells.told) in
-          let next = last_word old mid stays kind info c.requires tells known from below c.in_ok-next.next c.link_offset.result c.link_offset.ensures (c.in_ok-next.ensures.word (tells_later old mid stays kind info c.requires tells) in_mid) in
-          let counted = c.in_ok-counts.ensures.count tells.told in
+          let next = link_stays old (g.S.Space.state c.loop-freed.space) c.loop-freed.invariant.reads.stays kind c.args.info c.requires
+          tells known c.loop-freed.from (followed_below followed (some_counted old kind c.args.info tells known)) c.in_ok-next.next
+          c.link_offset.result c.link_offset.ensures c.in_ok-next.ensures.word in
+          let counted = counts.count tells.told in
           let cannot : ¬ CanBeFreed kind t c.in_ok-next.next = λ can.
           elim c.then-next-least_freed.branch [
             | then-next-least_freed-via-then-next-least_freed w ↦ omega (arith, can.0, w.if-next-least_freed.true, c.least_freed.ensures)
             | then-next-least_freed-via-else-next-least_freed+then-next-counts w ↦ omega (arith, can.1, w.if-next-counts.true, counted)
           ]
           in
-          wrong_number kind t c.loop-freed.freed from c.in_ok-next.next followed next c.if-next-eq0.false cannot),
+          wrong_number followed c.in_ok-next.next next c.if-next-eq0.false cannot),
     )))
 
 pub loop-freed-preserved : goal.loop-freed-preserved
 loop-freed-preserved g c =
     let space = g.S.Space in
     let old = space.state c.args.space.now in
-    let mid = space.state c.loop-freed.space in
-    let kind = c.args.kind in
-    let info = c.args.info in
-    let t = table_in old.cells kind info in
-    let from = c.loop-freed.from in
-    let stays = c.loop-freed.invariant.reads.stays in
+    let before = c.loop-freed.invariant in
     record {
-      reads = Reads-join space.state space.keeps space.lands g.met.S.Space.keeps_join c.args.space.now c.loop-freed.space c.entry_word.new.space None c.loop-freed.invariant.reads c.in_ok-next.ensures.reads;
+      reads = Reads-join space.state space.keeps space.lands g.met.S.Space.keeps_join c.args.space.now c.loop-freed.space
+          c.entry_word.new.space None before.reads c.in_ok-next.ensures.reads;
       followed = λ tells.
-          (let known = c.in_ok-counts.ensures.known tells.told in
-          let some : 1 ≤ t.count = omega (arith, least_some kind, tells.least known) in
-          let followed = c.loop-freed.invariant.followed tells in
-          let below = followed_below kind t c.loop-freed.freed from some followed in
-          let in_mid : from < (table_in mid.cells kind info).count = omega (arith, below, count_stays old mid stays kind info c.requires tells.told) in
-          let next = last_word old mid stays kind info c.requires tells known from below c.in_ok-next.next c.link_offset.result c.link_offset.ensures (c.in_ok-next.ensures.word (tells_later old mid stays kind info c.requires tells) in_mid) in
-          HasFollowed-more kind t c.loop-freed.freed from c.in_ok-next.next followed next c.if-next-eq0.false
-          (omega (arith, c.if-next-least_freed.false, c.least_freed.ensures), omega (arith, c.if-next-counts.false, c.in_ok-counts.ensures.count tells.told)));
+          (let counts = c.in_ok-counts.ensures in
+          let known = counts.known tells.told in
+          let followed = before.followed tells in
+          let next = link_stays old (space.state c.loop-freed.space) before.reads.stays c.args.kind c.args.info c.requires tells known
+          c.loop-freed.from (followed_below followed (some_counted old c.args.kind c.args.info tells known)) c.in_ok-next.next
+          c.link_offset.result c.link_offset.ensures c.in_ok-next.ensures.word in
+          HasFollowed-more followed c.in_ok-next.next next c.if-next-eq0.false (
+            omega (arith, c.if-next-least_freed.false, c.least_freed.ensures),
+            omega (arith, c.if-next-counts.false, counts.count tells.told),
+          ));
     }
 
 pub returns-clause-cause : goal.returns-clause-cause
 returns-clause-cause g c =
     let old = g.S.Space.state c.args.space.now in
     let kind = c.args.kind in
-    let info = c.args.info in
-    let t = table_in old.cells kind info in
     rw c.names_wrongly-2.ensures
-    (broken_cause old kind info _ _ (table_number kind) c.loop-freed.from
+    (broken_cause old kind c.args.info _ _ (table_number kind) c.loop-freed.from
     (λ tells. (
       refl,
-      (let some : 1 ≤ t.count = omega (arith, least_some kind, tells.least (c.in_ok-counts.ensures.known tells.told)) in
-          named_before kind t c.loop-freed.freed c.loop-freed.from (c.loop-freed.invariant.followed tells) (omega (arith, c.loop-freed-test.false, c.in_ok-counts.ensures.count tells.told)) some),
+      (let counts = c.in_ok-counts.ensures in
+          named_before (c.loop-freed.invariant.followed tells) (omega (arith, c.loop-freed-test.false, counts.count tells.told))
+          (some_counted old kind c.args.info tells (counts.known tells.told))),
     )))

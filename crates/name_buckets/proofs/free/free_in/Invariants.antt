@@ -1,6 +1,6 @@
 use Rattle.std.proofs.Common.{None}
 use Rattle.save_bytes.specs.Reads.{Reads}
-use Rattle.name_buckets.specs.Layout.{TellsTable}
+use Rattle.name_buckets.specs.Layout.{TellsEntryTable}
 use Rattle.name_buckets.specs.Tables.{table_in}
 use Rattle.name_buckets.proofs.FreeLemmas.{HasFollowed}
 use Rattle.name_buckets.proofs.free.free_in.Given as goal
@@ -8,6 +8,6 @@ use Rattle.name_buckets.proofs.free.free_in.Given as goal
 abbrev pub invariant-loop-freed : goal.invariant-loop-freed
 invariant-loop-freed g l = record {
   reads : Reads g.S.Space.state g.S.Space.keeps g.S.Space.lands l.fn.space l.space None;
-  followed : TellsTable (g.S.Space.state l.fn.space) l.kind l.info
+  followed : TellsEntryTable (g.S.Space.state l.fn.space) l.kind l.info
       → HasFollowed l.kind (table_in (g.S.Space.state l.fn.space).cells l.kind l.info) l.freed l.from;
 }
