@@ -42,10 +42,6 @@ module _ (table : ℕ → ℕ → Cell) (count : ℕ) where
   AreNodes-append lead (x ∷ xs) ys next h k =
       (rw (start_of-append xs ys next) h.0, AreNodes-append (Follows x.first) xs ys next h.1 k)
 
-  start_inside : (lead : Lead) (nodes : List Node) (next : ℕ) → next ≤ count → AreNodes table count lead nodes next → start_of nodes next ≤ count
-  start_inside lead [] next inside h = inside
-  start_inside lead (node ∷ nodes) next inside h = omega (arith, h.0.ordered, h.0.ends)
-
   module _ (lead : Lead) (first : ℕ) where
     -- a cursor before the first node
     unfoldable pub reached_start : (cursor : Cursor) → first ≤ count → cursor.lead ≡ lead → cursor.next ≡ first
@@ -125,10 +121,6 @@ module _ (table : ℕ → ℕ → Cell) (count : ℕ) where
       block = omega (arith, rest.before, rest.block);
       last = omega (arith, rest.last);
     }
-
-    -- what is named first lies in the table
-    pub reached_first : (cursor : Cursor) → IsReached table count lead first cursor → first ≤ count
-    reached_first cursor reached = omega (arith, reached.starts, start_inside lead reached.nodes cursor.next reached.named reached.linked)
 
     fails_at : (cursor : Cursor) → IsReached table count lead first cursor → IsEntry count cursor.next → (entry : ℕ)
         → IsFaulty table count cursor.lead cursor.next entry → FailsAt table count lead first entry

@@ -7,6 +7,7 @@ use Rattle.save_bytes.specs.Cells.{IsUnspoilt}
 use Rattle.save_bytes.specs.State.{State, CanPut}
 use Rattle.save_bytes.specs.Answers.{IsReady}
 use Rattle.save_bytes.specs.Refusals.{NeverDamaged}
+use Rattle.save_bytes.specs.Stays.{Stays}
 use Rattle.save_bytes.specs.Puts.{Puts}
 use Rattle.save_bytes.specs.Spots.{Spot, Frame, Hold, MovesOnly}
 use Rattle.save_bytes.specs.Reads.{Reads}
@@ -16,7 +17,7 @@ use Rattle.alloc_chain.specs.declared.info.ChainInfo.{ChainInfo}
 use Rattle.alloc_chain.specs.declared.space.Shown.{Shown}
 use Rattle.alloc_chain.specs.Shown.{can_show, place_of, shown_state, ShownLands, IsLocatedRun}
 use Rattle.alloc_chain.specs.ShownLaws.{CanShow, can_show-facts, with_blocks}
-use Rattle.alloc_chain.proofs.ViewLemmas.{base_told, view_reach, can_below, put_list, view_puts}
+use Rattle.alloc_chain.proofs.ViewLemmas.{base_told, shown_room, view_stays, view_reach, can_below, put_list, view_puts}
 
 -- an answer on a range that lies side by side in the base
 pub view_ready : (base : State) (info : ChainInfo) (first blocks at n place : ℕ) (refusal : Option Bad)
@@ -43,6 +44,17 @@ view_ready base info first blocks at n place (Some (Damaged part level block)) p
       });
   plain = h.plain;
 }
+
+-- an answer on a run, given after calls that read
+pub ready_later : (old now mid : State) (shown : Shown) (at most place n : ℕ) (refusal : Option Bad)
+    → IsTrue (with_blocks shown old).shape.sound → IsLocatedRun now shown.info shown.first shown.blocks at most (Ok (place, n))
+    → Stays old now None → Stays now mid None → at + n ≤ (with_blocks shown old).shape.size → IsReady mid place n refusal
+    → IsReady (with_blocks shown old) at n refusal
+ready_later old now mid shown at most place n refusal sound run first second fits h =
+    IsReady-before (with_blocks shown old) (with_blocks shown now) at n refusal fits
+    (view_stays old now shown.info shown.first shown.blocks (shown_room old shown sound) None first)
+    (view_ready now shown.info shown.first shown.blocks at n place refusal run.places
+    (IsReady-before now mid place n refusal run.in_base second h))
 
 -- a put of the front of some bytes into the base at m, after a call that read from a on
 module _ {A : Type 0} (states : A → State) (keeps : Spot → A → A → Type 0) (lands : A → ℕ → Spot → Type 0)

@@ -178,10 +178,6 @@ module _ (block : ℕ) (some : 0 < block) where
       let whole : at + k ≡ at / block * block + (at % block + k) = omega (arith, div-add-mod' at block) in
       rw whole (mul-add-mod_self_right (at / block) block (at % block + k))
 
-  -- so many blocks, and one byte of the last
-  pub run_end : (b len count : ℕ) → b + len ≤ count → b * block + len * block ≤ count * block
-  run_end b len count fits = omega (arith, mul-le-mul_right block fits)
-
 sum : (region b j block skipped k m : ℕ) → j * block + m ≡ skipped + k → region + (b + j + 1 - 1) * block + m ≡ region + b * block + skipped + k
 sum region b j block skipped k m is =
     let one : b + j + 1 - 1 ≡ b + j = omega arith in

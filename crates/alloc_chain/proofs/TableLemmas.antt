@@ -1,10 +1,10 @@
 -- The words of the table, read in a space.
-use Rattle.std.proofs.Common.{◌≡◌, ℕ, ◌+◌, ◌-◌, ◌*◌, ◌<◌, ◌≤◌, min, IsTrue, sym, ap, subst, arith, ⊎_elim}
+use Rattle.std.proofs.Common.{◌≡◌, ℕ, ◌+◌, ◌-◌, ◌*◌, ◌<◌, ◌≤◌, min, IsTrue, sym, ap, arith, ⊎_elim}
 use Rattle.std.proofs.lemmas.Bool.{cases_lt}
 use Rattle.save_bytes.specs.Fields.{number_at}
 use Rattle.save_bytes.specs.Cells.{Cell, IsByte}
 use Rattle.save_bytes.specs.CellNumbers.{number_in}
-use Rattle.save_bytes.specs.State.{State, Shape}
+use Rattle.save_bytes.specs.State.{State}
 use Rattle.save_bytes.specs.Answers.{IsFirstFault}
 use Rattle.save_bytes.specs.Stays.{Stays}
 use Rattle.save_bytes.proofs.CellLemmas.{bytes_in-same}
@@ -34,9 +34,6 @@ table_same old new info size fits same = λ i. λ entry k. same (info.table_at +
 pub table_stays : (s t : State) (info : ChainInfo) → HasAllocationTable s.shape info → Stays s t None → IsTrue s.told
     → table_in t.cells info ≡ table_in s.cells info
 table_stays s t info table stays told = table_same s.cells t.cells info s.shape.size table.table (stays.cells told)
-
-pub has_table_stays : (s t : State) (info : ChainInfo) → HasAllocationTable s.shape info → t.shape ≡ s.shape → HasAllocationTable t.shape info
-has_table_stays s t info table same = subst (λ (shape : Shape). HasAllocationTable shape info) (sym same) table
 
 module _ (cells : ℕ → Cell) (info : ChainInfo) (entry at : ℕ) (inside : entry ≤ info.count) (place : at ≡ info.table_at + 8 * entry) where
   pub word_u-is : number_in 4 cells at ≡ word_u (table_in cells info) entry

@@ -1,5 +1,5 @@
 -- A space behind which a chain's blocks are shown, where its base stays or is put to.
-use Rattle.std.proofs.Common.{◌≡◌, ◌≢◌, ℕ, zero, suc, ◌+◌, ◌-◌, ◌*◌, ◌/◌, ◌<◌, ◌≤◌, min, Bool, true, false, ◌&&◌, ◌||◌, eqb, ltb, cond, IsTrue, List, [], length, get_or, unwrap_or, Option, Some, None, Ok, refl, sym, ◌∙◌, ap, subst, arith, ⊎_elim}
+use Rattle.std.proofs.Common.{◌≡◌, ◌≢◌, ℕ, zero, suc, ◌+◌, ◌-◌, ◌*◌, ◌/◌, ◌<◌, ◌≤◌, min, Bool, true, false, ◌&&◌, ◌||◌, eqb, ltb, cond, IsTrue, List, [], length, get_or, unwrap_or, Option, Some, None, Ok, refl, sym, ◌∙◌, ap, subst, arith, ⊎_elim, ◌^◌, MatchOption, IsSomeAnd}
 use Rattle.std.proofs.lemmas.Bool.{and_parts, and_from, cases_lt, cases_Bool, lt-ltb, le-ltb, le-leb, eq-eqb, false≢true}
 use Rattle.std.proofs.Math.Bool.{and-true}
 use Rattle.std.proofs.lemmas.Nat.{mod_below}
@@ -17,14 +17,21 @@ use Rattle.save_bytes.proofs.SpaceLemmas.{UnlessDisk-map, UnlessDisk-both}
 use Rattle.save_bytes.proofs.WriteLemmas.{byte_stays}
 use Rattle.save_bytes.proofs.ViewLemmas.{Shows, IsRun, shown_put}
 use Rattle.alloc_chain.specs.declared.info.ChainInfo.{ChainInfo}
+use Rattle.alloc_chain.specs.declared.info.Run.{Run}
+use Rattle.alloc_chain.specs.declared.space.Shown.{Shown}
+use Rattle.alloc_chain.specs.declared.fault.ChainFault.{ChainFault}
+use Rattle.alloc_chain.specs.declared.fault.ChainFault.TheVariants.{Bad as Refused}
+use Rattle.alloc_chain.specs.Faults.{FailsAt, IsBroken, FaultsOnly}
+use Rattle.alloc_chain.specs.Runs.{HasLength, HasPosition, IsRunIn, IsRestOfNode}
+use Rattle.alloc_chain.proofs.ExactLemmas.{linked_first, same_list}
 use Rattle.alloc_chain.specs.declared.node.Lead.TheVariants.{Opens}
 use Rattle.alloc_chain.specs.Table.{table_in, HasAllocationTable}
 use Rattle.alloc_chain.specs.Bounded.{some_passes}
 use Rattle.alloc_chain.specs.Walks.{list_in, has_length}
 use Rattle.alloc_chain.specs.Shown.{found_list, chain_list, is_shown, block_place, is_in_table, is_kept, place_of, shown_state, ShownLands, IsLocatedRun}
 use Rattle.alloc_chain.proofs.TableLemmas.{table_same}
-use Rattle.alloc_chain.specs.ShownLaws.{CanShow}
-use Rattle.alloc_chain.proofs.ShownLemmas.{IsShown, is_shown-true, list_entry, linked-found, linked_stays, block_inside, block_some}
+use Rattle.alloc_chain.specs.ShownLaws.{CanShow, can_show-facts, with_blocks}
+use Rattle.alloc_chain.proofs.ShownLemmas.{IsShown, found_run, shown_fault, is_shown-true, list_entry, linked-found, linked_stays, block_inside, block_some}
 
 each_below : (n : ℕ) (f g : ℕ → Bool) → ((k : ℕ) → k < n → g k ≡ f k) → some_passes n g ≡ some_passes n f
 unfolding some_passes
@@ -134,6 +141,38 @@ base_told base info first blocks told = (and_parts base.told (is_shown base info
 pub chain_told : (base : State) (info : ChainInfo) (first blocks : ℕ) → IsTrue (shown_state info first blocks base).told
     → IsShown base info first blocks
 chain_told base info first blocks told = is_shown-true base info first blocks (and_parts base.told (is_shown base info first blocks) told).1
+
+-- the facts that a view needs of its base
+pub shown_room : (base : State) (shown : Shown) → IsTrue (with_blocks shown base).shape.sound → CanShow base.shape shown.info shown.blocks
+shown_room base shown sound = can_show-facts base.shape shown.info shown.blocks sound
+
+-- where the view is told, a call on its chain is done, or fails for the disk's sake
+module _ (base : State) (shown : Shown) (sound : IsTrue (with_blocks shown base).shape.sound) (told : IsTrue (with_blocks shown base).told) where
+  few : shown.info.count < 2 ^ 31
+  few = (shown_room base shown sound).table.few
+
+  chain : IsShown base shown.info shown.first shown.blocks
+  chain = chain_told base shown.info shown.first shown.blocks told
+
+  pub told_first : shown.first ≤ shown.info.count
+  told_first = linked_first (table_in base.cells shown.info) shown.info.count few Opens shown.first chain.list chain.linked
+
+  pub told_length : (n : ℕ) → HasLength (table_in base.cells shown.info) shown.info.count Opens shown.first n → shown.blocks ≤ n
+  told_length n len =
+      let same = same_list (table_in base.cells shown.info) shown.info.count few Opens shown.first chain.list chain.linked len.0 len.1 in
+      omega (arith, len.2, ap length same, chain.enough)
+
+  pub told_run : (pos : ℕ) (found : Option Run) → pos < shown.blocks
+      → MatchOption found (¬ HasPosition (table_in base.cells shown.info) shown.info.count Opens shown.first pos)
+      (IsRestOfNode (table_in base.cells shown.info) shown.info.count Opens shown.first pos)
+      → IsSomeAnd found (IsRunIn (chain_list base shown.info shown.first) pos)
+  told_run pos found inside = found_run base shown.info shown.first shown.blocks pos found few chain inside
+
+  pub told_fault : (fault : ChainFault) → FaultsOnly base shown.info
+      (IsBroken (table_in base.cells shown.info) shown.info.count Opens shown.first)
+      (FailsAt (table_in base.cells shown.info) shown.info.count Opens shown.first) (Some fault) → fault ≡ Refused Disk
+  told_fault fault = shown_fault base shown.info shown.first shown.blocks fault few chain
+      (base_told base shown.info shown.first shown.blocks told)
 
 -- the list stays where the cells do
 found_stays : (old new : State) (info : ChainInfo) (first : ℕ) → HasAllocationTable old.shape info → new.shape ≡ old.shape → SameCells old new
@@ -320,7 +359,3 @@ module _ (old new : State) (info : ChainInfo) (first blocks at most place n : �
     done = λ can. put_done can refusal puts;
     damaged = λ can. put_damaged can refusal puts;
   }
-
--- room stays
-pub room_stays : (old new : Shape) (info : ChainInfo) (blocks : ℕ) → CanShow old info blocks → new ≡ old → CanShow new info blocks
-room_stays old new info blocks room same = subst (λ (shape : Shape). CanShow shape info blocks) (sym same) room

@@ -1,14 +1,24 @@
 use Rattle.std.proofs.Common.{◌≡◌, ℕ, ◌+◌, IsTrue, Some, None, subst}
 use Rattle.save_bytes.specs.Cells.{Cell}
 use Rattle.save_bytes.proofs.CallLemmas.{Reads-join}
-use Rattle.save_bytes.proofs.SpaceLemmas.{Stays-join}
+use Rattle.save_bytes.specs.Reads.{Reads}
 use Rattle.alloc_chain.specs.Table.{table_in, word_v, HasWords}
 use Rattle.alloc_chain.specs.Chains.{IsInner}
 use Rattle.alloc_chain.specs.Faults.{IsSecond, refusal_of}
 use Rattle.alloc_chain.proofs.TableLemmas.{table_stays}
 use Rattle.alloc_chain.proofs.FaultLemmas.{FaultsOnly-later}
 use Rattle.alloc_chain.proofs.NodeLemmas.{long_node, second_fault, last_fault}
+use Rattle.alloc_chain.proofs.node.read_node.Given.{Over}
+use Rattle.alloc_chain.proofs.node.read_node.Goals.{In-Ok-read_second}
 use Rattle.alloc_chain.proofs.node.read_node.Goals as goal
+
+-- the calls on the first entry and on the second
+both : (g : Over) (c : In-Ok-read_second g)
+    → Reads g.S.Space.state g.S.Space.keeps g.S.Space.lands c.args.base.now c.read_second.new.base None
+both g c =
+    let space = g.S.Space in
+    Reads-join space.state space.keeps space.lands g.met.S.Space.keeps_join c.args.base.now c.read_head.new.base
+    c.read_second.new.base None c.in-Ok.ensures.reads c.in-Ok-read_second.ensures.reads
 
 pub returns-in-Err-read_second-clause-faults : goal.returns-in-Err-read_second-clause-faults
 returns-in-Err-read_second-clause-faults g c =
@@ -34,13 +44,13 @@ returns-in-Ok-read_last-clause-node g c = λ told.
     let late = g.S.Space.state c.read_second.new.base in
     let info = c.args.info in
     let stays = c.in-Ok.ensures.reads.stays in
-    let both = Stays-join old mid late None stays c.in-Ok-read_second.ensures.reads.stays in
+    let behind = (both g (goal.at.returns-in-Ok-read_last-clause-node g c).In-Ok-read_second).stays in
     let mid_same = table_stays old mid info c.requires.table stays told in
-    let late_same = table_stays old late info c.requires.table both told in
+    let late_same = table_stays old late info c.requires.table behind told in
     let head = c.in-Ok.ensures.head told in
     let second = c.in-Ok-read_second.ensures.second (stays.space.told told) in
     let last = c.in-Ok-read_second.last in
-    let inner = c.in-Ok-read_last.ensures.last (both.space.told told) in
+    let inner = c.in-Ok-read_last.ensures.last (behind.space.told told) in
     long_node (table_in old.cells info) info.count c.args.lead c.args.first last c.in-Ok.v c.requires.entry.some
     (c.in-Ok.ensures.flag c.if-v-lt-FLAG.false) head.0 head.1
     (subst (λ (t : ℕ → ℕ → Cell). IsSecond t info.count c.args.first) mid_same second.0)
@@ -50,10 +60,8 @@ returns-in-Ok-read_last-clause-node g c = λ told.
 pub returns-in-Ok-read_last-clause-reads : goal.returns-in-Ok-read_last-clause-reads
 returns-in-Ok-read_last-clause-reads g c =
     let space = g.S.Space in
-    let join = Reads-join space.state space.keeps space.lands g.met.S.Space.keeps_join in
-    join c.args.base.now c.read_second.new.base c.read_last.new.base None
-    (join c.args.base.now c.read_head.new.base c.read_second.new.base None c.in-Ok.ensures.reads
-    c.in-Ok-read_second.ensures.reads) c.in-Ok-read_last.ensures.reads
+    Reads-join space.state space.keeps space.lands g.met.S.Space.keeps_join c.args.base.now c.read_second.new.base c.read_last.new.base
+    None (both g (goal.at.returns-in-Ok-read_last-clause-reads g c).In-Ok-read_second) c.in-Ok-read_last.ensures.reads
 
 pub returns-in-Err-read_last-clause-faults : goal.returns-in-Err-read_last-clause-faults
 returns-in-Err-read_last-clause-faults g c =
@@ -63,7 +71,7 @@ returns-in-Err-read_last-clause-faults g c =
     let info = c.args.info in
     let table = c.requires.table in
     let stays = c.in-Ok.ensures.reads.stays in
-    let both = Stays-join old mid late None stays c.in-Ok-read_second.ensures.reads.stays in
+    let behind = (both g (goal.at.returns-in-Err-read_last-clause-faults g c).In-Ok-read_second).stays in
     let last = c.in-Ok-read_second.last in
     let fault = λ (told : IsTrue old.told) (e : ℕ) (is : e ≡ last)
     (isnt : ¬ IsInner (table_in late.cells info) (record { first = c.args.first; last = last }) last).
@@ -71,16 +79,15 @@ returns-in-Err-read_last-clause-faults g c =
     let second = c.in-Ok-read_second.ensures.second (stays.space.told told) in
     last_fault (table_in old.cells info) (table_in mid.cells info) (table_in late.cells info) info.count c.args.lead
     c.args.first c.in-Ok.v last (table_stays old mid info table stays told)
-    (table_stays old late info table both told) head.0 head.1 c.if-v-lt-FLAG.false second.0 second.1 e is isnt) in
-    FaultsOnly-later old late info (Some c.in-Err-read_last.fault) table both
-    (λ told e breaks. (subst (λ (t : ℕ → ℕ → Cell). HasWords t e) (table_stays old late info table both told) breaks.0, fault told e breaks.1 breaks.2))
+    (table_stays old late info table behind told) head.0 head.1 c.if-v-lt-FLAG.false second.0 second.1 e is isnt) in
+    FaultsOnly-later old late info (Some c.in-Err-read_last.fault) table behind
+    (λ told e breaks. (subst (λ (t : ℕ → ℕ → Cell). HasWords t e) (table_stays old late info table behind told) breaks.0, fault told e breaks.1 breaks.2))
     (λ told e needs. fault told e needs.0 needs.1)
     c.in-Err-read_last.ensures.faults
 
 pub returns-in-Err-read_last-clause-reads : goal.returns-in-Err-read_last-clause-reads
 returns-in-Err-read_last-clause-reads g c =
     let space = g.S.Space in
-    let join = Reads-join space.state space.keeps space.lands g.met.S.Space.keeps_join in
-    join c.args.base.now c.read_second.new.base c.read_last.new.base (refusal_of (Some c.in-Err-read_last.fault))
-    (join c.args.base.now c.read_head.new.base c.read_second.new.base None c.in-Ok.ensures.reads
-    c.in-Ok-read_second.ensures.reads) c.in-Err-read_last.ensures.reads
+    Reads-join space.state space.keeps space.lands g.met.S.Space.keeps_join c.args.base.now c.read_second.new.base c.read_last.new.base
+    (refusal_of (Some c.in-Err-read_last.fault)) (both g (goal.at.returns-in-Err-read_last-clause-reads g c).In-Ok-read_second)
+    c.in-Err-read_last.ensures.reads

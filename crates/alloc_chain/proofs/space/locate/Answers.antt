@@ -3,7 +3,7 @@ use Rattle.std.proofs.lemmas.Bool.{lt-ltb}
 use Rattle.alloc_chain.specs.Shown.{place_of}
 use Rattle.save_bytes.specs.State.{State}
 use Rattle.alloc_chain.specs.declared.info.ChainInfo.{ChainInfo}
-use Rattle.alloc_chain.specs.ShownLaws.{can_show-facts}
+use Rattle.alloc_chain.proofs.ViewLemmas.{shown_room}
 use Rattle.alloc_chain.proofs.space.locate.Goals as goal
 
 place_front : (base : State) (info : ChainInfo) (first x : ℕ) → x < base.shape.size → place_of base info first x ≡ x
@@ -13,8 +13,7 @@ place_front base info first x inside = rw (lt-ltb x base.shape.size inside) refl
 pub returns-then-at-size-clause-located : goal.returns-then-at-size-clause-located
 returns-then-at-size-clause-located g c =
     let base = g.S.Space.state c.args.base.now in
-    let room = can_show-facts base.shape c.args.shown.info c.args.shown.blocks c.requires.inside.sound in
-    let size = c.len-size.ensures room.table.sound in
+    let size = c.len-size.ensures (shown_room (g.S.Space.state c.args.base.now) c.args.shown c.requires.inside.sound).table.sound in
     let run : c.min.result ≡ min c.args.most (base.shape.size - c.args.at) = rw size at c.min.ensures in
     record {
       some = omega (arith, run, size);
@@ -27,23 +26,18 @@ returns-then-at-size-clause-located g c =
 
 pub locate_behind-requires-clause-inside : goal.locate_behind-requires-clause-inside
 locate_behind-requires-clause-inside g c =
-    let base = g.S.Space.state c.args.base.now in
-    let room = can_show-facts base.shape c.args.shown.info c.args.shown.blocks c.requires.inside.sound in
-    let size = c.len-size.ensures room.table.sound in
+    let size = c.len-size.ensures (shown_room (g.S.Space.state c.args.base.now) c.args.shown c.requires.inside.sound).table.sound in
     omega (arith, size, c.requires.inside.inside)
 
 pub overflow_sub-rest-2 : goal.overflow_sub-rest-2
 overflow_sub-rest-2 g c =
-    let base = g.S.Space.state c.args.base.now in
-    let room = can_show-facts base.shape c.args.shown.info c.args.shown.blocks c.requires.inside.sound in
-    let size = c.len-size.ensures room.table.sound in
+    let size = c.len-size.ensures (shown_room (g.S.Space.state c.args.base.now) c.args.shown c.requires.inside.sound).table.sound in
     omega (arith, size, c.requires.inside.inside, c.shown_len.ensures)
 
 pub returns-clause-located : goal.returns-clause-located
 returns-clause-located g c =
     let base = g.S.Space.state c.args.base.now in
-    let room = can_show-facts base.shape c.args.shown.info c.args.shown.blocks c.requires.inside.sound in
-    let size = c.len-size.ensures room.table.sound in
+    let size = c.len-size.ensures (shown_room (g.S.Space.state c.args.base.now) c.args.shown c.requires.inside.sound).table.sound in
     let run = c.in-Ok.ensures in
     record {
       some = omega (arith, run.some, c.min-2.ensures, c.min-3.ensures, size, c.requires.inside.inside, c.shown_len.ensures);

@@ -10,6 +10,8 @@ use Rattle.alloc_chain.specs.Shown.{can_show, ShownLands}
 use Rattle.alloc_chain.specs.ShownLaws.{can_show-facts, with_blocks}
 use Rattle.alloc_chain.proofs.ViewLemmas.{view_stays, view_reads}
 use Rattle.alloc_chain.proofs.PutLemmas.{rest, rest_len, rest_can, rest_never, rest_refused, rest_put, nothing_put}
+use Rattle.alloc_chain.proofs.space.put_shown.Given.{Over}
+use Rattle.alloc_chain.proofs.space.put_shown.Goals.{In-Err-ready_runs}
 use Rattle.alloc_chain.proofs.space.put_shown.Goals as goal
 
 -- two calls that read, in the view
@@ -32,27 +34,29 @@ returns-in-Err-ready_runs-clause-ready g c = λ can.
     c.requires.inside.inside (view_stays old mid shown.info shown.first shown.blocks room None c.in-Ok-true.ensures.reads.stays)
     c.in-Err-ready_runs.ensures.ready
 
+-- the two calls that read, where the second was refused
+refused : (g : Over) (c : In-Err-ready_runs g)
+    → Reads (λ (x : g.row.S.Denot). with_blocks c.args.shown (g.S.Space.state x)) g.S.Space.keeps
+    (ShownLands g.S.Space.state g.S.Space.lands c.args.shown.info c.args.shown.first) c.args.base.now c.ready_runs.new.base
+    (Some c.in-Err-ready_runs.bad)
+refused g c =
+    reads_both g.S.Space.state g.S.Space.keeps g.S.Space.lands g.met.S.Space.keeps_join c.args.base.now c.is_good.new.base
+    c.ready_runs.new.base c.args.shown (Some c.in-Err-ready_runs.bad) c.requires.inside.sound c.in-Ok-true.ensures.reads
+    c.in-Err-ready_runs.ensures.reads
+
 pub returns-in-Err-ready_runs-clause-puts : goal.returns-in-Err-ready_runs-clause-puts
 returns-in-Err-ready_runs-clause-puts g c =
-    let space = g.S.Space in
-    let bad = c.in-Err-ready_runs.bad in
-    let reads = reads_both space.state space.keeps space.lands g.met.S.Space.keeps_join c.args.base.now c.is_good.new.base
-    c.ready_runs.new.base c.args.shown (Some bad) c.requires.inside.sound c.in-Ok-true.ensures.reads c.in-Err-ready_runs.ensures.reads in
-    Puts-unput (with_blocks c.args.shown (space.state c.args.base.now)) (with_blocks c.args.shown (space.state c.ready_runs.new.base))
-    c.args.at c.args.bytes.now bad reads.stays
+    Puts-unput _ _ c.args.at c.args.bytes.now c.in-Err-ready_runs.bad
+    (refused g (goal.at.returns-in-Err-ready_runs-clause-puts g c).In-Err-ready_runs).stays
 
 pub returns-in-Err-ready_runs-clause-moves : goal.returns-in-Err-ready_runs-clause-moves
 returns-in-Err-ready_runs-clause-moves g c =
     let space = g.S.Space in
-    let shown = c.args.shown in
-    let old = c.args.base.now in
-    let new = c.ready_runs.new.base in
-    let bad = Some c.in-Err-ready_runs.bad in
-    MovesOnly-read (λ (x : g.row.S.Denot). with_blocks shown (space.state x)) space.keeps
-    (ShownLands space.state space.lands shown.info shown.first) g.met.S.Space.keeps_join old new c.args.at (length c.args.bytes.now) bad
-    (g.met.S.Space.keeps_hold old new)
-    (reads_both space.state space.keeps space.lands g.met.S.Space.keeps_join old c.is_good.new.base new shown bad
-    c.requires.inside.sound c.in-Ok-true.ensures.reads c.in-Err-ready_runs.ensures.reads)
+    MovesOnly-read (λ (x : g.row.S.Denot). with_blocks c.args.shown (space.state x)) space.keeps
+    (ShownLands space.state space.lands c.args.shown.info c.args.shown.first) g.met.S.Space.keeps_join c.args.base.now
+    c.ready_runs.new.base c.args.at (length c.args.bytes.now) (Some c.in-Err-ready_runs.bad)
+    (g.met.S.Space.keeps_hold c.args.base.now c.ready_runs.new.base)
+    (refused g (goal.at.returns-in-Err-ready_runs-clause-moves g c).In-Err-ready_runs)
 
 pub loop-done-init : goal.loop-done-init
 loop-done-init g c =
