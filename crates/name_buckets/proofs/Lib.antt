@@ -8,4 +8,3 @@ pub mod LookLemmas
 pub mod FreeLemmas
 pub mod HeldLemmas
 pub mod ChildLemmas
-pub mod InOrderLemmas

@@ -8,4 +8,4 @@ pub mod Layout
 pub mod Replies
 pub mod Looks
 pub mod Held
-pub mod InOrder
+pub mod Untold

@@ -1,14 +1,13 @@
-ghost use Rattle.std.specs.Prelude.{refl, ◌≡◌, ◌+◌, ◌<◌, ◌≤◌, length, IsTrue, IfOk, IfSome};
+ghost use Rattle.std.specs.Prelude.{refl, ◌≡◌, ◌<◌, ◌≤◌, length, IfOk, IfSome};
 ghost use Rattle.std.proofs.Common.{lit<};
 ghost use Rattle.std.proofs.lemmas.Bool.{false≢true};
-ghost use Rattle.name_buckets.specs.InOrder.{untold_state};
-ghost use Rattle.name_buckets.specs.InOrder.{HasEntriesBefore, FollowInOrder};
+ghost use Rattle.name_buckets.specs.Untold.{untold_state};
 ghost use Rattle.name_buckets.specs.Rules.{IsOrderly};
 ghost use Rattle.name_buckets.specs.Layout.{HasCounts};
 ghost use Rattle.name_buckets.specs.Held.{space_of, tables_of, place_of, HoldsTables, TellsTableOf};
 
 use super::*;
-use save_bytes::{Bad, MemSpace, Name, Space, set_u32, set_u64, u32_at};
+use save_bytes::{Bad, MemSpace, Name, Space, set_u32, set_u64};
 
 /// Names of one byte.
 const A: Name = Name(*b"a\0\0\0\0\0\0\0\0\0\0\0\0\0\0\0");
@@ -83,39 +82,16 @@ enum Call {
 
 #[derive(Clone, Copy, Debug, PartialEq)]
 enum Reply {
-    NoTables,
     Found(Result<Option<u32>, EntryFault>),
     Number(Result<u32, EntryFault>),
     Named(Result<Name, EntryFault>),
     Fields(Result<FileFields, EntryFault>),
 }
 
-// Whether a table's entries end before a place, and its counts are as they must be.
-fn has_entries(bytes: &[u8], at: usize, size: usize, least: u32, end: usize) -> bool
-    requires counts { at + 8 ≤ length bytes.now }
-    requires near { at < 65536 }
-    requires small { size < 64 }
-    ensures { IsTrue result → HasEntriesBefore bytes.now at size least end }
-{
-    let count = u32_at(bytes, at);
-    let most = u32_at(bytes, at + 4);
-    at + size <= end && at + size * most as usize <= end && least <= count && count <= most
-}
-
-// Whether the two tables follow each other at their places.
-fn are_in_order(bytes: &[u8]) -> bool
-    ensures { IsTrue result → FollowInOrder bytes.now DIRS FILES }
-{
-    bytes.len() >= 1584
-        && has_entries(bytes, 1024, 0x28, 2, 1536)
-        && has_entries(bytes, 1536, 0x30, 1, bytes.len())
-}
-
 /// What a call on the tables in these bytes answers.
-fn reply_to(bytes: &mut [u8], call: Call) -> Reply {
-    if !are_in_order(bytes) {
-        return Reply::NoTables;
-    }
+fn reply_to(bytes: &mut [u8], call: Call) -> Reply
+    requires { 1584 ≤ length bytes.old }
+{
     let mut space = MemSpace::new(bytes, 512);
     let mut entries = Entries::new(&mut space, DIRS, FILES);
     answer(&mut entries, call)

@@ -1,4 +1,4 @@
-use Rattle.std.proofs.Common.{◌≡◌, ◌+◌, ◌*◌, ◌<◌, ◌≤◌, ℕ, List, Some, None, refl, sym, ◌∙◌, arith}
+use Rattle.std.proofs.Common.{◌≡◌, ◌+◌, ◌*◌, ◌<◌, ◌≤◌, Some, None, refl, sym, ◌∙◌, arith}
 use Rattle.save_bytes.proofs.CallLemmas.{Reads-join}
 use Rattle.save_bytes.proofs.SpaceLemmas.{IfDamaged-map}
 use Rattle.name_buckets.specs.Hash.{bucket_number}
@@ -10,12 +10,13 @@ use Rattle.name_buckets.proofs.StayLemmas.{head_stays, HasEntryTable-stays, entr
 use Rattle.name_buckets.proofs.CauseLemmas.{passed_on, bad_cause, broken_cause, plain_stays}
 use Rattle.name_buckets.proofs.FindLemmas.{HasPassed-none, HasPassed-more, passed_stands, match_found, none_found, broken_past, broken_long}
 use Rattle.name_buckets.proofs.LookLemmas.{look_stays}
+use Rattle.name_buckets.proofs.find.find_in.Given.{Over}
+use Rattle.name_buckets.proofs.find.find_in.Goals.{After-bucket-number}
 use Rattle.name_buckets.proofs.find.find_in.Goals as goal
 
 -- the bucket is one of the table's
-own_below : (parent : ℕ) (name : List ℕ) (buckets number : ℕ) → number ≡ bucket_number parent name buckets → number < buckets
-    → bucket_number parent name buckets < buckets
-own_below parent name buckets number is below = rw (sym is) below
+own_below : (g : Over) (c : After-bucket-number g) → bucket_number c.args.parent c.args.name.now.0 c.args.info.buckets < c.args.info.buckets
+own_below g c = rw (sym c.bucket-number.ensures.number) c.bucket-number.ensures.below
 
 pub returns-in_err-entry-clause-reads : goal.returns-in_err-entry-clause-reads
 returns-in_err-entry-clause-reads g c =
@@ -55,7 +56,7 @@ loop-step-init g c =
     let info = c.args.info in
     let number = c.bucket-number.ensures in
     let own = bucket_number c.args.parent c.args.name.now.0 info.buckets in
-    let below = own_below c.args.parent c.args.name.now.0 info.buckets c.bucket-number.result number.number number.below in
+    let below = own_below g (goal.at.loop-step-init g c).After-bucket-number in
     let there : info.buckets_at + 4 * c.from.result ≡ bucket_place info own = rw (c.from.ensures, number.number) refl in
     record {
       reads = Reads-join space.state space.keeps space.lands g.met.S.Space.keeps_join c.args.space.now c.read_counts.new.space
@@ -66,15 +67,14 @@ loop-step-init g c =
 
 pub returns-then-entry-eq0-clause-found : goal.returns-then-entry-eq0-clause-found
 returns-then-entry-eq0-clause-found g c = λ tells lists.
-    let number = c.bucket-number.ensures in
     none_found (rw c.if-entry-eq0.true at c.loop-step.invariant.passed tells) refl
-    (own_below c.args.parent c.args.name.now.0 c.args.info.buckets c.bucket-number.result number.number number.below) lists
+    (own_below g (goal.at.returns-then-entry-eq0-clause-found g c).After-bucket-number) lists
 
 pub returns-then-entry-count-clause-cause : goal.returns-then-entry-count-clause-cause
 returns-then-entry-count-clause-cause g c =
     let old = g.S.Space.state c.args.space.now in
     let number = c.bucket-number.ensures in
-    let below = own_below c.args.parent c.args.name.now.0 c.args.info.buckets c.bucket-number.result number.number number.below in
+    let below = own_below g (goal.at.returns-then-entry-count-clause-cause g c).After-bucket-number in
     broken_cause old c.args.kind c.args.info _ _ c.bucket_table.result c.bucket-number.result
     (λ tells. (
       c.bucket_table.ensures,
@@ -95,8 +95,7 @@ returns-in_err-look_at-clause-cause g c =
     let kind = c.args.kind in
     let info = c.args.info in
     let own = bucket_number c.args.parent c.args.name.now.0 info.buckets in
-    let number = c.bucket-number.ensures in
-    let below = own_below c.args.parent c.args.name.now.0 info.buckets c.bucket-number.result number.number number.below in
+    let below = own_below g (goal.at.returns-in_err-look_at-clause-cause g c).After-bucket-number in
     let e = c.loop-step.entry in
     let bad = c.in_err-look_at.field-0.0 in
     let stays = c.loop-step.invariant.reads.stays in
@@ -124,8 +123,7 @@ returns-in-Found-clause-found g c = λ tells lists.
     let old = g.S.Space.state c.args.space.now in
     let mid = g.S.Space.state c.loop-step.space in
     let counts = c.in_ok-count.ensures in
-    let number = c.bucket-number.ensures in
-    let below = own_below c.args.parent c.args.name.now.0 c.args.info.buckets c.bucket-number.result number.number number.below in
+    let below = own_below g (goal.at.returns-in-Found-clause-found g c).After-bucket-number in
     let look = rw c.in-Found.is at (look_stays old mid c.loop-step.invariant.reads.stays c.args.kind c.args.info c.requires tells
     (counts.known tells.told) c.loop-step.entry (omega (arith, c.if-entry-count.false, counts.count tells.told)) c.args.parent
     c.args.name.now.0 _ c.in_ok-look_at.ensures.look) in
@@ -161,7 +159,7 @@ returns-clause-cause g c =
     let info = c.args.info in
     let t = table_in old.cells kind info in
     let number = c.bucket-number.ensures in
-    let below = own_below c.args.parent c.args.name.now.0 info.buckets c.bucket-number.result number.number number.below in
+    let below = own_below g (goal.at.returns-clause-cause g c).After-bucket-number in
     broken_cause old kind info _ _ c.bucket_table.result c.bucket-number.result
     (λ tells. (
       c.bucket_table.ensures,

@@ -1,12 +1,15 @@
-use Rattle.std.proofs.Common.{ℕ, List, sym, subst, arith}
-use Rattle.save_bytes.specs.Memory.{bytes_state}
-use Rattle.name_buckets.specs.InOrder.{FollowInOrder}
-use Rattle.name_buckets.proofs.InOrderLemmas.{lie_in_order}
+use Rattle.std.proofs.Common.{◌≤◌, length, ap, lit≤, arith}
+use Rattle.name_buckets.specs.declared.table.EntryKind.TheVariants.{Dir, File}
 use Rattle.name_buckets.proofs.tests.reply_to.Goals as goal
 
 pub new-entries-requires : goal.new-entries-requires
-new-entries-requires c =
-    let space = c.new-space in
-    lie_in_order (bytes_state space.result.bytes.now space.result.block).shape space.result.bytes.now _ _ space.ensures.sound (omega arith)
-    (subst (λ (bytes : List ℕ). FollowInOrder bytes _ _) (sym space.ensures.memory.bytes_now)
-    (c.are_in_order.ensures c.if-not-are_in_order.false))
+new-entries-requires c Dir =
+    let same = ap length c.new-space.ensures.memory.bytes_now in
+    let buckets_end : 172 ≤ length c.new-space.result.bytes.now = omega (arith, same, c.requires) in
+    let zero_end : 1064 ≤ length c.new-space.result.bytes.now = omega (arith, same, c.requires) in
+    record { sound = c.new-space.ensures.sound; some = lit≤ tt; buckets = buckets_end; zero = zero_end }
+new-entries-requires c File =
+    let same = ap length c.new-space.ensures.memory.bytes_now in
+    let buckets_end : 208 ≤ length c.new-space.result.bytes.now = omega (arith, same, c.requires) in
+    let zero_end : 1584 ≤ length c.new-space.result.bytes.now = omega (arith, same, c.requires) in
+    record { sound = c.new-space.ensures.sound; some = lit≤ tt; buckets = buckets_end; zero = zero_end }
