@@ -14,9 +14,11 @@ use Rattle.ivfc_tree.specs.Levels.{level_of, ivfc_level, block_bytes, padded_blo
 
 -- how many bytes of a block its level has
 abbrev pub len_of : Difi → ℕ → ℕ → ℕ
-len_of difi level block = min (block_size (level_of difi level)) ((level_of difi level).size - block * block_size (level_of difi level))
+len_of difi level block = min (block_size (level_of difi level))
+    ((level_of difi level).size - block * block_size (level_of difi level))
 
-module _ (cells : ℕ → Cell) (difi : Difi) (level block : ℕ) (begins : block * block_size (level_of difi level) < (level_of difi level).size) where
+module _ (cells : ℕ → Cell) (difi : Difi) (level block : ℕ) (begins : block * block_size (level_of difi level)
+    < (level_of difi level).size) where
   -- the bytes of a block stand side by side in the base
   pub block_bytes-is : block_bytes cells difi level block
       ≡ bytes_in cells ((level_of difi level).at + block * block_size (level_of difi level)) (len_of difi level block)
@@ -26,7 +28,8 @@ module _ (cells : ℕ → Cell) (difi : Difi) (level block : ℕ) (begins : bloc
       let from = block * size in
       let rest : List ℕ = drop from (ivfc_level cells difi level) in
       let long : length rest ≡ place.size - from =
-      length-drop from (ivfc_level cells difi level) ∙ ap (λ (n : ℕ). n - from) (length-bytes_in cells place.at place.size) in
+      length-drop from (ivfc_level cells difi level) ∙ ap (λ (n : ℕ). n - from)
+      (length-bytes_in cells place.at place.size) in
       sym (take_min size rest)
       ∙ ap (λ (n : ℕ). take (min size n) rest) long
       ∙ bytes_in-part cells place.at place.size from (len_of difi level block) (omega (arith, begins))
@@ -45,7 +48,8 @@ module _ (cells : ℕ → Cell) (master : List ℕ) (difi : Difi) (level block :
   unfolding hash_entry
   hash_entry-below below inside =
       let above = level_of difi (level - 1) in
-      rw (ne_eqb level 1 (λ e. omega (arith, e, below))) (bytes_in-part cells above.at above.size (32 * block) 32 inside)
+      rw (ne_eqb level 1 (λ e. omega (arith, e, below)))
+      (bytes_in-part cells above.at above.size (32 * block) 32 inside)
 
   -- an entry in the master hash
   pub hash_entry-first : level ≡ 1 → (entry : List ℕ) → entry ≡ take 32 (drop (32 * block) master)
@@ -59,6 +63,7 @@ unfolding bytes_in
 takes_none cells at hasher message holds = subst (λ (l : List ℕ). Holds256 hasher l) (sym (append-nil message)) holds
 
 -- a piece more
-pub takes_more : (first old new : Sha256) (xs ys : List ℕ) → Takes first old xs → Takes old new ys → Takes first new (xs ++ ys)
+pub takes_more : (first old new : Sha256) (xs ys : List ℕ) → Takes first old xs → Takes old new ys
+    → Takes first new (xs ++ ys)
 takes_more first old new xs ys before next message holds =
     subst (λ (l : List ℕ). Holds256 new l) (append_assoc message xs ys) (next (message ++ xs) (before message holds))

@@ -12,7 +12,8 @@ use Rattle.ivfc_tree.specs.ViewLaws.{HasParent, parent_there}
 -- where a block lies
 pub record IsPlaced (base : Shape) (level : LevelPlace) (block : ℕ) : Type 0 where
   pub begins : block * block_size level < level.size
-  pub ends : level.at + block * block_size level + min (block_size level) (level.size - block * block_size level) ≤ base.size
+  pub ends : level.at + block * block_size level + min (block_size level) (level.size - block * block_size level)
+      ≤ base.size
 
 pub block_placed : (base : Shape) (difi : Difi) (level block : ℕ) → HasLevels base difi → HasBlock difi level block
     → IsPlaced base (level_of difi level) block
@@ -21,13 +22,15 @@ block_placed base difi level block levels there =
     let begins = block_begins block place.size place.log there.in_level in
     record { begins = begins; ends = omega (arith, begins, levels.inside level there.in_tree) }
 
-module _ (base : Shape) (difi : Difi) (master_len level block : ℕ) (tree : HasTree base difi master_len) (below : 1 < level)
+module _ (base : Shape) (difi : Difi) (master_len level block : ℕ) (tree : HasTree base difi master_len)
+    (below : 1 < level)
     (there : HasBlock difi level block) where
   -- the entry of a block, by the block's own level
   entry_by : HasParent difi (level - 1) block
   entry_by =
       let next : suc (level - 1) ≡ level = omega arith in
-      parent_there base difi master_len (level - 1) block tree (omega (arith, below)) (subst (λ (n : ℕ). HasBlock difi n block) (sym next) there)
+      parent_there base difi master_len (level - 1) block tree (omega (arith, below))
+      (subst (λ (n : ℕ). HasBlock difi n block) (sym next) there)
 
   pub entry_there : 32 * block + 32 ≤ (level_of difi (level - 1)).size
   entry_there = entry_by.inside

@@ -8,10 +8,8 @@ use Rattle.save_bytes.specs.Cells.{Cell}
 use Rattle.difi.specs.declared.descriptor.Difi.{Difi}
 use Rattle.ivfc_tree.specs.declared.path.BlockState.{BlockState}
 use Rattle.ivfc_tree.specs.declared.path.BlockState.TheVariants.{Holds, NeverWritten, Fails}
-use Rattle.ivfc_tree.specs.declared.state.IvfcState.{IvfcState}
 use Rattle.ivfc_tree.specs.Levels.{padded_block, hash_entry, zero_entry, parent_of}
-use Rattle.ivfc_tree.specs.Marks.{HasNoMarks}
-use Rattle.ivfc_tree.specs.Paths.{block_above, IsHashed, HasHashPath, FailsFirst, IsStateOf, own_state, after, marked_state, path_state, block_state}
+use Rattle.ivfc_tree.specs.Paths.{block_above, IsHashed, HasHashPath, FailsFirst, IsStateOf, own_state, after, marked_state}
 
 differ : (xs ys : List ℕ) → bytes_eq xs ys ≡ false → xs ≢ ys
 differ xs ys other same = both_ways (bytes_eq xs ys) other ((bytes_eq-Decides xs ys).1 same)
@@ -34,36 +32,43 @@ module _ (cells : ℕ → Cell) (master : List ℕ) (difi : Difi) where
   block_above-higher : (level block upper : ℕ) → upper < suc level
       → block_above difi (suc level) block upper ≡ block_above difi level (parent_of difi level block) upper
   unfolding block_above
-  block_above-higher level block upper below = rw (ne_eqb upper (suc level) (λ same. absurd (omega (arith, same, below)))) refl
+  block_above-higher level block upper below =
+      rw (ne_eqb upper (suc level) (λ same. absurd (omega (arith, same, below)))) refl
 
   -- with a path above it, a block that is hashed has a path
-  path_more : (level block : ℕ) → path level (parent_of difi level block) → hashed (suc level) block → path (suc level) block
+  path_more : (level block : ℕ) → path level (parent_of difi level block) → hashed (suc level) block
+      → path (suc level) block
   path_more level block above own upper some within =
       ⊎_elim
-      (λ (below : upper < suc level). rw (block_above-higher level block upper below) (above upper some (omega (arith, below))))
+      (λ (below : upper < suc level). rw (block_above-higher level block upper below)
+      (above upper some (omega (arith, below))))
       (λ (last : suc level ≤ upper).
       (let here : upper ≡ suc level = omega (arith, last, within) in
       rw (here, block_above-here level block) own))
       (cases_lt upper (suc level))
 
   -- a path that fails above a block fails there for the block
-  fails_more : (level block upper at : ℕ) → fails level (parent_of difi level block) upper at → fails (suc level) block upper at
+  fails_more : (level block upper at : ℕ)
+      → fails level (parent_of difi level block) upper at → fails (suc level) block upper at
   fails_more level block upper at h = record {
     some = h.some;
     above = omega (arith, h.above);
     there = h.there ∙ sym (block_above-higher level block upper (omega (arith, h.above)));
     fails = h.fails;
-    before = λ higher some below. rw (block_above-higher level block higher (omega (arith, below, h.above))) (h.before higher some below);
+    before = λ higher some below. rw (block_above-higher level block higher (omega (arith, below, h.above)))
+        (h.before higher some below);
   }
 
   -- with a path above it, a block that is not hashed is the first to fail
-  fails_here : (level block : ℕ) → path level (parent_of difi level block) → ¬ hashed (suc level) block → fails (suc level) block (suc level) block
+  fails_here : (level block : ℕ) → path level (parent_of difi level block) → ¬ hashed (suc level) block
+      → fails (suc level) block (suc level) block
   fails_here level block above unhashed = record {
     some = omega arith;
     above = omega arith;
     there = sym (block_above-here level block);
     fails = unhashed;
-    before = λ higher some below. rw (block_above-higher level block higher below) (above higher some (omega (arith, below)));
+    before = λ higher some below. rw (block_above-higher level block higher below)
+        (above higher some (omega (arith, below)));
   }
 
   -- a block with a path above it is what its entry and its digest tell
@@ -80,14 +85,16 @@ module _ (cells : ℕ → Cell) (master : List ℕ) (difi : Difi) where
       let written = differ entry zero_entry some in
       rw some (⊎_elim
       (λ (good : bytes_eq entry digest ≡ true).
-      rw good (path_more level block above (record { written = written; digest = (bytes_eq-Decides entry digest).0 good })))
+      rw good (path_more level block above
+      (record { written = written; digest = (bytes_eq-Decides entry digest).0 good })))
       (λ (bad : bytes_eq entry digest ≡ false).
       rw bad (fails_here level block above (λ own. differ entry digest bad own.digest), written))
       (cases_Bool (bytes_eq entry digest))))
       (cases_Bool (bytes_eq entry zero_entry))
 
   -- what is found above a block decides, unless it holds
-  after_state : (level block : ℕ) (above own : BlockState) → IsStateOf cells master difi level (parent_of difi level block) above
+  after_state : (level block : ℕ) (above own : BlockState)
+      → IsStateOf cells master difi level (parent_of difi level block) above
       → (path level (parent_of difi level block) → IsStateOf cells master difi (suc level) block own)
       → IsStateOf cells master difi (suc level) block (after above own)
   after_state level block Holds own found next = next found
@@ -102,12 +109,5 @@ module _ (cells : ℕ → Cell) (master : List ℕ) (difi : Difi) where
   state_is marked none (suc level) block =
       let above = parent_of difi level block in
       rw (none (suc level) block)
-      (after_state level block (marked_state cells master difi marked level above) _ (state_is marked none level above) (own_is level block))
-
-  -- where nothing was put, the state of a block is what its path comes to
-  pub unmarked_state : (state : IvfcState) → HasNoMarks state → (level block : ℕ)
-      → block_state cells master difi state level block ≡ path_state cells master difi level block
-  unfolding marked_state
-  unmarked_state state unmarked zero block = refl
-  unmarked_state state unmarked (suc level) block =
-      rw (unmarked (suc level) block, unmarked_state state unmarked level (parent_of difi level block)) refl
+      (after_state level block (marked_state cells master difi marked level above) _ (state_is marked none level above)
+      (own_is level block))

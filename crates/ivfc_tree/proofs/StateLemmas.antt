@@ -18,7 +18,8 @@ either : (b : Bool) (xs ys : List Bool) (block : ℕ) → get_or xs block false 
 either true xs ys block one other = one
 either false xs ys block one other = other
 
-pub clear_state : (state : IvfcState) (n1 n2 n3 n4 : ℕ) → state.put1.items ≡ replicate n1 false → state.put2.items ≡ replicate n2 false
+pub clear_state : (state : IvfcState) (n1 n2 n3 n4 : ℕ) → state.put1.items ≡ replicate n1 false
+    → state.put2.items ≡ replicate n2 false
     → state.put3.items ≡ replicate n3 false → state.put4.items ≡ replicate n4 false → HasNoMarks state
 clear_state state n1 n2 n3 n4 one two three four level block =
     either (level == 1) _ _ block (clear state.put1.items n1 one block)

@@ -15,14 +15,17 @@ after-fault found (NeverWritten upper at) own is fault = is
 after-fault found (Fails upper at) own is fault = is
 
 module _ (cells : ℕ → Cell) (master : List ℕ) (difi : Difi) (state : IvfcState) where
-  pub step-marked : (level block : ℕ) → 1 ≤ level → is_marked state level block ≡ true → Holds ≡ block_state cells master difi state level block
+  pub step-marked : (level block : ℕ) → 1 ≤ level → is_marked state level block ≡ true
+      → Holds ≡ block_state cells master difi state level block
   unfolding marked_state
   step-marked zero block some marked = absurd (omega (arith, some))
   step-marked (suc level) block some marked = rw marked refl
 
   -- what is said of the block above decides, unless that holds
-  step : (level block : ℕ) → 1 ≤ level → is_marked state level block ≡ false → block_state cells master difi state level block
-      ≡ after (block_state cells master difi state (level - 1) (parent_of difi (level - 1) block)) (own_state cells master difi level block)
+  step : (level block : ℕ) → 1 ≤ level → is_marked state level block ≡ false
+      → block_state cells master difi state level block
+      ≡ after (block_state cells master difi state (level - 1) (parent_of difi (level - 1) block))
+      (own_state cells master difi level block)
   unfolding marked_state
   step zero block some marked = absurd (omega (arith, some))
   step (suc level) block some marked = let one : suc level - 1 ≡ level = omega arith in rw (marked, one) refl

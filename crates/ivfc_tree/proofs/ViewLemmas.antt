@@ -26,21 +26,25 @@ use Rattle.ivfc_tree.specs.ViewLaws.{view_cells, place_inside}
 use Rattle.ivfc_tree.specs.KeepLaws.{HashLands-before}
 
 -- what stays in the base stays in the view
-pub view_stays : (base new : State) (part : ℕ) (master : List ℕ) (difi : Difi) (state : IvfcState) (refusal : Option Bad)
+pub view_stays : (base new : State) (part : ℕ) (master : List ℕ) (difi : Difi) (state : IvfcState)
+    (refusal : Option Bad)
     → HasTree base.shape difi (length master) → Stays base new refusal
     → Stays (view_state base part master difi state) (view_state new part master difi state) refusal
 view_stays base new part master difi state refusal tree stays = record {
   space = record {
-    shape = ap (λ (shape : Shape). (view_state (record base { shape = shape }) part master difi state).shape) stays.space.shape;
+    shape = ap (λ (shape : Shape). (view_state (record base { shape = shape }) part master difi state).shape)
+        stays.space.shape;
     faults = stays.space.faults;
     cause = stays.space.cause;
     told = stays.space.told;
     twins = λ told. UnlessDisk-always refusal (record { bottom = λ x h. refl; is_fixed = λ x h. refl });
   };
-  cells = λ told. UnlessDisk-map refusal (view_cells base new part master difi state state tree (λ level block. refl)) (stays.cells told);
+  cells = λ told. UnlessDisk-map refusal (view_cells base new part master difi state state tree (λ level block. refl))
+      (stays.cells told);
 }
 
-module _ {S : Type 0} (states : S → State) (keeps : Spot → S → S → Type 0) (lands : S → ℕ → Spot → Type 0) (s t : IvfcView S)
+module _ {S : Type 0} (states : S → State) (keeps : Spot → S → S → Type 0) (lands : S → ℕ → Spot → Type 0)
+    (s t : IvfcView S)
     (refusal : Option Bad) (same : SameView s t) where
   same_own : (spot : Spot) → SameOwn spot s t
   same_own (Mark part level block) = λ here. rw same.state_now refl
@@ -48,18 +52,21 @@ module _ {S : Type 0} (states : S → State) (keeps : Spot → S → S → Type 
   same_own spot = tt
 
   -- a call that reads the base reads the view
-  pub hashed_read : HasTree (states s.base.now).shape s.difi.now (length s.master.now) → Reads states keeps lands s.base.now t.base.now refusal
+  pub hashed_read : HasTree (states s.base.now).shape s.difi.now (length s.master.now)
+      → Reads states keeps lands s.base.now t.base.now refusal
       → Reads (shown states) (HashKeeps keeps) (hash_lands lands) s t refusal
       × Reads states keeps lands s.base.now t.base.now refusal × SameView s t
   hashed_read tree reads = (
     record {
       stays = rw (same.hold.same_part, same.hold.same_difi, same.master_now, same.state_now)
-          (view_stays (states s.base.now) (states t.base.now) s.part s.master.now s.difi.now s.state.now refusal tree reads.stays);
+          (view_stays (states s.base.now) (states t.base.now) s.part s.master.now s.difi.now s.state.now refusal tree
+          reads.stays);
       frame = (same.hold, same_own Frame, reads.frame);
       sectors = λ number. (same.hold, tt, reads.sectors number);
       spots = λ told spot. (same.hold, same_own spot, reads.spots told spot);
       reach = λ told. rw same.hold.same_difi (UnlessDisk-map refusal
-          (HashLands-before (states s.base.now).shape s.difi.now tree.levels (lands s.base.now) (lands t.base.now)) (reads.reach told));
+          (HashLands-before (states s.base.now).shape s.difi.now tree.levels (lands s.base.now) (lands t.base.now))
+          (reads.reach told));
     },
     reads,
     same,
@@ -87,7 +94,8 @@ rest_is difi at inside =
       block = λ k h. same_block at k (block_size difi.ivfc4) some (omega (arith, h));
     }
 
-byte_cell : (found : BlockState) (part value : ℕ) → IsByte (cell_in found part value) → cell_in found part value ≡ Byte value
+byte_cell : (found : BlockState) (part value : ℕ) → IsByte (cell_in found part value)
+    → cell_in found part value ≡ Byte value
 byte_cell Holds part value byte = refl
 byte_cell (NeverWritten level block) part value byte = absurd byte
 byte_cell (Fails level block) part value byte = absurd byte
@@ -95,7 +103,8 @@ byte_cell (Fails level block) part value byte = absurd byte
 module _ (base : State) (part : ℕ) (master : List ℕ) (difi : Difi) (state : IvfcState) (at : ℕ) where
   -- what is answered of a good block
   pub good_verified : at < difi.ivfc4.size → (most n : ℕ) → 1 ≤ most
-      → (IsTrue base.told → Holds ≡ block_state base.cells master difi state 4 (at / block_size difi.ivfc4)) → n ≡ min (rest_of difi at) most
+      → (IsTrue base.told → Holds ≡ block_state base.cells master difi state 4 (at / block_size difi.ivfc4))
+      → n ≡ min (rest_of difi at) most
       → IsVerified (view_state base part master difi state) at most (Ok n)
   good_verified inside most n some good is =
       let rest = rest_is difi at inside in
@@ -128,18 +137,28 @@ module _ (base : State) (part : ℕ) (master : List ℕ) (difi : Difi) (state : 
         let here : place + k ≡ (level_of difi 4).at + (at + k) = omega (arith, there) in
         let old : base.cells ((level_of difi 4).at + (at + k)) ≡ Byte value =
         sym (stays.cells told _ (place_inside base.shape difi (length master) (at + k) tree inside)) ∙ rw here at is in
-        byte_cell (block_state base.cells master difi state 4 ((at + k) / block_size difi.ivfc4)) part _ (verified.bytes told k h) ∙ rw old refl
+        byte_cell (block_state base.cells master difi state 4 ((at + k) / block_size difi.ivfc4)) part _
+        (verified.bytes told k h) ∙ rw old refl
 
     -- a piece of the base is one of the view
-    pub view_piece : (result : Result (Bor (List ℕ)) Bad) → IsPiece mid place n result → IsPiece (view_state base part master difi state) at most result
+    pub view_piece : (result : Result (Bor (List ℕ)) Bad) → IsPiece mid place n result
+        → IsPiece (view_state base part master difi state) at most result
     view_piece (Ok piece) h = record {
       some = h.some;
       bounded = omega (arith, h.bounded, verified.bounded);
       inside = omega (arith, h.bounded, verified.inside);
-      bytes = λ told k below. piece_cell k _ (omega (arith, below, h.bounded)) told (h.bytes (stays.space.told told) k below);
+      bytes = λ told k below. piece_cell k _ (omega (arith, below, h.bounded)) told
+          (h.bytes (stays.space.told told) k below);
       damaged = λ told. tt;
       plain = λ plain. tt;
     }
-    view_piece (Err Disk) h = record { some = tt; bounded = tt; inside = tt; bytes = λ told. tt; damaged = λ told. tt; plain = λ plain. tt }
+    view_piece (Err Disk) h = record {
+      some = tt;
+      bounded = tt;
+      inside = tt;
+      bytes = λ told. tt;
+      damaged = λ told. tt;
+      plain = λ plain. tt;
+    }
     view_piece (Err (Damaged part level block)) h =
         absurd (h.plain (subst (λ (shape : Shape). IsTrue shape.plain) (sym stays.space.shape) tree.levels.plain))

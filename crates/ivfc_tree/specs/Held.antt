@@ -17,7 +17,8 @@ abbrev pub shown : {S : Type 0} → (S → State) → IvfcView S → State
 shown states view = view_state (states view.base.now) view.part view.master.now view.difi.now view.state.now
 
 -- the view holds these
-pub record IsViewOf {S : Type 0} (view : IvfcView S) (base : MutBor S) (part : ℕ) (difi : Difi) (master : MutBor (List ℕ))
+pub record IsViewOf {S : Type 0} (view : IvfcView S) (base : MutBor S) (part : ℕ) (difi : Difi)
+    (master : MutBor (List ℕ))
     (state : MutBor IvfcState) : Type 0 where
   pub same_base : view.base.ghost_name ≡ base.ghost_name
   pub base_now : view.base.now ≡ base.now
@@ -46,7 +47,8 @@ pub record SameView {S : Type 0} (old new : IvfcView S) : Type 0 where
 
 -- a block's mark was left alone, or all marks and the master hash; other spots are not in the view itself
 abbrev pub SameOwn : {S : Type 0} → Spot → IvfcView S → IvfcView S → Type 0
-SameOwn (Mark part level block) old new = IsLevel level → is_marked new.state.now level block ≡ is_marked old.state.now level block
+SameOwn (Mark part level block) old new = IsLevel level
+    → is_marked new.state.now level block ≡ is_marked old.state.now level block
 SameOwn Frame old new = SameMarks old.state.now new.state.now × (new.master.now ≡ old.master.now)
 SameOwn spot old new = Unit {0}
 
@@ -56,7 +58,8 @@ HashKeeps keeps spot old new = SameHold old new × SameOwn spot old new × keeps
 
 -- byte y of a level lies in the block there that is on the path of byte x of level four
 abbrev pub IsOnPath : Difi → ℕ → ℕ → ℕ → Type 0
-IsOnPath difi x level y = (y < (level_of difi level).size) × (y / block_size (level_of difi level) ≡ path_block difi x level)
+IsOnPath difi x level y = (y < (level_of difi level).size)
+    × (y / block_size (level_of difi level) ≡ path_block difi x level)
 
 -- a put marks the blocks on the path of its place
 abbrev pub MarksPath : Difi → ℕ → Spot → Type 0
@@ -64,10 +67,12 @@ MarksPath difi x (Mark part level block) = IsLevel level × (block ≡ path_bloc
 MarksPath difi x Frame = Unit {0}
 MarksPath difi x spot = ⊥
 
--- a put touches what puts into the bytes of its block and of the blocks above that touch in the base, and these blocks' marks
+-- a put touches what puts into the bytes of its block and of the blocks above it touch in the base, and these blocks'
+-- marks
 abbrev pub HashLands : (ℕ → Spot → Type 0) → Difi → ℕ → Spot → Type 0
 HashLands lands difi x spot =
-    ((level y : ℕ) × IsLevel level × IsOnPath difi x level y × lands ((level_of difi level).at + y) spot) ⊎ MarksPath difi x spot
+    ((level y : ℕ) × IsLevel level × IsOnPath difi x level y × lands ((level_of difi level).at + y) spot)
+    ⊎ MarksPath difi x spot
 
 -- of a view, over a base with these
 abbrev pub hash_lands : {S : Type 0} → (S → ℕ → Spot → Type 0) → IvfcView S → ℕ → Spot → Type 0

@@ -49,7 +49,8 @@ module _ {S : Type 0} where
   SameOwn-join spot s t u h k = tt
 
 -- a put lands where it would have landed, where that is so in the base
-pub HashLands-before : (base : Shape) (difi : Difi) → HasLevels base difi → (old new : ℕ → Spot → Type 0) → LandsAsBefore base.size old new
+pub HashLands-before : (base : Shape) (difi : Difi) → HasLevels base difi → (old new : ℕ → Spot → Type 0)
+    → LandsAsBefore base.size old new
     → LandsAsBefore difi.ivfc4.size (HashLands old difi) (HashLands new difi)
 HashLands-before base difi levels old new before x below spot =
     ⊎_elim
@@ -60,38 +61,53 @@ HashLands-before base difi levels old new before x below spot =
     (λ (marks : MarksPath difi x spot). inr marks)
 
 module _ {S : Type 0} (keeps : Spot → S → S → Type 0) where
-  pub HashKeeps-same : ((spot : Spot) (s : S) → keeps spot s s) → (spot : Spot) (s : IvfcView S) → HashKeeps keeps spot s s
+  pub HashKeeps-same : ((spot : Spot) (s : S) → keeps spot s s) → (spot : Spot) (s : IvfcView S)
+      → HashKeeps keeps spot s s
   HashKeeps-same same spot s = (SameHold-same s, SameOwn-same spot s, same spot s.base.now)
 
-  pub HashKeeps-join : ((spot : Spot) (s t u : S) → keeps spot s t → keeps spot t u → keeps spot s u) → (spot : Spot) (s t u : IvfcView S)
+  pub HashKeeps-join : ((spot : Spot) (s t u : S) → keeps spot s t → keeps spot t u → keeps spot s u)
+      → (spot : Spot) (s t u : IvfcView S)
       → HashKeeps keeps spot s t → HashKeeps keeps spot t u → HashKeeps keeps spot s u
   HashKeeps-join join spot s t u h k =
       (SameHold-join s t u h.0 k.0, SameOwn-join spot s t u h.1 k.1, join spot s.base.now t.base.now u.base.now h.2 k.2)
 
-  pub HashKeeps-hold : ((s t : S) → keeps Frame s t → keeps Hold s t) → (s t : IvfcView S) → HashKeeps keeps Frame s t → HashKeeps keeps Hold s t
+  pub HashKeeps-hold : ((s t : S) → keeps Frame s t → keeps Hold s t) → (s t : IvfcView S) → HashKeeps keeps Frame s t
+      → HashKeeps keeps Hold s t
   HashKeeps-hold hold s t h = (h.0, tt, hold s.base.now t.base.now h.2)
 
 module _ {S : Type 0} (states : S → State) (keeps : Spot → S → S → Type 0) where
-  pub HashKeeps-shape : ((s t : S) → keeps Hold s t → (states t).shape ≡ (states s).shape) → (s t : IvfcView S) → HashKeeps keeps Hold s t
+  pub HashKeeps-shape : ((s t : S) → keeps Hold s t → (states t).shape ≡ (states s).shape) → (s t : IvfcView S)
+      → HashKeeps keeps Hold s t
       → (shown states t).shape ≡ (shown states s).shape
   unfolding can_view
   HashKeeps-shape shape s t h =
       let marks = h.0.marks in
-      rw (shape s.base.now t.base.now h.2, h.0.same_difi, h.0.master_len, marks.marks1, marks.marks2, marks.marks3, marks.marks4) refl
+      rw (
+        shape s.base.now t.base.now h.2,
+        h.0.same_difi,
+        h.0.master_len,
+        marks.marks1,
+        marks.marks2,
+        marks.marks3,
+        marks.marks4,
+      ) refl
 
 -- what holds of two spaces where each spot was left alone, if they lie soundly without twins and are told
 abbrev pub WhereKept : {A : Type 0} → (A → State) → (Spot → A → A → Type 0) → (A → A → Type 0) → Type 0
-WhereKept {A} states keeps P = (s t : A) → IsTrue (states s).shape.sound → IsFalse (states s).shape.doubled → IsTrue (states s).told
+WhereKept {A} states keeps P = (s t : A) → IsTrue (states s).shape.sound → IsFalse (states s).shape.doubled
+    → IsTrue (states s).told
     → IsTrue (states t).told → ((spot : Spot) → keeps spot s t) → P s t
 
-module _ {S : Type 0} (states : S → State) (fits : (s : S) → IsTrue (states s).shape.sound → (states s).shape.size < 2 ^ 64) where
+module _ {S : Type 0} (states : S → State)
+    (fits : (s : S) → IsTrue (states s).shape.sound → (states s).shape.size < 2 ^ 64) where
   -- what can be viewed, its tree, and its size
   module _ (s : IvfcView S) (sound : IsTrue (shown states s).shape.sound) where
     pub shown_can : CanView (states s.base.now).shape s.difi.now (length s.master.now) s.state.now
     shown_can = true-can_view (states s.base.now).shape s.difi.now (length s.master.now) s.state.now sound
 
     pub shown_tree : HasTree (states s.base.now).shape s.difi.now (length s.master.now)
-    shown_tree = tree_of (states s.base.now).shape s.difi.now (length s.master.now) s.state.now (fits s.base.now shown_can.sound) shown_can
+    shown_tree = tree_of (states s.base.now).shape s.difi.now (length s.master.now) s.state.now
+        (fits s.base.now shown_can.sound) shown_can
 
     pub shown_fits : s.difi.now.ivfc4.size < 2 ^ 64
     shown_fits =
@@ -99,21 +115,29 @@ module _ {S : Type 0} (states : S → State) (fits : (s : S) → IsTrue (states 
         omega (arith, rw (level4_size s.difi.now) at inside, shown_tree.levels.small)
 
   module _ (keeps : Spot → S → S → Type 0) where
-    pub HashKeeps-cells : WhereKept states keeps (λ s t. SameCells (states s) (states t) × SameTwins (states s) (states t))
-        → WhereKept (shown states) (HashKeeps keeps) (λ s t. SameCells (shown states s) (shown states t) × SameTwins (shown states s) (shown states t))
+    pub HashKeeps-cells : WhereKept states keeps
+        (λ s t. SameCells (states s) (states t) × SameTwins (states s) (states t))
+        → WhereKept (shown states) (HashKeeps keeps) (λ s t. SameCells (shown states s) (shown states t)
+        × SameTwins (shown states s) (shown states t))
     HashKeeps-cells law s t sound single told still kept =
         let can = shown_can s sound in
         let below = law s.base.now t.base.now can.sound can.single told still (λ spot. (kept spot).2) in
         let frame = kept Frame in
-        let there : SameCells (shown states s) (view_state (states t.base.now) s.part s.master.now s.difi.now t.state.now) =
-        view_cells (states s.base.now) (states t.base.now) s.part s.master.now s.difi.now s.state.now t.state.now (shown_tree s sound) frame.1.0 below.0 in
-        (rw (frame.0.same_part, frame.0.same_difi, frame.1.1) there, record { bottom = λ x h. refl; is_fixed = λ x h. refl })
+        let there : SameCells (shown states s)
+        (view_state (states t.base.now) s.part s.master.now s.difi.now t.state.now) =
+        view_cells (states s.base.now) (states t.base.now) s.part s.master.now s.difi.now s.state.now t.state.now
+        (shown_tree s sound) frame.1.0 below.0 in (
+          rw (frame.0.same_part, frame.0.same_difi, frame.1.1) there,
+          record { bottom = λ x h. refl; is_fixed = λ x h. refl },
+        )
 
     pub HashKeeps-lands : (lands : S → ℕ → Spot → Type 0)
         → WhereKept states keeps (λ s t. LandsAsBefore (states s).shape.size (lands s) (lands t))
-        → WhereKept (shown states) (HashKeeps keeps) (λ s t. LandsAsBefore (shown states s).shape.size (hash_lands lands s) (hash_lands lands t))
+        → WhereKept (shown states) (HashKeeps keeps)
+        (λ s t. LandsAsBefore (shown states s).shape.size (hash_lands lands s) (hash_lands lands t))
     HashKeeps-lands lands law s t sound single told still kept =
         let can = shown_can s sound in
         let below = law s.base.now t.base.now can.sound can.single told still (λ spot. (kept spot).2) in
         rw (kept Frame).0.same_difi
-        (HashLands-before (states s.base.now).shape s.difi.now (shown_tree s sound).levels (lands s.base.now) (lands t.base.now) below)
+        (HashLands-before (states s.base.now).shape s.difi.now (shown_tree s sound).levels (lands s.base.now)
+        (lands t.base.now) below)

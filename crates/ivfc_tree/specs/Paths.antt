@@ -48,7 +48,8 @@ IsStateOf cells master difi level block (Fails upper at) =
 -- a block by its entry and digest alone
 abbrev pub judged : ℕ → ℕ → List ℕ → List ℕ → BlockState
 judged level block entry digest =
-    if bytes_eq entry zero_entry then NeverWritten level block else (if bytes_eq entry digest then Holds else Fails level block)
+    if bytes_eq entry zero_entry then NeverWritten level block
+    else (if bytes_eq entry digest then Holds else Fails level block)
 
 -- what a block's own entry and bytes tell
 abbrev pub own_state : (ℕ → Cell) → List ℕ → Difi → ℕ → ℕ → BlockState
@@ -66,7 +67,8 @@ unfoldable pub marked_state : (ℕ → Cell) → List ℕ → Difi → (ℕ → 
 marked_state cells master difi marked zero block = Holds
 marked_state cells master difi marked (suc level) block =
     if marked (suc level) block then Holds
-    else after (marked_state cells master difi marked level (parent_of difi level block)) (own_state cells master difi (suc level) block)
+    else after (marked_state cells master difi marked level (parent_of difi level block))
+    (own_state cells master difi (suc level) block)
 
 -- where none is
 abbrev pub path_state : (ℕ → Cell) → List ℕ → Difi → ℕ → ℕ → BlockState

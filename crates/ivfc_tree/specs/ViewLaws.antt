@@ -34,7 +34,8 @@ record HasLevel4 (difi : Difi) (level4 : LevelPlace) : Type 0 where
   log : level4.log ≡ difi.ivfc4.log
   inside : HasHashLevels difi → level4.at + level4.size ≤ view_size difi
   apart : (level : LevelPlace) → level.at + level.size ≤ difi.dpfs3.size
-      → (difi.external ≡ false → AreApart (extent_of level) (extent_of difi.ivfc4)) → AreApart (extent_of level) (extent_of level4)
+      → (difi.external ≡ false → AreApart (extent_of level) (extent_of difi.ivfc4))
+      → AreApart (extent_of level) (extent_of level4)
 
 level4_by_external : (difi : Difi) (external : Bool) → difi.external ≡ external → HasLevel4 difi (level4_of difi)
 level4_by_external difi true is = rw is (record {
@@ -64,18 +65,23 @@ levels_apart : (difi : Difi) → HasHashLevels difi → (upper level : ℕ) → 
 unfolding level_of
 levels_apart difi h upper level some less within =
     let behind4 = (level4_by_external difi difi.external refl).apart in
-    let Below : LevelPlace → ℕ → ℕ → Type 0 = λ place upper level. upper < level → AreApart (extent_of place) (extent_of (level_of difi level)) in
+    let Below : LevelPlace → ℕ → ℕ → Type 0 = λ place upper level. upper < level
+    → AreApart (extent_of place) (extent_of (level_of difi level)) in
     by_level (λ upper. (level : ℕ) → IsLevel level → Below (level_of difi upper) upper level)
-    (by_level (Below difi.ivfc1 1) (λ no. absurd (omega (arith, no))) (λ _. h.apart12) (λ _. h.apart13) (λ _. behind4 difi.ivfc1 h.inside1 h.apart14))
-    (by_level (Below difi.ivfc2 2) (λ no. absurd (omega (arith, no))) (λ no. absurd (omega (arith, no))) (λ _. h.apart23)
+    (by_level (Below difi.ivfc1 1) (λ no. absurd (omega (arith, no))) (λ _. h.apart12) (λ _. h.apart13)
+    (λ _. behind4 difi.ivfc1 h.inside1 h.apart14))
+    (by_level (Below difi.ivfc2 2) (λ no. absurd (omega (arith, no))) (λ no. absurd (omega (arith, no)))
+    (λ _. h.apart23)
     (λ _. behind4 difi.ivfc2 h.inside2 h.apart24))
-    (by_level (Below difi.ivfc3 3) (λ no. absurd (omega (arith, no))) (λ no. absurd (omega (arith, no))) (λ no. absurd (omega (arith, no)))
+    (by_level (Below difi.ivfc3 3) (λ no. absurd (omega (arith, no))) (λ no. absurd (omega (arith, no)))
+    (λ no. absurd (omega (arith, no)))
     (λ _. behind4 difi.ivfc3 h.inside3 h.apart34))
     (λ level here less. absurd (omega (arith, here.1, less)))
     upper (some, omega (arith, less, within)) level (omega (arith, some, less), within) less
 
 -- the test passes where a view can be made
-pub can_view-true : (base : Shape) (difi : Difi) (master_len : ℕ) (state : IvfcState) → CanView base difi master_len state
+pub can_view-true : (base : Shape) (difi : Difi) (master_len : ℕ) (state : IvfcState)
+    → CanView base difi master_len state
     → can_view base difi master_len state ≡ true
 unfolding can_view
 can_view-true base difi master_len state h =
@@ -93,7 +99,8 @@ can_view-true base difi master_len state h =
     (and_from _ _ (eq-eqb _ _ h.made.marks3) (eq-eqb _ _ h.made.marks4))))))))))))
 
 -- and only there
-pub true-can_view : (base : Shape) (difi : Difi) (master_len : ℕ) (state : IvfcState) → can_view base difi master_len state ≡ true
+pub true-can_view : (base : Shape) (difi : Difi) (master_len : ℕ) (state : IvfcState)
+    → can_view base difi master_len state ≡ true
     → CanView base difi master_len state
 unfolding can_view
 true-can_view base difi master_len state h =
@@ -126,7 +133,8 @@ true-can_view base difi master_len state h =
     }
 
 -- what can be viewed has its tree in the base
-pub tree_of : (base : Shape) (difi : Difi) (master_len : ℕ) (state : IvfcState) → base.size < 2 ^ 64 → CanView base difi master_len state
+pub tree_of : (base : Shape) (difi : Difi) (master_len : ℕ) (state : IvfcState) → base.size < 2 ^ 64
+    → CanView base difi master_len state
     → HasTree base difi master_len
 unfolding level_of
 tree_of base difi master_len state small h =
@@ -138,22 +146,27 @@ tree_of base difi master_len state small h =
         plain = h.plain;
         single = h.single;
         small = small;
-        logs = by_level (λ level. IsBetween 9 16 (level_of difi level).log) h.block_sizes.ivfc1 h.block_sizes.ivfc2 h.block_sizes.ivfc3
+        logs = by_level (λ level. IsBetween 9 16 (level_of difi level).log) h.block_sizes.ivfc1 h.block_sizes.ivfc2
+            h.block_sizes.ivfc3
             (rw level4.log h.block_sizes.ivfc4);
-        inside = rw h.base_len (by_level (λ level. (level_of difi level).at + (level_of difi level).size ≤ view_size difi)
-            (in_level3 difi.ivfc1.at difi.ivfc1.size levels.inside1) (in_level3 difi.ivfc2.at difi.ivfc2.size levels.inside2)
+        inside = rw h.base_len (by_level (λ level. (level_of difi level).at + (level_of difi level).size
+            ≤ view_size difi)
+            (in_level3 difi.ivfc1.at difi.ivfc1.size levels.inside1)
+            (in_level3 difi.ivfc2.at difi.ivfc2.size levels.inside2)
             (in_level3 difi.ivfc3.at difi.ivfc3.size levels.inside3) (level4.inside levels));
         apart = levels_apart difi levels;
       };
       first_entries = rw h.whole_master levels.entries1;
-      entries = λ level here. by_level (λ level. IsLevel (suc level) → 32 * blocks_of (level_of difi (suc level)) ≤ (level_of difi level).size)
+      entries = λ level here. by_level (λ level. IsLevel (suc level) → 32 * blocks_of (level_of difi (suc level))
+          ≤ (level_of difi level).size)
           (λ _. levels.entries2) (λ _. levels.entries3) (λ _. rw (level4.size, level4.log) levels.entries4)
           (λ five. absurd (omega (arith, five.1))) level here;
     } where
       in_level3 : (at size : ℕ) → at + size ≤ difi.dpfs3.size → at + size ≤ view_size difi
       in_level3 at size h = omega (arith, h)
 
-pub view_tree : (base : Shape) (difi : Difi) (master_len : ℕ) (state : IvfcState) → (IsTrue base.sound → base.size < 2 ^ 64)
+pub view_tree : (base : Shape) (difi : Difi) (master_len : ℕ) (state : IvfcState)
+    → (IsTrue base.sound → base.size < 2 ^ 64)
     → can_view base difi master_len state ≡ true → HasTree base difi master_len
 view_tree base difi master_len state fits sound =
     let view = true-can_view base difi master_len state sound in
@@ -172,7 +185,11 @@ parent_there base difi master_len upper block tree some there =
     let level = level_of difi upper in
     let inside : 32 * block + 32 ≤ level.size = omega (arith, entries, there.in_level) in
     record {
-      parent = record { in_tree = here; in_level = block_below (32 * block) level.size level.log (omega (arith, inside)) };
+      parent = record {
+        in_tree = here;
+        in_level = block_below (32 * block) level.size level.log
+            (omega (arith, inside));
+      };
       inside = inside;
     }
 
@@ -197,7 +214,8 @@ module _ (base : Shape) (difi : Difi) (levels : HasLevels base difi) (one other 
       let place = level_of difi level in
       bytes_in-same one other place.at place.at place.size (λ k h. same _ (omega (arith, h, levels.inside level here)))
 
-  pub block-same : (level block : ℕ) → IsLevel level → padded_block one difi level block ≡ padded_block other difi level block
+  pub block-same : (level block : ℕ) → IsLevel level
+      → padded_block one difi level block ≡ padded_block other difi level block
   unfolding padded_block
   block-same level block here = rw (level-same level here) refl
 
@@ -216,7 +234,8 @@ module _ (base : Shape) (difi : Difi) (levels : HasLevels base difi) (one other 
   own-same master level block here = rw (block-same level block here, entry-same master level block here) refl
 
 -- a block comes to the same where the base's cells are the same, and the same blocks are marked
-module _ (base : Shape) (difi : Difi) (master : List ℕ) (tree : HasTree base difi (length master)) (one other : ℕ → Cell)
+module _ (base : Shape) (difi : Difi) (master : List ℕ) (tree : HasTree base difi (length master))
+    (one other : ℕ → Cell)
     (same : (x : ℕ) → x < base.size → one x ≡ other x) (marked still : ℕ → ℕ → Bool)
     (marks : (level block : ℕ) → marked level block ≡ still level block) where
   pub state-same : (level block : ℕ) → HasBlock difi level block
@@ -228,7 +247,8 @@ module _ (base : Shape) (difi : Difi) (master : List ℕ) (tree : HasTree base d
   state-same (suc (suc level)) block there =
       let parent = parent_there base difi (length master) (suc level) block tree (omega arith) there in
       let own = own-same base difi tree.levels one other same master (suc (suc level)) block there.in_tree in
-      rw (marks (suc (suc level)) block, state-same (suc level) (parent_of difi (suc level) block) parent.parent, own) refl
+      rw (marks (suc (suc level)) block, state-same (suc level) (parent_of difi (suc level) block) parent.parent, own)
+      refl
 
 -- and so do the cells of a view
 pub view_cells : (base new : State) (part : ℕ) (master : List ℕ) (difi : Difi) (state later : IvfcState)
@@ -237,4 +257,7 @@ pub view_cells : (base new : State) (part : ℕ) (master : List ℕ) (difi : Dif
 view_cells base new part master difi state later tree marks same = λ x inside.
     (let there = block_of_there difi x inside in
     let place = place_inside base.shape difi (length master) x tree inside in
-    rw (state-same base.shape difi master tree new.cells base.cells same _ _ marks 4 (x / block_size difi.ivfc4) there, same _ place) refl)
+    rw (
+      state-same base.shape difi master tree new.cells base.cells same _ _ marks 4 (x / block_size difi.ivfc4) there,
+      same _ place,
+    ) refl)

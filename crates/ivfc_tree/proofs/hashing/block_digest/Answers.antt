@@ -10,4 +10,5 @@ returns-clause-digest g c = λ told.
     let placed = block_placed base.shape c.args.difi.now c.args.level c.args.block c.requires.levels c.requires.there in
     let is = padded_block-is base.cells c.args.difi.now c.args.level c.args.block placed.begins in
     let zeros = c.hash_zeros.ensures _ (c.in_ok-hash_range.ensures.hashed told [] c.new-hasher.ensures) in
-    c.finalize.ensures _ zeros ∙ ap sha256 (rw (c.min-len.ensures, c.block_size-size.ensures, c.level_of-place.ensures) (sym is))
+    c.finalize.ensures _ zeros ∙ ap sha256 (rw (c.min-len.ensures, c.block_size-size.ensures, c.level_of-place.ensures)
+    (sym is))

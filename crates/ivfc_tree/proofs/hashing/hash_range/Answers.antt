@@ -28,8 +28,10 @@ loop-done-preserved g c =
           (let stays = before.reads.stays in
           let same = bytes_in-same mid old (c.args.at + done) (c.args.at + done) n
           (λ k h. stays.cells told (c.args.at + done + k) (omega (arith, h, piece.count, c.requires.inside.inside))) in
-          rw (bytes_in-append old c.args.at done n, ← same) (takes_more c.args.hasher.now c.loop-done.hasher c.hash_piece.new.hasher _ _
+          rw (bytes_in-append old c.args.at done n, ← same)
+          (takes_more c.args.hasher.now c.loop-done.hasher c.hash_piece.new.hasher _ _
           (before.hashed told) (piece.hashed (stays.space.told told))));
-      reads = Reads-join space.state space.keeps space.lands g.met.S.Space.keeps_join c.args.base.now c.loop-done.base c.hash_piece.new.base None
+      reads = Reads-join space.state space.keeps space.lands g.met.S.Space.keeps_join c.args.base.now c.loop-done.base
+          c.hash_piece.new.base None
           before.reads piece.reads;
     }

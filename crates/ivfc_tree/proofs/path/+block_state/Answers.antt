@@ -8,20 +8,25 @@ use Rattle.ivfc_tree.proofs.path.+block_state.Goals as goal
 
 pub returns-then-is_marked-clause-state : goal.returns-then-is_marked-clause-state
 returns-then-is_marked-clause-state g t c = λ told.
-    step-marked (g.S.Space.state c.args.base.now).cells c.args.master.now c.args.difi.now c.args.state.now c.args.level c.args.block
+    step-marked (g.S.Space.state c.args.base.now).cells c.args.master.now c.args.difi.now c.args.state.now c.args.level
+    c.args.block
     c.requires.there.in_tree.0 (sym c.is_marked.ensures ∙ c.if-is_marked.true)
 
 pub returns-then-level-eq1-clause-state : goal.returns-then-level-eq1-clause-state
 returns-then-level-eq1-clause-state g t c = λ told.
-    let step = step-first (g.S.Space.state c.args.base.now).cells c.args.master.now c.args.difi.now c.args.state.now c.args.level c.args.block
+    let step = step-first (g.S.Space.state c.args.base.now).cells c.args.master.now c.args.difi.now c.args.state.now
+    c.args.level c.args.block
     c.if-level-eq1.true (sym c.is_marked.ensures ∙ c.if-is_marked.false) in
     IfOk-map c.judge.result (λ found is. is ∙ step) (c.judge.ensures.state told)
 
 pub block_state-requires : goal.block_state-requires
 block_state-requires g t c κs within =
     let below : 1 < c.args.level = omega (arith, c.if-level-eq1.false, c.requires.there.in_tree.0) in
-    let parent = parent_of_there (g.S.Space.state c.args.base.now).shape c.args.difi.now _ c.args.level c.args.block c.requires.tree below c.requires.there in
-    (omega (arith, c.decreases, c.requires.there.in_tree.0), (within, (c.requires.tree, rw c.parent_of-above.ensures parent)))
+    let parent = parent_of_there (g.S.Space.state c.args.base.now).shape c.args.difi.now _ c.args.level c.args.block
+    c.requires.tree below c.requires.there in (
+      omega (arith, c.decreases, c.requires.there.in_tree.0),
+      (within, (c.requires.tree, rw c.parent_of-above.ensures parent)),
+    )
 
 pub returns-in-Holds : goal.returns-in-Holds
 returns-in-Holds g t c =
@@ -32,18 +37,24 @@ returns-in-Holds g t c =
     record {
       state = λ told.
           (let above = sym c.in-Holds.is ∙ c.in-Ok.ensures.state told in
-          let step = step-holds old.cells c.args.master.now c.args.difi.now c.args.state.now c.args.level c.args.block c.requires.there.in_tree.0
+          let step = step-holds old.cells c.args.master.now c.args.difi.now c.args.state.now c.args.level c.args.block
+          c.requires.there.in_tree.0
           (sym c.is_marked.ensures ∙ c.if-is_marked.false) (rw c.parent_of-above.ensures at above) in
-          let same = own-same old.shape c.args.difi.now c.requires.tree.levels (space.state mid).cells old.cells (reads.stays.cells told)
+          let same = own-same old.shape c.args.difi.now c.requires.tree.levels (space.state mid).cells old.cells
+          (reads.stays.cells told)
           c.args.master.now c.args.level c.args.block c.requires.there.in_tree in
-          IfOk-map c.judge-in-Holds.result (λ found is. is ∙ same ∙ step) (c.judge-in-Holds.ensures.state (reads.stays.space.told told)));
+          IfOk-map c.judge-in-Holds.result (λ found is. is ∙ same ∙ step)
+          (c.judge-in-Holds.ensures.state (reads.stays.space.told told)));
       plain = c.judge-in-Holds.ensures.plain;
-      reads = Reads-join space.state space.keeps space.lands g.met.S.Space.keeps_join c.args.base.now mid c.judge-in-Holds.new.base
+      reads = Reads-join space.state space.keeps space.lands g.met.S.Space.keeps_join c.args.base.now mid
+          c.judge-in-Holds.new.base
           (result_err c.judge-in-Holds.result) reads c.judge-in-Holds.ensures.reads;
     }
 
 pub returns-in_default-clause-state : goal.returns-in_default-clause-state
 returns-in_default-clause-state g t c = λ told.
-    step-fault (g.S.Space.state c.args.base.now).cells c.args.master.now c.args.difi.now c.args.state.now c.args.level c.args.block c.in-Ok.found
-    c.requires.there.in_tree.0 (sym c.is_marked.ensures ∙ c.if-is_marked.false) (rw c.parent_of-above.ensures at c.in-Ok.ensures.state told)
+    step-fault (g.S.Space.state c.args.base.now).cells c.args.master.now c.args.difi.now c.args.state.now c.args.level
+    c.args.block c.in-Ok.found
+    c.requires.there.in_tree.0 (sym c.is_marked.ensures ∙ c.if-is_marked.false)
+    (rw c.parent_of-above.ensures at c.in-Ok.ensures.state told)
     c.in_default.not-Holds

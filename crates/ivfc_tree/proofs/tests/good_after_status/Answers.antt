@@ -8,5 +8,6 @@ pub returns-in-Ok : goal.returns-in-Ok
 returns-in-Ok g c =
     let space = g.S.Space in
     let keeps_join = HashKeeps-join space.keeps g.met.S.Space.keeps_join in
-    Reads-join (shown space.state) (HashKeeps space.keeps) (hash_lands space.lands) keeps_join c.args.view.now c.status.new.self c.verify.new.self
+    Reads-join (shown space.state) (HashKeeps space.keeps) (hash_lands space.lands) keeps_join c.args.view.now
+    c.status.new.self c.verify.new.self
     (result_err c.verify.result) c.in-Ok.ensures.reads c.verify.ensures.reads

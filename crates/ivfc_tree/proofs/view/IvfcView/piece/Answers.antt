@@ -36,7 +36,8 @@ returns g c =
     let tree = shown_tree space.state g.met.S.Space.size_fits view c.requires.inside.sound in
     let first = c.in-Ok.ensures in
     let hold = first.same.hold in
-    let base = Reads-join space.state space.keeps space.lands g.met.S.Space.keeps_join view.base.now mid last refusal first.base
+    let base = Reads-join space.state space.keeps space.lands g.met.S.Space.keeps_join view.base.now mid last refusal
+    first.base
     c.piece.follows.holds-at-none in (
       (
         refl,

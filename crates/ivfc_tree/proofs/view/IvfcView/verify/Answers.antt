@@ -15,7 +15,8 @@ rest_of_block-requires-clause-log g c =
     (shown_can space.state g.met.S.Space.size_fits c.args.self.now c.requires.inside.sound).block_sizes.ivfc4.1
 
 pub found-requires-clause-there : goal.found-requires-clause-there
-found-requires-clause-there g c = rw c.block_size.ensures (block_of_there c.args.self.now.difi.now c.args.at (omega (arith, c.requires.inside.inside)))
+found-requires-clause-there g c = rw c.block_size.ensures
+    (block_of_there c.args.self.now.difi.now c.args.at (omega (arith, c.requires.inside.inside)))
 
 pub returns-in-Holds-clause-verified : goal.returns-in-Holds-clause-verified
 returns-in-Holds-clause-verified g c =
