@@ -8,24 +8,9 @@ use Rattle.save_disk.specs.State.{GoesOn}
 use Rattle.save_disk.specs.Writes.{OnlyWrites, GrewBy, one_if, writes_to}
 use Rattle.save_disk.proofs.Growth.{OnlyWrites-append, OnlyWrites-map, writes_to-append, GoesOn-then}
 use Rattle.page_image.specs.declared.state.ImageState.{ImageState}
-use Rattle.page_image.specs.Images.{byte_of, is_changed}
+use Rattle.page_image.specs.Images.{is_changed}
 use Rattle.page_image.specs.Spots.{Leaves}
 use Rattle.page_image.specs.WriteOuts.{IsOwnWrite, WritesEach, WritesSome}
-
--- an own write of the same bytes, where the sector is as much changed
-own_same : (i j : ImageState) (sector : ℕ) (written : List ℕ) → j.grain ≡ i.grain → ((x : ℕ) → byte_of j x ≡ byte_of i x)
-    → is_changed j sector ≡ is_changed i sector → IsOwnWrite j sector written → IsOwnWrite i sector written
-own_same i j sector written grain same marks own =
-    let grain_back : i.grain ≡ j.grain = sym grain in
-    record {
-      changed = sym marks ∙ own.changed;
-      bytes = record {
-        long = own.bytes.long ∙ grain;
-        each = λ k below.
-            (let inside : k < j.grain = rw grain below in
-            own.bytes.each k inside ∙ same (sector * j.grain + k) ∙ ap (λ (n : ℕ). byte_of i (sector * n + k)) grain);
-      };
-    }
 
 apart-eqb : (a b : ℕ) → a ≢ b → eqb a b ≡ false
 apart-eqb a b apart = false_from_ne_true (eqb a b) (λ is. apart (eqb-true a b is))
@@ -56,9 +41,16 @@ module _ (d e f : disks.State) (i j : ImageState) (s : ℕ) (leaves : (spot : Sp
   -- where the sectors before this one were written, a write of a changed sector is one of those that were to be written
   own_before : (events : List Event) → OnlyWrites (IsOwnWrite j) events → OnlyWrites (IsOwnWrite i) events
   own_before events own =
+      let grain : j.grain ≡ i.grain = (leaves Frame).0.grain in
       OnlyWrites-map (IsOwnWrite j) (IsOwnWrite i) events
-      (λ sector written is.
-      own_same i j sector written (leaves Frame).0.grain (λ x. (leaves (Place x)).1.0) (at_first sector is.changed) is) own
+      (λ sector written is. record {
+        changed = sym (at_first sector is.changed) ∙ is.changed;
+        bytes = record {
+          long = is.bytes.long ∙ grain;
+          each = λ k below. is.bytes.each k (omega arith) ∙ (leaves (Place (sector * j.grain + k))).1.0 ∙ rw grain refl;
+        };
+      })
+      own
 
   -- the sector itself is as much changed as at first
   chosen_same : (m : ℕ) → (eqb s m && is_changed j m) ≡ (eqb s m && is_changed i m)

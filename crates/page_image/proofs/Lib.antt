@@ -1,10 +1,7 @@
 pub mod ReadLemmas
 pub mod SectorLemmas
-pub mod SameLemmas
 pub mod PieceLemmas
 pub mod PutLemmas
-pub mod SureLemmas
 pub mod WriteLemmas
 pub mod CountLemmas
-pub mod AllowedLemmas
 pub mod QuietLemmas

@@ -20,7 +20,7 @@ use Rattle.page_image.specs.Images.{byte_of, is_changed, image_state, Mirrors}
 use Rattle.page_image.specs.Spots.{SameImage, HoldsAt, Leaves, ImageLands}
 use Rattle.page_image.specs.Held.{shown, SameImageView, ImageKeeps}
 use Rattle.page_image.specs.Laws.{sure_start}
-use Rattle.page_image.specs.Puts.{IsImagePut, IsPending}
+use Rattle.page_image.specs.Puts.{IsImagePut}
 use Rattle.page_image.proofs.SectorLemmas.{rising}
 
 -- marks on the sectors from the first that a range meets up to the end of those
@@ -122,9 +122,3 @@ image_moved states s t at piece same untouched put fits =
       damaged = λ can. tt;
       reach = λ can x below spot lands. rw put.grain at lands;
     }
-
--- what was put is pending
-pub image_pending : (d : disks.State) (i j : ImageState) (at : ℕ) (piece : List ℕ) → IsImagePut at piece i j → IsPending at (length piece) d d j
-image_pending d i j at piece put k below clean =
-    let met : is_changed j ((at + k) / j.grain) ≡ true = rw put.grain (put.marks.met k below) in
-    absurd (cc)

@@ -1,6 +1,5 @@
 -- Sectors read one behind the other.
 use Rattle.std.proofs.Common.{◌≡◌, ℕ, ◌+◌, ◌-◌, ◌*◌, ◌/◌, ◌<◌, ◌≤◌, Bool, false, List, ◌++◌, length, get_or, take, replicate, IsTrue, Option, Some, sym, ◌∙◌, ap, arith, ⊎_elim}
-use Rattle.std.proofs.Math.Nat.{mul-le-mul_left}
 use Rattle.std.proofs.lemmas.List.{places, take_all, take-append-le, get_or-replicate, get_or_past, length-replicate}
 use Rattle.std.proofs.lemmas.Nat.{div-mul-add}
 use Rattle.std.proofs.lemmas.Bool.{cases_lt}
@@ -13,12 +12,6 @@ use Rattle.save_disk.proofs.Told.{read_sure, tells-sure, tells-told, told_grain}
 use Rattle.page_image.specs.declared.state.ImageState.{ImageState}
 use Rattle.page_image.specs.Images.{byte_of, is_changed, IsDiskOf, IsOpened}
 use Rattle.page_image.specs.Reading.{AreSectorsRead}
-
--- each of the sectors begins inside
-pub sector_begins : (sector sectors grain size : ℕ) → sector < sectors → sectors * grain < size + grain → sector * grain < size
-sector_begins sector sectors grain size below ends =
-    let next : sector + 1 ≤ sectors = omega arith in
-    omega (arith, mul-le-mul_left grain next)
 
 module _ (start n : ℕ) (bytes out : List ℕ) (fits : start + n ≤ length bytes) (long : length out ≡ n) where
   part_before : (x : ℕ) → x < start → get_or (put_mid start (start + n - start) bytes out) x 0 ≡ get_or bytes x 0
@@ -61,10 +54,8 @@ written_back n new rest long = take-append-le n new rest (omega arith) ∙ take_
 -- marks that are all clear
 pub unmarked : (changed : List Bool) (n : ℕ) → changed ≡ replicate n false → (sector : ℕ) → get_or changed sector false ≡ false
 unmarked changed n clear sector =
-    rw clear
-    (⊎_elim (λ (within : sector < n). get_or-replicate n sector false false within)
-    (λ (past : n ≤ sector). get_or_past (replicate n false) sector false (omega (arith, length-replicate {A = Bool} n false, past)))
-    (cases_lt sector n))
+    let past = λ (from : n ≤ sector). get_or_past (replicate n false) sector false (omega (arith, length-replicate {A = Bool} n false)) in
+    rw clear (⊎_elim (get_or-replicate n sector false false) past (cases_lt sector n))
 
 -- an image whose bytes were read, with no mark
 pub opened : (disk : disks.State) (image : ImageState) (n : ℕ) → disks.IsSound disk → IsDiskOf disk image → image.len ≤ n

@@ -10,11 +10,15 @@ use Rattle.page_image.specs.Layout.{IsImageLaidOut, IsEndOf}
 pub some_grain : (grain : ℕ) → IsTrue (is_grain grain) → 1 ≤ grain
 some_grain grain known = ⊎_elim (λ (is : grain ≡ 512). omega arith) (λ (is : grain ≡ 4096). omega arith) (known_grain grain known)
 
--- each sector begins inside
+-- each of the sectors begins inside
+pub sector_begins : (sector sectors grain size : ℕ) → sector < sectors → sectors * grain < size + grain → sector * grain < size
+sector_begins sector sectors grain size below ends =
+    let next : sector + 1 ≤ sectors = omega arith in
+    omega (arith, mul-le-mul_left grain next)
+
 pub begins_inside : (len grain size sectors sector : ℕ) → IsImageLaidOut len grain size sectors → sector < sectors → sector * grain < len
 begins_inside len grain size sectors sector layout below =
-    let next : sector + 1 ≤ sectors = omega arith in
-    omega (arith, mul-le-mul_left grain next, layout.whole, layout.begins)
+    sector_begins sector sectors grain len below (omega (arith, layout.whole, layout.begins))
 
 -- a later place lies in no earlier sector
 pub rising : (a b grain : ℕ) → 1 ≤ grain → a ≤ b → a / grain ≤ b / grain

@@ -1,6 +1,7 @@
 -- What a write of a changed sector leaves.
-use Rattle.std.proofs.Common.{◌≡◌, ◌≢◌, ◌⊎◌, ℕ, ◌+◌, ◌-◌, ◌*◌, ◌/◌, ◌%◌, ◌<◌, ◌≤◌, true, false, List, [], ◌∷◌, length, get_or, Some, refl, sym, ◌∙◌, ap, arith, inl, inr, ⊎_elim}
+use Rattle.std.proofs.Common.{◌≡◌, ◌≢◌, ◌⊎◌, ℕ, ◌+◌, ◌-◌, ◌*◌, ◌/◌, ◌%◌, ◌<◌, ◌≤◌, true, false, List, [], ◌∷◌, length, get_or, Option, Some, None, MatchOption, refl, sym, ◌∙◌, ap, arith, inl, inr, ⊎_elim}
 use Rattle.std.specs.Bool.{⊤}
+use Rattle.std.specs.Option.{option_map}
 use Rattle.std.proofs.lemmas.Nat.{div-add-mod', div-mul-add, mod_below}
 use Rattle.std.proofs.lemmas.Bool.{cases_lt, cases_eq, eq-eqb}
 use Rattle.save_bytes.specs.Spots.{Spot, Place, Sector}
@@ -11,12 +12,35 @@ use Rattle.save_disk.proofs.SectorBytes.{with_sector-before, with_sector-behind,
 use Rattle.save_disk.proofs.Told.{told_grain, now_size}
 use Rattle.save_disk.proofs.Growth.{grew_happens, grew_failed, came_from, image_written, image_unchanged}
 use Rattle.page_image.specs.declared.state.ImageState.{ImageState}
-use Rattle.page_image.specs.Images.{byte_of, is_changed, IsDiskOf, Mirrors}
-use Rattle.page_image.specs.Spots.{HoldsAt, SureAsBefore, SameImageSpot, Leaves}
+use Rattle.page_image.specs.Images.{byte_of, is_changed, IsDiskOf, Mirrors, IsStored}
+use Rattle.page_image.specs.Spots.{SameImage, HoldsAt, SureAsBefore, SameImageSpot, Leaves}
+use Rattle.page_image.specs.Laws.{SureFrom}
 use Rattle.page_image.specs.Puts.{IsUnmarked}
-use Rattle.page_image.specs.WriteOuts.{IsOwnWrite}
+use Rattle.page_image.specs.WriteOuts.{IsOwnWrite, IsClean}
 use Rattle.page_image.proofs.SectorLemmas.{some_grain}
-use Rattle.page_image.proofs.SureLemmas.{sure_written, sure_failed}
+
+-- the disk stays that of the image
+pub kept_disk : (d e : disks.State) (i j : ImageState) → SameImage d i e j → IsDiskOf d i → IsDiskOf e j
+kept_disk d e i j same disk_of = record {
+  size = same.steady.size ∙ disk_of.size ∙ sym same.len;
+  grain = same.steady.grain ∙ disk_of.grain ∙ sym same.grain;
+}
+
+-- where no sector is changed each byte is on the disk
+pub clean_stored : (d : disks.State) (i : ImageState) → Mirrors d i → IsClean i → IsStored d i
+clean_stored d i mirrors clean told is x below = mirrors told is x below (clean (x / i.grain))
+
+module _ (n : ℕ) (bytes : List ℕ) (sector : ℕ) where
+  -- a write that is done changes of no sector what is told of reads
+  sure_written : (o p : Option Told) → p ≡ option_map (disks.then_event (Write n bytes)) o → SureFrom sector o p
+  sure_written None p is = is
+  sure_written (Some told) p is = (disks.then_event (Write n bytes) told, is, refl)
+
+  -- and one that failed, of its own sector alone
+  sure_failed : (o p : Option Told) → sector ≢ n
+      → MatchOption o (p ≡ None) (λ told. (next : Told) × (p ≡ Some next) × disks.WriteFails n bytes told next) → SureFrom sector o p
+  sure_failed None p apart is = is
+  sure_failed (Some told) p apart (next, is, fails) = (next, is, fails.others sector apart)
 
 -- an image with the same bytes, of which each sector but one is as much changed
 pub record SameBut (n : ℕ) (i j : ImageState) : Type 0 where
@@ -87,9 +111,7 @@ module _ (i : ImageState) (n : ℕ) (bytes : List ℕ) (own : IsOwnWrite i n byt
         let whole = own.bytes.long in
         ⊎_elim
         (λ (here : x / i.grain ≡ n).
-        let at = in_sector x n i.grain (some_grain i.grain i.layout.known) here in
-        let from = at.0 in
-        let below = at.1 in
+        let (from, below) = in_sector x n i.grain (some_grain i.grain i.layout.known) here in
         let k : ℕ = x - n * i.grain in
         let place : x ≡ n * i.grain + k = omega arith in
         ap (λ (y : ℕ). get_or (with_sector i.grain now n bytes) y 0) place
@@ -156,7 +178,7 @@ module _ (i : ImageState) (n : ℕ) (bytes : List ℕ) (own : IsOwnWrite i n byt
         mirrored now from.0 from.1 from.2 before)
         (λ clean. grew_happens (λ events. 1 ≤ writes_to n events) (Write n bytes) d e happens (rw (eq-eqb n n refl) (omega arith)))
         (λ P none such. grew_happens P (Write n bytes) d e happens such)
-        (λ sector apart. sure_written n bytes sector d e happens)
+        (λ sector apart. sure_written n bytes sector d.told e.told happens)
 
   -- the write failed, and the sector stays changed
   pub leaves_failed : (d e : disks.State) → disks.IsSound d → IsDiskOf d i → n * i.grain < i.len → disks.IsSteady d e
@@ -174,4 +196,4 @@ module _ (i : ImageState) (n : ℕ) (bytes : List ℕ) (own : IsOwnWrite i n byt
       from.2.such)
       (λ clean. let changed = own.changed in absurd (cc))
       (λ P none such. grew_failed P n bytes d e fails none such)
-      (λ sector apart. sure_failed n bytes sector d e apart fails)
+      (λ sector apart. sure_failed n bytes sector d.told e.told apart fails)

@@ -124,6 +124,7 @@ impl ImageState {
 }
 
 // The number behind the last sector that has one of the `n` places from `at` on; the sector of `at` where `n` is 0.
+#[tactic(auto, using(crate::proofs::SectorLemmas::sectors_up_to))]
 fn end_sector(at: u64, n: u64, grain: u64) -> u64
     requires some { 1 ≤ grain }
     requires small { at + n < 2 ^ 63 }

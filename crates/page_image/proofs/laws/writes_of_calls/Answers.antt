@@ -1,4 +1,4 @@
-use Rattle.page_image.proofs.AllowedLemmas.{allowed}
+use Rattle.page_image.proofs.QuietLemmas.{allowed}
 use Rattle.page_image.proofs.laws.writes_of_calls.Goals as goal
 
 pub returns : goal.returns

@@ -4,7 +4,7 @@ use Rattle.save_bytes.specs.Spots.{Frame}
 use Rattle.save_bytes.proofs.SpaceLemmas.{Rose-later}
 use Rattle.page_image.specs.Laws.{Leaves-join}
 use Rattle.page_image.proofs.CountLemmas.{wrote_each, wrote_some}
-use Rattle.page_image.proofs.SameLemmas.{kept_disk}
+use Rattle.page_image.proofs.WriteLemmas.{kept_disk}
 use Rattle.page_image.proofs.writing.write_out.Goals as goal
 
 on_err : {T E P : Type 0} (r : Result T E) → P → OnErr r P

@@ -4,7 +4,7 @@ use Rattle.save_bytes.specs.Cells.{Byte}
 use Rattle.save_bytes.specs.Spots.{Place, Frame}
 use Rattle.page_image.specs.Images.{IsStored}
 use Rattle.page_image.specs.WriteOuts.{IsClean}
-use Rattle.page_image.proofs.SameLemmas.{clean_stored}
+use Rattle.page_image.proofs.WriteLemmas.{clean_stored}
 use Rattle.page_image.proofs.image.Image.flush.Goals as goal
 
 pub returns-clause-frame : goal.returns-clause-frame
