@@ -7,7 +7,7 @@ use Rattle.sha2.specs.Sha256.{sha256}
 use Rattle.save_bytes.specs.Cells.{Cell}
 use Rattle.difi.specs.declared.descriptor.Difi.{Difi}
 use Rattle.ivfc_tree.specs.declared.path.BlockState.{BlockState}
-use Rattle.ivfc_tree.specs.declared.path.BlockState.TheVariants.{Holds, NeverWritten, Fails}
+use Rattle.ivfc_tree.specs.declared.path.BlockState.TheVariants.{Good, Blank as BlankAt, Bad as BadAt}
 use Rattle.ivfc_tree.specs.Levels.{padded_block, hash_entry, zero_entry, parent_of}
 use Rattle.ivfc_tree.specs.Paths.{block_above, IsHashed, HasHashPath, FailsFirst, IsStateOf, own_state, after, marked_state}
 
@@ -97,9 +97,9 @@ module _ (cells : ℕ → Cell) (master : List ℕ) (difi : Difi) where
       → IsStateOf cells master difi level (parent_of difi level block) above
       → (path level (parent_of difi level block) → IsStateOf cells master difi (suc level) block own)
       → IsStateOf cells master difi (suc level) block (after above own)
-  after_state level block Holds own found next = next found
-  after_state level block (NeverWritten upper at) own found next = (fails_more level block upper at found.0, found.1)
-  after_state level block (Fails upper at) own found next = (fails_more level block upper at found.0, found.1)
+  after_state level block Good own found next = next found
+  after_state level block (BlankAt upper at) own found next = (fails_more level block upper at found.0, found.1)
+  after_state level block (BadAt upper at) own found next = (fails_more level block upper at found.0, found.1)
 
   -- where none is marked, what a path comes to is what the definition of a path says
   pub state_is : (marked : ℕ → ℕ → Bool) → ((level block : ℕ) → marked level block ≡ false) → (level block : ℕ)

@@ -3,20 +3,20 @@ use Rattle.std.proofs.Common.{◌≡◌, ◌≢◌, ℕ, zero, suc, ◌-◌, ◌
 use Rattle.save_bytes.specs.Cells.{Cell}
 use Rattle.difi.specs.declared.descriptor.Difi.{Difi}
 use Rattle.ivfc_tree.specs.declared.path.BlockState.{BlockState}
-use Rattle.ivfc_tree.specs.declared.path.BlockState.TheVariants.{Holds, NeverWritten, Fails}
+use Rattle.ivfc_tree.specs.declared.path.BlockState.TheVariants.{Good, Blank as BlankAt, Bad as BadAt}
 use Rattle.ivfc_tree.specs.declared.state.IvfcState.{IvfcState}
 use Rattle.ivfc_tree.specs.Levels.{parent_of}
 use Rattle.ivfc_tree.specs.Marks.{is_marked}
 use Rattle.ivfc_tree.specs.Paths.{own_state, after, marked_state, block_state}
 
-after-fault : (found above own : BlockState) → found ≡ above → found ≢ Holds → found ≡ after above own
-after-fault found Holds own is fault = absurd (fault is)
-after-fault found (NeverWritten upper at) own is fault = is
-after-fault found (Fails upper at) own is fault = is
+after-fault : (found above own : BlockState) → found ≡ above → found ≢ Good → found ≡ after above own
+after-fault found Good own is fault = absurd (fault is)
+after-fault found (BlankAt upper at) own is fault = is
+after-fault found (BadAt upper at) own is fault = is
 
 module _ (cells : ℕ → Cell) (master : List ℕ) (difi : Difi) (state : IvfcState) where
   pub step-marked : (level block : ℕ) → 1 ≤ level → is_marked state level block ≡ true
-      → Holds ≡ block_state cells master difi state level block
+      → Good ≡ block_state cells master difi state level block
   unfolding marked_state
   step-marked zero block some marked = absurd (omega (arith, some))
   step-marked (suc level) block some marked = rw marked refl
@@ -36,11 +36,11 @@ module _ (cells : ℕ → Cell) (master : List ℕ) (difi : Difi) (state : IvfcS
   step-first level block first marked = rw first (sym (step 1 block (omega arith) (rw first at marked)))
 
   pub step-holds : (level block : ℕ) → 1 ≤ level → is_marked state level block ≡ false
-      → Holds ≡ block_state cells master difi state (level - 1) (parent_of difi (level - 1) block)
+      → Good ≡ block_state cells master difi state (level - 1) (parent_of difi (level - 1) block)
       → own_state cells master difi level block ≡ block_state cells master difi state level block
   step-holds level block some marked above = rw (step level block some marked, ← above) refl
 
   pub step-fault : (level block : ℕ) (found : BlockState) → 1 ≤ level → is_marked state level block ≡ false
-      → found ≡ block_state cells master difi state (level - 1) (parent_of difi (level - 1) block) → found ≢ Holds
+      → found ≡ block_state cells master difi state (level - 1) (parent_of difi (level - 1) block) → found ≢ Good
       → found ≡ block_state cells master difi state level block
   step-fault level block found some marked is fault = rw (step level block some marked) (after-fault found _ _ is fault)

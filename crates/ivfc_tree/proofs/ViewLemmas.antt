@@ -15,7 +15,7 @@ use Rattle.save_bytes.proofs.SpaceLemmas.{UnlessDisk-map, UnlessDisk-always}
 use Rattle.difi.specs.declared.descriptor.Difi.{Difi}
 use Rattle.difi.specs.Places.{block_size}
 use Rattle.ivfc_tree.specs.declared.path.BlockState.{BlockState}
-use Rattle.ivfc_tree.specs.declared.path.BlockState.TheVariants.{Holds, NeverWritten, Fails}
+use Rattle.ivfc_tree.specs.declared.path.BlockState.TheVariants.{Good, Blank as BlankAt, Bad as BadAt}
 use Rattle.ivfc_tree.specs.declared.state.IvfcState.{IvfcState}
 use Rattle.ivfc_tree.specs.declared.view.IvfcView.{IvfcView}
 use Rattle.ivfc_tree.specs.Levels.{level_of}
@@ -96,14 +96,14 @@ rest_is difi at inside =
 
 byte_cell : (found : BlockState) (part value : ℕ) → IsByte (cell_in found part value)
     → cell_in found part value ≡ Byte value
-byte_cell Holds part value byte = refl
-byte_cell (NeverWritten level block) part value byte = absurd byte
-byte_cell (Fails level block) part value byte = absurd byte
+byte_cell Good part value byte = refl
+byte_cell (BlankAt level block) part value byte = absurd byte
+byte_cell (BadAt level block) part value byte = absurd byte
 
 module _ (base : State) (part : ℕ) (master : List ℕ) (difi : Difi) (state : IvfcState) (at : ℕ) where
   -- what is answered of a good block
   pub good_verified : at < difi.ivfc4.size → (most n : ℕ) → 1 ≤ most
-      → (IsTrue base.told → Holds ≡ block_state base.cells master difi state 4 (at / block_size difi.ivfc4))
+      → (IsTrue base.told → Good ≡ block_state base.cells master difi state 4 (at / block_size difi.ivfc4))
       → n ≡ min (rest_of difi at) most
       → IsVerified (view_state base part master difi state) at most (Ok n)
   good_verified inside most n some good is =

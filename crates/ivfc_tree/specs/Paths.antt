@@ -5,7 +5,7 @@ use Rattle.save_bytes.specs.Cells.{Cell, Byte, Blank, Spoilt}
 use Rattle.difi.specs.declared.descriptor.Difi.{Difi}
 use Rattle.difi.specs.Places.{block_size}
 use Rattle.ivfc_tree.specs.declared.path.BlockState.{BlockState}
-use Rattle.ivfc_tree.specs.declared.path.BlockState.TheVariants.{Holds, NeverWritten, Fails}
+use Rattle.ivfc_tree.specs.declared.path.BlockState.TheVariants.{Good, Blank as BlankAt, Bad as BadAt}
 use Rattle.ivfc_tree.specs.declared.state.IvfcState.{IvfcState}
 use Rattle.ivfc_tree.specs.Levels.{padded_block, hash_entry, zero_entry, parent_of}
 use Rattle.ivfc_tree.specs.Marks.{is_marked}
@@ -39,17 +39,17 @@ pub record FailsFirst (cells : ℕ → Cell) (master : List ℕ) (difi : Difi) (
 
 -- what a block's path comes to: it holds, or fails first at a block that was never written, or at another
 abbrev pub IsStateOf : (ℕ → Cell) → List ℕ → Difi → ℕ → ℕ → BlockState → Type 0
-IsStateOf cells master difi level block Holds = HasHashPath cells master difi level block
-IsStateOf cells master difi level block (NeverWritten upper at) =
+IsStateOf cells master difi level block Good = HasHashPath cells master difi level block
+IsStateOf cells master difi level block (BlankAt upper at) =
     FailsFirst cells master difi level block upper at × (hash_entry cells master difi upper at ≡ zero_entry)
-IsStateOf cells master difi level block (Fails upper at) =
+IsStateOf cells master difi level block (BadAt upper at) =
     FailsFirst cells master difi level block upper at × (hash_entry cells master difi upper at ≢ zero_entry)
 
 -- a block by its entry and digest alone
 abbrev pub judged : ℕ → ℕ → List ℕ → List ℕ → BlockState
 judged level block entry digest =
-    if bytes_eq entry zero_entry then NeverWritten level block
-    else (if bytes_eq entry digest then Holds else Fails level block)
+    if bytes_eq entry zero_entry then BlankAt level block
+    else (if bytes_eq entry digest then Good else BadAt level block)
 
 -- what a block's own entry and bytes tell
 abbrev pub own_state : (ℕ → Cell) → List ℕ → Difi → ℕ → ℕ → BlockState
@@ -58,15 +58,15 @@ own_state cells master difi level block =
 
 -- what is said of the block above decides, unless that holds
 abbrev pub after : BlockState → BlockState → BlockState
-after Holds own = own
-after (NeverWritten level block) own = NeverWritten level block
-after (Fails level block) own = Fails level block
+after Good own = own
+after (BlankAt level block) own = BlankAt level block
+after (BadAt level block) own = BadAt level block
 
 -- the same as a value, where blocks that are marked count as good
 unfoldable pub marked_state : (ℕ → Cell) → List ℕ → Difi → (ℕ → ℕ → Bool) → ℕ → ℕ → BlockState
-marked_state cells master difi marked zero block = Holds
+marked_state cells master difi marked zero block = Good
 marked_state cells master difi marked (suc level) block =
-    if marked (suc level) block then Holds
+    if marked (suc level) block then Good
     else after (marked_state cells master difi marked level (parent_of difi level block))
     (own_state cells master difi (suc level) block)
 
@@ -80,6 +80,6 @@ block_state cells master difi state = marked_state cells master difi (is_marked 
 
 -- the cell of a byte of a part, by the state of its block
 abbrev pub cell_in : BlockState → ℕ → ℕ → Cell
-cell_in Holds part value = Byte value
-cell_in (NeverWritten level block) part value = Blank part level block
-cell_in (Fails level block) part value = Spoilt part level block
+cell_in Good part value = Byte value
+cell_in (BlankAt level block) part value = Blank part level block
+cell_in (BadAt level block) part value = Spoilt part level block

@@ -13,10 +13,10 @@ use Rattle.difi.specs.Contents.{view_size}
 use Rattle.difi.specs.Conditions.{has_bad_log, has_bad_level, has_overlapping_levels, has_too_few_entries}
 use Rattle.difi.specs.Sound.{AreApart, IsBetween, HasBlockSizes, HasHashLevels}
 use Rattle.ivfc_tree.specs.declared.path.BlockState.{BlockState}
-use Rattle.ivfc_tree.specs.declared.path.BlockState.TheVariants.{Holds, NeverWritten, Fails}
+use Rattle.ivfc_tree.specs.declared.path.BlockState.TheVariants.{Good, Blank as BlankAt, Bad as BadAt}
 use Rattle.ivfc_tree.specs.declared.state.IvfcState.{IvfcState}
 use Rattle.ivfc_tree.specs.declared.view.Status.{Status}
-use Rattle.ivfc_tree.specs.declared.view.Status.TheVariants.{Good, Blank, Bad as BadStatus}
+use Rattle.ivfc_tree.specs.declared.view.Status.TheVariants.{Good as GoodStatus, Blank as BlankStatus, Bad as BadStatus}
 use Rattle.ivfc_tree.specs.Levels.{IsLevel, level_of}
 use Rattle.ivfc_tree.specs.Marks.{IsMadeFor}
 use Rattle.ivfc_tree.specs.Paths.{block_state, cell_in}
@@ -93,9 +93,9 @@ pub record IsVerified (s : State) (at most : ℕ) (result : Result ℕ Bad) : Ty
 
 -- what is told of a block
 abbrev pub status_of : BlockState → Status
-status_of Holds = Good
-status_of (NeverWritten level block) = Blank
-status_of (Fails level block) = BadStatus
+status_of Good = GoodStatus
+status_of (BlankAt level block) = BlankStatus
+status_of (BadAt level block) = BadStatus
 
 -- how many bytes from a place of level four on lie in its block
 abbrev pub rest_of : Difi → ℕ → ℕ

@@ -18,11 +18,11 @@ use save_bytes::{Bad, Space};
 #[derive(Clone, Copy, Debug, PartialEq, Eq)]
 pub enum BlockState {
     /// Each hash holds.
-    Holds,
+    Good,
     /// The topmost block at which it fails, whose entry is 32 zero bytes.
-    NeverWritten { level: u8, block: u64 },
+    Blank { level: u8, block: u64 },
     /// The topmost block at which it fails, whose entry is another digest than its own.
-    Fails { level: u8, block: u64 },
+    Bad { level: u8, block: u64 },
 }
 
 // A block by its entry and its digest alone.
@@ -45,7 +45,7 @@ fn judge<S: Space>(
         Err(bad) => return Err(bad),
     };
     if entry == [0; 32] {
-        return Ok(BlockState::NeverWritten { level, block });
+        return Ok(BlockState::Blank { level, block });
     }
     match block_digest(base, difi, level, block) {
         Ok(digest) => Ok(compare(level, block, &entry, &digest)),
@@ -59,9 +59,9 @@ fn compare(level: u8, block: u64, entry: &[u8; 32], digest: &[u8; 32]) -> BlockS
     ensures { result ≡ judged level block entry.now digest.now }
 {
     if entry == digest {
-        BlockState::Holds
+        BlockState::Good
     } else {
-        BlockState::Fails { level, block }
+        BlockState::Bad { level, block }
     }
 }
 
@@ -82,7 +82,7 @@ pub(crate) fn block_state<S: Space>(
     ensures reads { Reads S.state S.keeps S.lands base.old base.new (result_err result) }
 {
     if state.is_marked(level, block) {
-        return Ok(BlockState::Holds);
+        return Ok(BlockState::Good);
     }
     if level == 1 {
         return judge(base, difi, master, level, block);
@@ -93,7 +93,7 @@ pub(crate) fn block_state<S: Space>(
         Err(bad) => return Err(bad),
     };
     match found {
-        BlockState::Holds => judge(base, difi, master, level, block),
+        BlockState::Good => judge(base, difi, master, level, block),
         fault => Ok(fault),
     }
 }

@@ -107,8 +107,8 @@ impl<'a, S: Space> IvfcView<'a, S> {
             Err(bad) => return Err(bad),
         };
         match found {
-            BlockState::Holds => Ok(rest),
-            BlockState::NeverWritten { level, block } | BlockState::Fails { level, block } => {
+            BlockState::Good => Ok(rest),
+            BlockState::Blank { level, block } | BlockState::Bad { level, block } => {
                 Err(Bad::Damaged { part, level, block })
             }
         }
@@ -146,9 +146,9 @@ impl<'a, S: Space> IvfcView<'a, S> {
         ensures same { SameView self.old self.new }
     {
         match self.found(level, block) {
-            Ok(BlockState::Holds) => Ok(Status::Good),
-            Ok(BlockState::NeverWritten { .. }) => Ok(Status::Blank),
-            Ok(BlockState::Fails { .. }) => Ok(Status::Bad),
+            Ok(BlockState::Good) => Ok(Status::Good),
+            Ok(BlockState::Blank { .. }) => Ok(Status::Blank),
+            Ok(BlockState::Bad { .. }) => Ok(Status::Bad),
             Err(bad) => Err(bad),
         }
     }

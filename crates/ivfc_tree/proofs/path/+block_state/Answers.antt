@@ -28,27 +28,27 @@ block_state-requires g t c κs within =
       (within, (c.requires.tree, rw c.parent_of-above.ensures parent)),
     )
 
-pub returns-in-Holds : goal.returns-in-Holds
-returns-in-Holds g t c =
+pub returns-in-Good : goal.returns-in-Good
+returns-in-Good g t c =
     let space = g.S.Space in
     let old = space.state c.args.base.now in
     let mid = c.block_state.new.base in
     let reads = c.in-Ok.ensures.reads in
     record {
       state = λ told.
-          (let above = sym c.in-Holds.is ∙ c.in-Ok.ensures.state told in
+          (let above = sym c.in-Good.is ∙ c.in-Ok.ensures.state told in
           let step = step-holds old.cells c.args.master.now c.args.difi.now c.args.state.now c.args.level c.args.block
           c.requires.there.in_tree.0
           (sym c.is_marked.ensures ∙ c.if-is_marked.false) (rw c.parent_of-above.ensures at above) in
           let same = own-same old.shape c.args.difi.now c.requires.tree.levels (space.state mid).cells old.cells
           (reads.stays.cells told)
           c.args.master.now c.args.level c.args.block c.requires.there.in_tree in
-          IfOk-map c.judge-in-Holds.result (λ found is. is ∙ same ∙ step)
-          (c.judge-in-Holds.ensures.state (reads.stays.space.told told)));
-      plain = c.judge-in-Holds.ensures.plain;
+          IfOk-map c.judge-in-Good.result (λ found is. is ∙ same ∙ step)
+          (c.judge-in-Good.ensures.state (reads.stays.space.told told)));
+      plain = c.judge-in-Good.ensures.plain;
       reads = Reads-join space.state space.keeps space.lands g.met.S.Space.keeps_join c.args.base.now mid
-          c.judge-in-Holds.new.base
-          (result_err c.judge-in-Holds.result) reads c.judge-in-Holds.ensures.reads;
+          c.judge-in-Good.new.base
+          (result_err c.judge-in-Good.result) reads c.judge-in-Good.ensures.reads;
     }
 
 pub returns-in_default-clause-state : goal.returns-in_default-clause-state
@@ -57,4 +57,4 @@ returns-in_default-clause-state g t c = λ told.
     c.args.block c.in-Ok.found
     c.requires.there.in_tree.0 (sym c.is_marked.ensures ∙ c.if-is_marked.false)
     (rw c.parent_of-above.ensures at c.in-Ok.ensures.state told)
-    c.in_default.not-Holds
+    c.in_default.not-Good

@@ -18,10 +18,10 @@ pub found-requires-clause-there : goal.found-requires-clause-there
 found-requires-clause-there g c = rw c.block_size.ensures
     (block_of_there c.args.self.now.difi.now c.args.at (omega (arith, c.requires.inside.inside)))
 
-pub returns-in-Holds-clause-verified : goal.returns-in-Holds-clause-verified
-returns-in-Holds-clause-verified g c =
+pub returns-in-Good-clause-verified : goal.returns-in-Good-clause-verified
+returns-in-Good-clause-verified g c =
     let view = c.args.self.now in
     good_verified (g.S.Space.state view.base.now) view.part view.master.now view.difi.now view.state.now c.args.at
     (omega (arith, c.requires.inside.inside)) c.args.most _ c.requires.some
-    (λ told. sym c.in-Holds.is ∙ rw c.block_size.ensures at c.in-Ok.ensures.found told)
+    (λ told. sym c.in-Good.is ∙ rw c.block_size.ensures at c.in-Ok.ensures.found told)
     (rw c.rest_of_block.ensures at c.min-rest.ensures)
