@@ -65,8 +65,10 @@ impl<D: Disk> Image<'_, D> {
         ensures spots { (spot : Spot) → ImageKeeps D.state spot self.old self.new }
         ensures cells { SameCells (shown D.state self.old) (shown D.state self.new) }
         ensures clean { OnOk result (IsClean self.new.image.now) }
-        ensures written { OnOk result (GoesOn (GrewBy (WritesEach self.old.image.now (λ sector. true))) (D.state self.old.disk.now) (D.state self.new.disk.now)) }
-        ensures failed { OnErr result (GoesOn (GrewBy (WritesSome self.old.image.now (λ sector. true))) (D.state self.old.disk.now) (D.state self.new.disk.now)) }
+        ensures written { OnOk result
+            (GoesOn (GrewBy (WritesEach self.old.image.now (λ sector. true))) (D.state self.old.disk.now) (D.state self.new.disk.now)) }
+        ensures failed { OnErr result
+            (GoesOn (GrewBy (WritesSome self.old.image.now (λ sector. true))) (D.state self.old.disk.now) (D.state self.new.disk.now)) }
         ensures stored { Mirrors (D.state self.old.disk.now) self.old.image.now → OnOk result (IsStored (D.state self.new.disk.now) self.new.image.now) }
         ensures told { OnOk result ((shown D.state self.new).told ≡ (shown D.state self.old).told) }
         ensures cause { HasCause (D.state self.old.disk.now).counts.disk (D.state self.new.disk.now).counts.disk result }
@@ -109,7 +111,8 @@ impl<D: Disk> Space for Image<'_, D> {
 
     ghost keeps_join = { ImageKeeps-join D.state };
 
-    ghost keeps_cells = { λ s t sound single told still kept. (λ x inside. ap Byte (kept (Place x)).1.1.0, record { bottom = λ x inside. refl; is_fixed = λ x inside. refl }) };
+    ghost keeps_cells = { λ s t sound single told still kept.
+        (λ x inside. ap Byte (kept (Place x)).1.1.0, record { bottom = λ x inside. refl; is_fixed = λ x inside. refl }) };
 
     ghost keeps_lands = { λ s t sound single told still kept x below spot. subst (λ (grain : ℕ). ImageLands grain x spot) (kept Frame).1.0.grain };
 
@@ -136,7 +139,8 @@ impl<D: Disk> Space for Image<'_, D> {
         ensures ready { CanPut (shown D.state self.old) at (length bytes.now) → IsReady (shown D.state self.old) at (length bytes.now) (result_err result) }
         ensures plain { IsTrue (shown D.state self.old).shape.plain → NeverDamaged (result_err result) }
         ensures puts { Puts (shown D.state self.old) at bytes.now (shown D.state self.new) (result_err result) }
-        ensures moves { MovesOnly (ImageKeeps D.state) (λ view. ImageLands view.image.now.grain) (shown D.state self.old) self.old at (length bytes.now) self.new (result_err result) }
+        ensures moves { MovesOnly (ImageKeeps D.state) (λ view. ImageLands view.image.now.grain)
+            (shown D.state self.old) self.old at (length bytes.now) self.new (result_err result) }
         ensures pending { OnOk result (IsPending at (length bytes.now) (D.state self.old.disk.now) (D.state self.new.disk.now) self.new.image.now) }
         ensures old_or_new { IsTrue (tells (D.state self.old.disk.now))
             → WritesOnly (IsOldOrNew self.old.image.now self.new.image.now) (D.state self.old.disk.now) (D.state self.new.disk.now) }

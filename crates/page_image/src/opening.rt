@@ -71,7 +71,8 @@ fn read_sector<D: Disk>(
     requires grain { grain ≡ (D.state disk.old).grain }
     requires begins { sector * grain < (D.state disk.old).size }
     requires inside { sector * grain + grain ≤ length bytes.old }
-    ensures read { AreSectorsRead (D.state disk.old) grain bytes.old (sector * grain) → OnOk result (AreSectorsRead (D.state disk.old) grain bytes.new (sector * grain + grain)) }
+    ensures read { AreSectorsRead (D.state disk.old) grain bytes.old (sector * grain)
+        → OnOk result (AreSectorsRead (D.state disk.old) grain bytes.new (sector * grain + grain)) }
     ensures quiet { IsQuiet (D.state disk.old) (D.state disk.new) }
     ensures steady { IsSteady (D.state disk.old) (D.state disk.new) }
     ensures cause { HasCause (D.state disk.old).counts.disk (D.state disk.new).counts.disk result }
