@@ -56,8 +56,7 @@ count_between-split low middle high (y ∷ list) h k =
       arith,
       hit_split low middle high y h k,
       count_between-split low middle high list h k,
-      count_between-cons
-          low high y list,
+      count_between-cons low high y list,
       count_between-cons low middle y list,
       count_between-cons (middle + 1) high y list,
     )
@@ -102,11 +101,9 @@ count_between-all table count lead (node ∷ nodes) next h =
       h.0.starts,
       h.0.ordered,
       h.0.ends,
-      count_between-append 1 count (range_with_len node.first len)
-          (entries_of nodes),
+      count_between-append 1 count (range_with_len node.first len) (entries_of nodes),
       count_between-range 1 count node.first len,
-      count_between-all table count
-          (Follows node.first) nodes next h.1,
+      count_between-all table count (Follows node.first) nodes next h.1,
       length-append (range_with_len node.first len) (entries_of nodes),
       length-range_with_len node.first len,
     )

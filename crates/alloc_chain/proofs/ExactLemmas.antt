@@ -175,8 +175,7 @@ module _ (table : ℕ → ℕ → Cell) (count : ℕ) (few : count < 2 ^ 31) whe
           inside = rw whole (omega (
             arith,
             length-append front (here ++ begins.others),
-            length-append here
-                begins.others,
+            length-append here begins.others,
             length-range_with_len part.node.first len,
             part.before,
             part.block,

@@ -24,13 +24,12 @@ pub FaultsOnly-later : (s t : State) (info : ChainInfo) {B N B' N' : ℕ → Typ
     → (IsTrue s.told → (entry : ℕ) → N entry → N' entry) → FaultsOnly t info B N fault → FaultsOnly s info B' N' fault
 FaultsOnly-later s t info fault table stays f g h = record {
   broken = λ told. IfListBroken-map fault (f told) (h.broken (stays.space.told told));
-  damaged = λ told. IfDamaged-map (refusal_of fault)
-      (λ part level block (entry, needed, has). (
-        entry,
-        g told entry needed,
-        subst (λ (cells : ℕ → ℕ → Cell). HasFault cells entry part level block)
-            (table_stays s t info table stays told) has,
-      ))
+  damaged = λ told. IfDamaged-map (refusal_of fault) (λ part level block (entry, needed, has). (
+    entry,
+    g told entry needed,
+    subst (λ (cells : ℕ → ℕ → Cell). HasFault cells entry part level block)
+        (table_stays s t info table stays told) has,
+  ))
       (h.damaged (stays.space.told told));
   plain = λ plain. h.plain (subst (λ (shape : Shape). IsTrue shape.plain) (sym stays.space.shape) plain);
   never_short = h.never_short;

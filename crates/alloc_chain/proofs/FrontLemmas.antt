@@ -99,8 +99,7 @@ module _ (table : ℕ → ℕ → Cell) (count : ℕ) where
         arith,
         here,
         length-append (range_with_len x.first (x.last + 1 - x.first)) (entries_of xs),
-        length-append
-            (range_with_len x.first (x.last + 1 - x.first)) (entries_of ys),
+        length-append (range_with_len x.first (x.last + 1 - x.first)) (entries_of ys),
       )) in
       let rest = front_of few (Follows x.first) xs ys m n in_m in_n h.1 back same.next (⊎_elim (λ (e : n ≡ 0). inl e) (λ le. inr (lengths le)) shorter) in
       record {

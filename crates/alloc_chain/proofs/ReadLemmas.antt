@@ -1,14 +1,21 @@
--- What a call that failed has read.
-use Rattle.std.proofs.Common.{◌≡◌, ℕ, Some, None, refl}
+-- What calls that read leave, one behind the other or where one failed.
+use Rattle.std.proofs.Common.{◌≡◌, ℕ, Option, Some, None, refl}
+use Rattle.save_bytes.specs.declared.space.Bad.{Bad}
 use Rattle.save_bytes.specs.declared.space.Bad.TheVariants.{Disk, Damaged}
 use Rattle.save_bytes.specs.State.{State}
 use Rattle.save_bytes.specs.Spots.{Spot}
 use Rattle.save_bytes.specs.Reads.{Reads}
-use Rattle.save_bytes.proofs.CallLemmas.{Reads-done}
+use Rattle.save_bytes.proofs.CallLemmas.{Reads-join, Reads-done}
 use Rattle.alloc_chain.specs.declared.fault.ChainFault.{ChainFault}
 use Rattle.alloc_chain.specs.declared.fault.ChainFault.TheVariants.{Broken, Short}
 use Rattle.alloc_chain.specs.declared.fault.ChainFault.TheVariants.{Bad as Refused}
 use Rattle.alloc_chain.specs.Faults.{refusal_of}
+
+-- a call behind a call, both of which only read
+pub reads_then : {A : Type 0} {states : A → State} {keeps : Spot → A → A → Type 0} {lands : A → ℕ → Spot → Type 0} {s t u : A}
+    {refusal : Option Bad} → ((spot : Spot) (s t u : A) → keeps spot s t → keeps spot t u → keeps spot s u)
+    → Reads states keeps lands s t None → Reads states keeps lands t u refusal → Reads states keeps lands s u refusal
+reads_then join h k = Reads-join _ _ _ join _ _ _ _ h k
 
 -- a call that failed for no fault of the disk has read
 pub reads_by_fault : {A : Type 0} (states : A → State) (keeps : Spot → A → A → Type 0) (lands : A → ℕ → Spot → Type 0) (s t : A)

@@ -102,8 +102,7 @@ pub counted_more : (table : ℕ → ℕ → Cell) (count : ℕ) (lead : Lead) (f
 unfolding reached_more
 counted_more table count lead first cursor behind node low high between more counted is_node named starts led passed is = (
   reached_more table count lead first cursor behind node counted.0 is_node named starts led passed,
-  rw is
-      (between_more low high between counted.0.nodes node counted.1),
+  rw is (between_more low high between counted.0.nodes node counted.1),
 )
 
 module _ (table : ℕ → ℕ → Cell) (count : ℕ) (lead : Lead) (first : ℕ) (end : Cursor) (whole : IsReached table count lead first end) where

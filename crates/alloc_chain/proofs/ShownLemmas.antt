@@ -36,8 +36,7 @@ module _ (table : ℕ → ℕ → Cell) (count : ℕ) where
         arith,
         h.0.ordered,
         nodes_few (Follows node.first) nodes next h.1,
-        length-append
-            (range_with_len node.first len) (entries_of nodes),
+        length-append (range_with_len node.first len) (entries_of nodes),
         length-range_with_len node.first len,
       )
 

@@ -92,8 +92,7 @@ module _ (table : ℕ → ℕ → Cell) where
               (and_parts _ _ (and_parts _ _ (rw less at e.1)).1).1);
         }
 
-    ends_true : IsNode table count lead node next
-        → cond (ltb node.first node.last)
+    ends_true : IsNode table count lead node next → cond (ltb node.first node.last)
         (eqb (word_v table node.first) (flagged next) &&
         (is_inner table node (node.first + 1) && is_inner table node node.last))
         (eqb (word_v table node.first) next) ≡ true

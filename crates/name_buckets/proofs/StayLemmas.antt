@@ -1,11 +1,15 @@
 -- A table stays where the cells of its space do.
-use Rattle.std.proofs.Common.{◌≡◌, ℕ, ◌+◌, ◌<◌, ◌≤◌, List, IsTrue, None, sym, ◌∙◌, ap, subst, arith}
+use Rattle.std.proofs.Common.{◌≡◌, ℕ, ◌+◌, ◌<◌, ◌≤◌, List, IsTrue, Option, None, sym, ◌∙◌, ap, subst, arith}
 use Rattle.save_bytes.specs.Fields.{number_at}
 use Rattle.save_bytes.specs.Cells.{Cell, Blames}
 use Rattle.save_bytes.specs.CellNumbers.{bytes_in, number_in}
 use Rattle.save_bytes.specs.State.{Shape, State}
 use Rattle.save_bytes.specs.Answers.{IsFirstFault}
 use Rattle.save_bytes.specs.Stays.{Stays}
+use Rattle.save_bytes.specs.declared.space.Bad.{Bad}
+use Rattle.save_bytes.specs.Spots.{Spot}
+use Rattle.save_bytes.specs.Reads.{Reads}
+use Rattle.save_bytes.proofs.CallLemmas.{Reads-join}
 use Rattle.name_buckets.specs.declared.table.EntryKind.{EntryKind}
 use Rattle.name_buckets.specs.declared.table.TableInfo.{TableInfo}
 use Rattle.name_buckets.specs.Kinds.{entry_size, link_offset}
@@ -13,6 +17,12 @@ use Rattle.name_buckets.specs.Tables.{Table, table_in, entry_place, bucket_place
 use Rattle.name_buckets.specs.Layout.{LiesWithin, HasCounts, HasEntryTable, TellsEntryTable, IsNeeded, OfZero, BlamesNeeded, IsReadAt, AtZero, AtPlace, BlamesRead}
 use Rattle.save_bytes.proofs.CellLemmas.{bytes_in-same}
 use Rattle.name_buckets.proofs.EntryLemmas.{link_last, entry_long}
+
+-- a call behind a call, both of which only read
+pub reads_then : {A : Type 0} {states : A → State} {keeps : Spot → A → A → Type 0} {lands : A → ℕ → Spot → Type 0} {s t u : A}
+    {refusal : Option Bad} → ((spot : Spot) (s t u : A) → keeps spot s t → keeps spot t u → keeps spot s u)
+    → Reads states keeps lands s t None → Reads states keeps lands t u refusal → Reads states keeps lands s u refusal
+reads_then join h k = Reads-join _ _ _ join _ _ _ _ h k
 
 -- two tables have the same entry
 pub record SameEntry (old new : Table) (e : ℕ) : Type 0 where

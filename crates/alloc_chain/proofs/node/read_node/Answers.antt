@@ -1,10 +1,10 @@
 use Rattle.std.proofs.Common.{◌≡◌, ℕ, ◌+◌, IsTrue, Some, None, subst}
 use Rattle.save_bytes.specs.Cells.{Cell}
-use Rattle.save_bytes.proofs.CallLemmas.{Reads-join}
+use Rattle.alloc_chain.proofs.ReadLemmas.{reads_then}
 use Rattle.save_bytes.specs.Reads.{Reads}
 use Rattle.alloc_chain.specs.Table.{table_in, word_v, HasWords}
 use Rattle.alloc_chain.specs.Chains.{IsInner}
-use Rattle.alloc_chain.specs.Faults.{IsSecond, refusal_of}
+use Rattle.alloc_chain.specs.Faults.{IsSecond}
 use Rattle.alloc_chain.proofs.TableLemmas.{table_stays}
 use Rattle.alloc_chain.proofs.FaultLemmas.{FaultsOnly-later}
 use Rattle.alloc_chain.proofs.NodeLemmas.{long_node, second_fault, last_fault}
@@ -16,9 +16,7 @@ use Rattle.alloc_chain.proofs.node.read_node.Goals as goal
 both : (g : Over) (c : In-Ok-read_second g)
     → Reads g.S.Space.state g.S.Space.keeps g.S.Space.lands c.args.base.now c.read_second.new.base None
 both g c =
-    let space = g.S.Space in
-    Reads-join space.state space.keeps space.lands g.met.S.Space.keeps_join c.args.base.now c.read_head.new.base
-    c.read_second.new.base None c.in-Ok.ensures.reads c.in-Ok-read_second.ensures.reads
+    reads_then g.met.S.Space.keeps_join c.in-Ok.ensures.reads c.in-Ok-read_second.ensures.reads
 
 pub returns-in-Err-read_second-clause-faults : goal.returns-in-Err-read_second-clause-faults
 returns-in-Err-read_second-clause-faults g c =
@@ -59,9 +57,7 @@ returns-in-Ok-read_last-clause-node g c = λ told.
 
 pub returns-in-Ok-read_last-clause-reads : goal.returns-in-Ok-read_last-clause-reads
 returns-in-Ok-read_last-clause-reads g c =
-    let space = g.S.Space in
-    Reads-join space.state space.keeps space.lands g.met.S.Space.keeps_join c.args.base.now c.read_second.new.base c.read_last.new.base
-    None (both g (goal.at.returns-in-Ok-read_last-clause-reads g c).In-Ok-read_second) c.in-Ok-read_last.ensures.reads
+    reads_then g.met.S.Space.keeps_join (both g (goal.at.returns-in-Ok-read_last-clause-reads g c).In-Ok-read_second) c.in-Ok-read_last.ensures.reads
 
 pub returns-in-Err-read_last-clause-faults : goal.returns-in-Err-read_last-clause-faults
 returns-in-Err-read_last-clause-faults g c =
@@ -87,7 +83,4 @@ returns-in-Err-read_last-clause-faults g c =
 
 pub returns-in-Err-read_last-clause-reads : goal.returns-in-Err-read_last-clause-reads
 returns-in-Err-read_last-clause-reads g c =
-    let space = g.S.Space in
-    Reads-join space.state space.keeps space.lands g.met.S.Space.keeps_join c.args.base.now c.read_second.new.base c.read_last.new.base
-    (refusal_of (Some c.in-Err-read_last.fault)) (both g (goal.at.returns-in-Err-read_last-clause-reads g c).In-Ok-read_second)
-    c.in-Err-read_last.ensures.reads
+    reads_then g.met.S.Space.keeps_join (both g (goal.at.returns-in-Err-read_last-clause-reads g c).In-Ok-read_second) c.in-Err-read_last.ensures.reads

@@ -1,9 +1,8 @@
-use Rattle.std.proofs.Common.{ℕ, IsTrue, Some, None, sym, ◌∙◌, ap, subst, arith, inl, inr}
+use Rattle.std.proofs.Common.{ℕ, IsTrue, Some, sym, ◌∙◌, ap, subst, arith, inl, inr}
 use Rattle.save_bytes.specs.Cells.{Cell}
-use Rattle.save_bytes.proofs.CallLemmas.{Reads-join}
+use Rattle.alloc_chain.proofs.ReadLemmas.{reads_then}
 use Rattle.alloc_chain.specs.Table.{table_in}
 use Rattle.alloc_chain.specs.Chains.{IsNode}
-use Rattle.alloc_chain.specs.Faults.{refusal_of}
 use Rattle.alloc_chain.specs.Between.{count_between}
 use Rattle.alloc_chain.proofs.TableLemmas.{table_stays}
 use Rattle.alloc_chain.proofs.FaultLemmas.{FaultsOnly-map}
@@ -36,9 +35,7 @@ returns-in-Err-clause-faults g c =
 
 pub returns-in-Err-clause-reads : goal.returns-in-Err-clause-reads
 returns-in-Err-clause-reads g c =
-    let space = g.S.Space in
-    Reads-join space.state space.keeps space.lands g.met.S.Space.keeps_join c.args.base.now c.loop-cursor.base
-    c.read_node.new.base (refusal_of (Some c.in-Err.fault)) c.loop-cursor.invariant.reads c.in-Err.ensures.reads
+    reads_then g.met.S.Space.keeps_join c.loop-cursor.invariant.reads c.in-Err.ensures.reads
 
 pub loop-cursor-preserved : goal.loop-cursor-preserved
 loop-cursor-preserved g c =
@@ -70,8 +67,7 @@ loop-cursor-preserved g c =
           (invariant.reached told).0 end invariant.next c.requires.next (invariant.within told end) link.node
           behind.next (omega (arith, c.in-Ok.ensures.next)) (is_node told) c.in-Ok.ensures.first (omega arith) in
           omega (arith, step));
-      reads = Reads-join space.state space.keeps space.lands g.met.S.Space.keeps_join c.args.base.now
-          c.loop-cursor.base c.read_node.new.base None invariant.reads c.in-Ok.ensures.reads;
+      reads = reads_then g.met.S.Space.keeps_join invariant.reads c.in-Ok.ensures.reads;
     }
 
 pub returns-else-cursor-ne0-clause-between : goal.returns-else-cursor-ne0-clause-between

@@ -1,9 +1,9 @@
-use Rattle.std.proofs.Common.{◌≡◌, ℕ, ◌+◌, ◌-◌, ◌/◌, ◌<◌, ◌≤◌, Some, None, subst, arith}
+use Rattle.std.proofs.Common.{◌≡◌, ℕ, ◌+◌, ◌-◌, ◌/◌, ◌<◌, ◌≤◌, Some, subst, arith}
 use Rattle.save_bytes.specs.Cells.{Cell}
-use Rattle.save_bytes.proofs.CallLemmas.{Reads-join}
+use Rattle.alloc_chain.proofs.ReadLemmas.{reads_then}
 use Rattle.alloc_chain.specs.Table.{table_in}
 use Rattle.alloc_chain.specs.Chains.{entries_of}
-use Rattle.alloc_chain.specs.Faults.{IsBroken, FailsAt, refusal_of}
+use Rattle.alloc_chain.specs.Faults.{IsBroken, FailsAt}
 use Rattle.alloc_chain.specs.declared.node.Lead.{Lead}
 use Rattle.alloc_chain.specs.declared.walk.Cursor.{Cursor}
 use Rattle.alloc_chain.specs.Runs.{IsReached}
@@ -37,9 +37,7 @@ returns-in-Err-clause-faults g c =
 
 pub returns-in-Err-clause-reads : goal.returns-in-Err-clause-reads
 returns-in-Err-clause-reads g c =
-    let space = g.S.Space in
-    Reads-join space.state space.keeps space.lands g.met.S.Space.keeps_join c.args.base.now c.loop-low.base
-    c.list_between.new.base (refusal_of (Some c.in-Err.fault)) c.loop-low.invariant.reads c.in-Err.ensures.reads
+    reads_then g.met.S.Space.keeps_join c.loop-low.invariant.reads c.in-Err.ensures.reads
 
 -- the count in a table that is the same
 between_in : (old now : ℕ → ℕ → Cell) (count : ℕ) (lead : Lead) (first : ℕ) (end : Cursor) (low high between : ℕ)
@@ -67,8 +65,7 @@ loop-low-preserved-then-between-from g c =
           c.args.end c.loop-low.low middle c.in-Ok.between (table_stays old now info c.requires.table stays told)
           (c.in-Ok.ensures.between (stays.space.told told)) whole in
           omega (arith, is));
-      reads = Reads-join space.state space.keeps space.lands g.met.S.Space.keeps_join c.args.base.now c.loop-low.base
-          c.list_between.new.base None invariant.reads c.in-Ok.ensures.reads;
+      reads = reads_then g.met.S.Space.keeps_join invariant.reads c.in-Ok.ensures.reads;
     }
 
 pub loop-low-preserved : goal.loop-low-preserved
@@ -91,6 +88,5 @@ loop-low-preserved g c =
           (c.in-Ok.ensures.between (stays.space.told told)) whole in
           crowded_back (table_in old.cells info) info.count c.args.lead c.args.first c.args.end whole c.loop-low.low
           middle c.loop-low.high from below (invariant.crowded told whole) (omega (arith, is)));
-      reads = Reads-join space.state space.keeps space.lands g.met.S.Space.keeps_join c.args.base.now c.loop-low.base
-          c.list_between.new.base None invariant.reads c.in-Ok.ensures.reads;
+      reads = reads_then g.met.S.Space.keeps_join invariant.reads c.in-Ok.ensures.reads;
     }

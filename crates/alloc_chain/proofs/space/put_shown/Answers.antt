@@ -3,7 +3,7 @@ use Rattle.save_bytes.specs.declared.space.Bad.{Bad}
 use Rattle.save_bytes.specs.State.{State, Shape, CanPut}
 use Rattle.save_bytes.specs.Spots.{Spot}
 use Rattle.save_bytes.specs.Reads.{Reads}
-use Rattle.save_bytes.proofs.CallLemmas.{Reads-join}
+use Rattle.alloc_chain.proofs.ReadLemmas.{reads_then}
 use Rattle.save_bytes.proofs.JoinLemmas.{IsReady-before, IsReady-told, Puts-unput, MovesOnly-append, MovesOnly-longer, MovesOnly-read}
 use Rattle.alloc_chain.specs.declared.space.Shown.{Shown}
 use Rattle.alloc_chain.specs.Shown.{can_show, ShownLands}
@@ -22,7 +22,7 @@ module _ {A : Type 0} (states : A → State) (keeps : Spot → A → A → Type 
       → Reads (λ (x : A). with_blocks shown (states x)) keeps (ShownLands states lands shown.info shown.first) a b refusal
   reads_both refusal sound first second =
       view_reads states keeps lands a b shown.info shown.first shown.blocks (can_show-facts (states a).shape shown.info shown.blocks sound)
-      refusal (Reads-join states keeps lands join a m b refusal first second)
+      refusal (reads_then join first second)
 
 pub returns-in-Err-ready_runs-clause-ready : goal.returns-in-Err-ready_runs-clause-ready
 returns-in-Err-ready_runs-clause-ready g c = λ can.

@@ -1,6 +1,6 @@
 use Rattle.std.proofs.Common.{ℕ, ◌+◌, ◌-◌, Some, None, sym, subst, arith}
 use Rattle.save_bytes.specs.State.{Shape, IsInside}
-use Rattle.save_bytes.proofs.CallLemmas.{Reads-join}
+use Rattle.alloc_chain.proofs.ReadLemmas.{reads_then}
 use Rattle.save_bytes.proofs.JoinLemmas.{IsReady-append, IsReady-refused}
 use Rattle.alloc_chain.specs.ShownLaws.{CanShow, with_blocks}
 use Rattle.alloc_chain.proofs.ViewLemmas.{shown_room}
@@ -38,17 +38,13 @@ returns-in-Err-ready-clause-ready g c =
 
 pub returns-in-Err-ready-clause-reads : goal.returns-in-Err-ready-clause-reads
 returns-in-Err-ready-clause-reads g c =
-    let space = g.S.Space in
-    let join = Reads-join space.state space.keeps space.lands g.met.S.Space.keeps_join in
-    join c.args.base.now c.locate.new.base c.ready.new.self (Some c.in-Err-ready.bad)
-    (join c.args.base.now c.loop-done.base c.locate.new.base None c.loop-done.invariant.reads c.in-Ok.ensures.reads)
-    c.in-Err-ready.ensures.reads
+    let join = g.met.S.Space.keeps_join in
+    reads_then join (reads_then join c.loop-done.invariant.reads c.in-Ok.ensures.reads) c.in-Err-ready.ensures.reads
 
 pub loop-done-preserved : goal.loop-done-preserved
 loop-done-preserved g c =
-    let space = g.S.Space in
-    let states = space.state in
-    let join = Reads-join states space.keeps space.lands g.met.S.Space.keeps_join in
+    let states = g.S.Space.state in
+    let join = g.met.S.Space.keeps_join in
     let run = c.in-Ok.run' in
     let located = c.in-Ok.ensures.located in
     let before = c.loop-done.invariant in
@@ -59,6 +55,5 @@ loop-done-preserved g c =
     record {
       within = omega (arith, located.bounded);
       ready = IsReady-append (with_blocks c.args.shown (states c.args.base.now)) c.args.at c.loop-done.done run.1 before.ready first;
-      reads = join c.args.base.now c.locate.new.base c.ready.new.self None
-          (join c.args.base.now c.loop-done.base c.locate.new.base None before.reads c.in-Ok.ensures.reads) c.in-Ok-ready.ensures.reads;
+      reads = reads_then join (reads_then join before.reads c.in-Ok.ensures.reads) c.in-Ok-ready.ensures.reads;
     }

@@ -1,9 +1,9 @@
 use Rattle.std.proofs.Common.{ℕ, Some, subst}
 use Rattle.save_bytes.specs.Cells.{Cell}
-use Rattle.save_bytes.proofs.CallLemmas.{Reads-join}
+use Rattle.alloc_chain.proofs.ReadLemmas.{reads_then}
 use Rattle.save_bytes.proofs.SpaceLemmas.{Stays-same}
 use Rattle.alloc_chain.specs.Table.{table_in}
-use Rattle.alloc_chain.specs.Faults.{IsBroken, FailsAt, refusal_of}
+use Rattle.alloc_chain.specs.Faults.{IsBroken, FailsAt}
 use Rattle.alloc_chain.specs.Runs.{IsReached}
 use Rattle.alloc_chain.proofs.TableLemmas.{table_stays}
 use Rattle.alloc_chain.proofs.FaultLemmas.{FaultsOnly-later}
@@ -35,9 +35,7 @@ returns-then-behind-from-clause-faults g c =
 
 pub returns-then-behind-from-clause-reads : goal.returns-then-behind-from-clause-reads
 returns-then-behind-from-clause-reads g c =
-    let space = g.S.Space in
-    Reads-join space.state space.keeps space.lands g.met.S.Space.keeps_join c.args.base.now c.read_node.new.base
-    c.shared_fault.new.base (refusal_of (Some c.shared_fault.result)) c.in-Ok.ensures.reads c.shared_fault.ensures.reads
+    reads_then g.met.S.Space.keeps_join c.in-Ok.ensures.reads c.shared_fault.ensures.reads
 
 pub returns-clause-reached : goal.returns-clause-reached
 returns-clause-reached g c = λ told reached.

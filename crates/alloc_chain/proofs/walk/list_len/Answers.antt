@@ -1,6 +1,5 @@
-use Rattle.std.proofs.Common.{Some, None, ◌∙◌}
-use Rattle.save_bytes.proofs.CallLemmas.{Reads-join}
-use Rattle.alloc_chain.specs.Faults.{refusal_of}
+use Rattle.std.proofs.Common.{Some, ◌∙◌}
+use Rattle.alloc_chain.proofs.ReadLemmas.{reads_then}
 use Rattle.alloc_chain.specs.Runs.{IsReached}
 use Rattle.alloc_chain.proofs.ListLemmas.{list_faults_later, said_later}
 use Rattle.alloc_chain.proofs.walk.list_len.Goals as goal
@@ -13,9 +12,7 @@ returns-in-Err-clause-faults g c =
 
 pub returns-in-Err-clause-reads : goal.returns-in-Err-clause-reads
 returns-in-Err-clause-reads g c =
-    let space = g.S.Space in
-    Reads-join space.state space.keeps space.lands g.met.S.Space.keeps_join c.args.base.now c.loop-cursor.base c.advance.new.base
-    (refusal_of (Some c.in-Err.fault)) c.loop-cursor.invariant.reads c.in-Err.ensures.reads
+    reads_then g.met.S.Space.keeps_join c.loop-cursor.invariant.reads c.in-Err.ensures.reads
 
 pub loop-cursor-preserved : goal.loop-cursor-preserved
 loop-cursor-preserved g c =
@@ -30,6 +27,5 @@ loop-cursor-preserved g c =
       reached = λ told. said_later (space.state c.args.base.now) (space.state c.loop-cursor.base) info c.args.lead c.requires.table
           before.reads.stays (λ t f. IsReached t info.count c.args.lead f c.in-Ok.behind) c.args.first c.loop-cursor.cursor before.first
           step.reached told (before.reached told);
-      reads = Reads-join space.state space.keeps space.lands g.met.S.Space.keeps_join c.args.base.now c.loop-cursor.base
-          c.advance.new.base None before.reads step.reads;
+      reads = reads_then g.met.S.Space.keeps_join before.reads step.reads;
     }

@@ -1,12 +1,11 @@
-use Rattle.std.proofs.Common.{◌≡◌, ◌+◌, ◌*◌, ◌<◌, ◌≤◌, Some, None, refl, sym, ◌∙◌, arith}
-use Rattle.save_bytes.proofs.CallLemmas.{Reads-join}
+use Rattle.std.proofs.Common.{◌≡◌, ◌+◌, ◌*◌, ◌<◌, ◌≤◌, Some, refl, sym, ◌∙◌, arith}
 use Rattle.save_bytes.proofs.SpaceLemmas.{IfDamaged-map}
 use Rattle.name_buckets.specs.Hash.{bucket_number}
 use Rattle.name_buckets.specs.Kinds.{entry_size}
 use Rattle.name_buckets.specs.Tables.{table_in, entry_place, bucket_place}
 use Rattle.name_buckets.specs.Layout.{OfBucket, OfUsed}
 use Rattle.name_buckets.proofs.EntryLemmas.{least_some}
-use Rattle.name_buckets.proofs.StayLemmas.{head_stays, HasEntryTable-stays, entry_fits, needed_read, fault_read}
+use Rattle.name_buckets.proofs.StayLemmas.{reads_then, head_stays, HasEntryTable-stays, entry_fits, needed_read, fault_read}
 use Rattle.name_buckets.proofs.CauseLemmas.{passed_on, bad_cause, broken_cause, plain_stays}
 use Rattle.name_buckets.proofs.FindLemmas.{HasPassed-none, HasPassed-more, passed_stands, match_found, none_found, broken_past, broken_long}
 use Rattle.name_buckets.proofs.LookLemmas.{look_stays}
@@ -20,11 +19,9 @@ own_below g c = rw (sym c.bucket-number.ensures.number) c.bucket-number.ensures.
 
 pub returns-in_err-entry-clause-reads : goal.returns-in_err-entry-clause-reads
 returns-in_err-entry-clause-reads g c =
-    let space = g.S.Space in
     let bad = c.in_err-entry.field-0.0 in
     rw (passed_on _ bad c.from_residual-in_err-entry.ensures.1)
-    (Reads-join space.state space.keeps space.lands g.met.S.Space.keeps_join c.args.space.now c.read_counts.new.space
-    c.space_u32.new.space (Some bad) c.in_ok-count.ensures.reads c.in_err-entry.ensures.reads)
+    (reads_then g.met.S.Space.keeps_join c.in_ok-count.ensures.reads c.in_err-entry.ensures.reads)
 
 pub returns-in_err-entry-clause-cause : goal.returns-in_err-entry-clause-cause
 returns-in_err-entry-clause-cause g c =
@@ -59,8 +56,7 @@ loop-step-init g c =
     let below = own_below g (goal.at.loop-step-init g c).After-bucket-number in
     let there : info.buckets_at + 4 * c.from.result ≡ bucket_place info own = rw (c.from.ensures, number.number) refl in
     record {
-      reads = Reads-join space.state space.keeps space.lands g.met.S.Space.keeps_join c.args.space.now c.read_counts.new.space
-          c.space_u32.new.space None c.in_ok-count.ensures.reads c.in_ok-entry.ensures.reads;
+      reads = reads_then g.met.S.Space.keeps_join c.in_ok-count.ensures.reads c.in_ok-entry.ensures.reads;
       passed = λ tells. HasPassed-none c.in_ok-entry.entry ((rw there at c.in_ok-entry.ensures.number (stays.space.told tells.told))
           ∙ head_stays old mid stays c.args.kind info c.requires own tells.told below);
     }
@@ -112,11 +108,9 @@ returns-in_err-look_at-clause-cause g c =
 
 pub returns-in_err-look_at-clause-reads : goal.returns-in_err-look_at-clause-reads
 returns-in_err-look_at-clause-reads g c =
-    let space = g.S.Space in
     let bad = c.in_err-look_at.field-0.0 in
     rw (passed_on _ bad c.from_residual-in_err-look_at.ensures.1)
-    (Reads-join space.state space.keeps space.lands g.met.S.Space.keeps_join c.args.space.now c.loop-step.space c.look_at.new.space
-    (Some bad) c.loop-step.invariant.reads c.in_err-look_at.ensures.reads)
+    (reads_then g.met.S.Space.keeps_join c.loop-step.invariant.reads c.in_err-look_at.ensures.reads)
 
 pub returns-in-Found-clause-found : goal.returns-in-Found-clause-found
 returns-in-Found-clause-found g c = λ tells lists.
@@ -131,9 +125,7 @@ returns-in-Found-clause-found g c = λ tells lists.
 
 pub returns-in-Found-clause-reads : goal.returns-in-Found-clause-reads
 returns-in-Found-clause-reads g c =
-    let space = g.S.Space in
-    Reads-join space.state space.keeps space.lands g.met.S.Space.keeps_join c.args.space.now c.loop-step.space c.look_at.new.space
-    None c.loop-step.invariant.reads c.in_ok-look_at.ensures.reads
+    reads_then g.met.S.Space.keeps_join c.loop-step.invariant.reads c.in_ok-look_at.ensures.reads
 
 pub loop-step-preserved : goal.loop-step-preserved
 loop-step-preserved g c =
@@ -143,8 +135,7 @@ loop-step-preserved g c =
     let counts = c.in_ok-count.ensures in
     let before = c.loop-step.invariant in
     record {
-      reads = Reads-join space.state space.keeps space.lands g.met.S.Space.keeps_join c.args.space.now c.loop-step.space
-          c.look_at.new.space None before.reads c.in_ok-look_at.ensures.reads;
+      reads = reads_then g.met.S.Space.keeps_join before.reads c.in_ok-look_at.ensures.reads;
       passed = λ tells.
           (let look = rw c.in-Other.is at (look_stays old mid before.reads.stays c.args.kind c.args.info c.requires tells
           (counts.known tells.told) c.loop-step.entry (omega (arith, c.if-entry-count.false, counts.count tells.told)) c.args.parent

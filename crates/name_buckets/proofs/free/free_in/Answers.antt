@@ -1,6 +1,5 @@
-use Rattle.std.proofs.Common.{◌+◌, ◌≤◌, Some, None, refl, sym, ◌∙◌, arith}
+use Rattle.std.proofs.Common.{◌+◌, ◌≤◌, Some, refl, sym, ◌∙◌, arith}
 use Rattle.save_bytes.specs.State.{State}
-use Rattle.save_bytes.proofs.CallLemmas.{Reads-join}
 use Rattle.save_bytes.proofs.SpaceLemmas.{IfDamaged-map}
 use Rattle.name_buckets.specs.declared.table.EntryKind.{EntryKind}
 use Rattle.name_buckets.specs.declared.table.TableInfo.{TableInfo}
@@ -9,7 +8,7 @@ use Rattle.name_buckets.specs.Tables.{table_in, entry_place}
 use Rattle.name_buckets.specs.Layout.{HasCounts, TellsEntryTable}
 use Rattle.name_buckets.specs.Rules.{CanBeFreed}
 use Rattle.name_buckets.proofs.EntryLemmas.{least_some, link_last}
-use Rattle.name_buckets.proofs.StayLemmas.{HasEntryTable-stays, entry_fits, needed_read}
+use Rattle.name_buckets.proofs.StayLemmas.{reads_then, HasEntryTable-stays, entry_fits, needed_read}
 use Rattle.name_buckets.proofs.CauseLemmas.{passed_on, bad_cause, broken_cause, plain_stays}
 use Rattle.name_buckets.proofs.LookLemmas.{link_stays}
 use Rattle.name_buckets.proofs.FreeLemmas.{HasFollowed-more, followed_below, followed_needed, room_counted, wrong_number, named_before}
@@ -49,11 +48,9 @@ returns-in_err-next-clause-cause g c =
 
 pub returns-in_err-next-clause-reads : goal.returns-in_err-next-clause-reads
 returns-in_err-next-clause-reads g c =
-    let space = g.S.Space in
     let bad = c.in_err-next.field-0.0 in
     rw (passed_on _ bad c.from_residual-in_err-next.ensures.1)
-    (Reads-join space.state space.keeps space.lands g.met.S.Space.keeps_join c.args.space.now c.loop-freed.space c.entry_word.new.space
-    (Some bad) c.loop-freed.invariant.reads c.in_err-next.ensures.reads)
+    (reads_then g.met.S.Space.keeps_join c.loop-freed.invariant.reads c.in_err-next.ensures.reads)
 
 pub returns-then-next-eq0-clause-free : goal.returns-then-next-eq0-clause-free
 returns-then-next-eq0-clause-free g c = λ tells.
@@ -69,16 +66,12 @@ returns-then-next-eq0-clause-free g c = λ tells.
 
 pub returns-then-next-eq0-clause-reads : goal.returns-then-next-eq0-clause-reads
 returns-then-next-eq0-clause-reads g c =
-    let space = g.S.Space in
-    Reads-join space.state space.keeps space.lands g.met.S.Space.keeps_join c.args.space.now c.loop-freed.space c.entry_word.new.space
-    None c.loop-freed.invariant.reads c.in_ok-next.ensures.reads
+    reads_then g.met.S.Space.keeps_join c.loop-freed.invariant.reads c.in_ok-next.ensures.reads
 
 pub returns-then-next-least_freed-clause-reads : goal.returns-then-next-least_freed-clause-reads
 returns-then-next-least_freed-clause-reads g c =
-    let space = g.S.Space in
     rw c.names_wrongly.ensures
-    (Reads-join space.state space.keeps space.lands g.met.S.Space.keeps_join c.args.space.now c.loop-freed.space c.entry_word.new.space
-    None c.loop-freed.invariant.reads c.in_ok-next.ensures.reads)
+    (reads_then g.met.S.Space.keeps_join c.loop-freed.invariant.reads c.in_ok-next.ensures.reads)
 
 pub returns-then-next-least_freed-clause-cause : goal.returns-then-next-least_freed-clause-cause
 returns-then-next-least_freed-clause-cause g c =
@@ -111,8 +104,7 @@ loop-freed-preserved g c =
     let old = space.state c.args.space.now in
     let before = c.loop-freed.invariant in
     record {
-      reads = Reads-join space.state space.keeps space.lands g.met.S.Space.keeps_join c.args.space.now c.loop-freed.space
-          c.entry_word.new.space None before.reads c.in_ok-next.ensures.reads;
+      reads = reads_then g.met.S.Space.keeps_join before.reads c.in_ok-next.ensures.reads;
       followed = λ tells.
           (let counts = c.in_ok-counts.ensures in
           let known = counts.known tells.told in

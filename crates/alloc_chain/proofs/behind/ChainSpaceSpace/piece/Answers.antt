@@ -1,7 +1,7 @@
 use Rattle.std.proofs.Common.{refl, sym, subst, arith}
 use Rattle.std.specs.Result.{result_err}
 use Rattle.save_bytes.specs.State.{Shape, IsInside}
-use Rattle.save_bytes.proofs.CallLemmas.{Reads-join}
+use Rattle.alloc_chain.proofs.ReadLemmas.{reads_then}
 use Rattle.alloc_chain.specs.ShownLaws.{can_show-facts}
 use Rattle.alloc_chain.proofs.BehindLemmas.{behind_reads}
 use Rattle.alloc_chain.proofs.PieceLemmas.{view_piece}
@@ -25,8 +25,7 @@ returns g c =
     let last = c.piece.follows.lender-at-none in
     let refusal = result_err c.piece.result in
     let room = can_show-facts (base.state space.base.now).shape shown.info shown.blocks c.requires.inside.sound in
-    let reads = Reads-join base.state base.keeps base.lands g.met.S.Space.keeps_join space.base.now c.locate.new.base last refusal
-    c.in-Ok.ensures.reads c.piece.follows.holds-at-none in (
+    let reads = reads_then g.met.S.Space.keeps_join c.in-Ok.ensures.reads c.piece.follows.holds-at-none in (
       (
         refl,
         λ _. tt,
