@@ -1,5 +1,6 @@
 -- Going over the nodes of a list, one by one.
-use Rattle.std.proofs.Common.{◌≡◌, ℕ, ◌+◌, ◌-◌, ◌<◌, ◌≤◌, IsTrue, List, [], ◌∷◌, ◌++◌, Option, None, refl, sym, ◌∙◌, ap, subst, arith, append_assoc, length-append}
+use Rattle.std.proofs.Common.{◌≡◌, ℕ, ◌+◌, ◌-◌, ◌<◌, ◌≤◌, IsTrue, List, [], ◌∷◌, ◌++◌, Option, None, refl, sym, ◌∙◌, ap, subst, arith, append_assoc}
+use Rattle.std.proofs.Common.{length-append}
 use Rattle.std.proofs.lemmas.List.{append-nil}
 use Rattle.std.specs.List.{range_with_len}
 use Rattle.std.proofs.lemmas.List.FromFn.{length-range_with_len}
@@ -133,7 +134,7 @@ module _ (table : ℕ → ℕ → Cell) (count : ℕ) where
       faulty = subst (λ (l : Lead). IsFaulty table count l cursor.next entry) reached.led faulty;
     }
 
-module _ (s t : State) (info : ChainInfo) (lead : Lead) (table : HasAllocationTable s.shape info) (stays : Stays s t None) where
+module _ {s t : State} {info : ChainInfo} {lead : Lead} (table : HasAllocationTable s.shape info) (stays : Stays s t None) where
   -- a fault of the node behind a cursor is one of the list
   pub list_faults : (first : ℕ) (cursor : Cursor) (fault : Option ChainFault) → IsEntry info.count cursor.next
       → FaultsOnly t info

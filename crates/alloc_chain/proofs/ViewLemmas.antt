@@ -1,5 +1,7 @@
 -- A space behind which a chain's blocks are shown, where its base stays or is put to.
-use Rattle.std.proofs.Common.{◌≡◌, ◌≢◌, ℕ, zero, suc, ◌+◌, ◌-◌, ◌*◌, ◌/◌, ◌<◌, ◌≤◌, min, Bool, true, false, ◌&&◌, ◌||◌, eqb, ltb, cond, IsTrue, List, [], length, get_or, unwrap_or, Option, Some, None, Ok, refl, sym, ◌∙◌, ap, subst, arith, ⊎_elim, ◌^◌, MatchOption, IsSomeAnd}
+use Rattle.std.proofs.Common.{◌≡◌, ◌≢◌, ℕ, zero, suc, ◌+◌, ◌-◌, ◌*◌, ◌/◌, ◌<◌, ◌≤◌, min, Bool, true, false, ◌&&◌, ◌||◌, eqb, ltb, cond, IsTrue, List}
+use Rattle.std.proofs.Common.{[], length, get_or, unwrap_or, Option, Some, None, Ok, refl, sym, ◌∙◌, ap, subst, arith, ⊎_elim, ◌^◌, MatchOption}
+use Rattle.std.proofs.Common.{IsSomeAnd}
 use Rattle.std.proofs.lemmas.Bool.{and_parts, and_from, cases_lt, cases_Bool, lt-ltb, le-ltb, le-leb, eq-eqb, false≢true}
 use Rattle.std.proofs.Math.Bool.{and-true}
 use Rattle.std.proofs.lemmas.Nat.{mod_below}

@@ -14,7 +14,8 @@ use Rattle.name_buckets.specs.declared.table.EntryKind.{EntryKind}
 use Rattle.name_buckets.specs.declared.table.TableInfo.{TableInfo}
 use Rattle.name_buckets.specs.Kinds.{entry_size, link_offset}
 use Rattle.name_buckets.specs.Tables.{Table, table_in, entry_place, bucket_place}
-use Rattle.name_buckets.specs.Layout.{LiesWithin, HasCounts, HasEntryTable, TellsEntryTable, IsNeeded, OfZero, BlamesNeeded, IsReadAt, AtZero, AtPlace, BlamesRead}
+use Rattle.name_buckets.specs.Layout.{LiesWithin, HasCounts, HasEntryTable, TellsEntryTable, IsNeeded, OfZero, BlamesNeeded, IsReadAt, AtZero}
+use Rattle.name_buckets.specs.Layout.{AtPlace, BlamesRead}
 use Rattle.save_bytes.proofs.CellLemmas.{bytes_in-same}
 use Rattle.name_buckets.proofs.EntryLemmas.{link_last, entry_long}
 

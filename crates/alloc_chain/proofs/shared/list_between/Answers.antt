@@ -27,11 +27,10 @@ loop-cursor-init g c =
 pub returns-in-Err-clause-faults : goal.returns-in-Err-clause-faults
 returns-in-Err-clause-faults g c =
     let before = c.loop-cursor.invariant in
-    let old = g.S.Space.state c.args.base.now in
-    FaultsOnly-map old c.args.info (Some c.in-Err.fault)
+    FaultsOnly-map (g.S.Space.state c.args.base.now) c.args.info (Some c.in-Err.fault)
     (λ told e broken. broken (before.reached told).0) (λ told e fails. fails (before.reached told).0)
-    (list_faults old (g.S.Space.state c.loop-cursor.base) c.args.info c.args.lead c.requires.table before.reads.stays c.args.first
-    c.loop-cursor.cursor (Some c.in-Err.fault) (record { some = omega arith; inside = before.next }) c.in-Err.ensures.faults)
+    (list_faults c.requires.table before.reads.stays c.args.first c.loop-cursor.cursor (Some c.in-Err.fault)
+    (record { some = omega arith; inside = before.next }) c.in-Err.ensures.faults)
 
 pub returns-in-Err-clause-reads : goal.returns-in-Err-clause-reads
 returns-in-Err-clause-reads g c =

@@ -12,8 +12,7 @@ use Rattle.alloc_chain.proofs.walk.advance.Goals as goal
 
 pub returns-in-Err-clause-faults : goal.returns-in-Err-clause-faults
 returns-in-Err-clause-faults g c =
-    let old = g.S.Space.state c.args.base.now in
-    list_faults old old c.args.info c.args.lead c.requires.table (Stays-same old) c.args.cursor.first c.args.cursor
+    list_faults c.requires.table (Stays-same (g.S.Space.state c.args.base.now)) c.args.cursor.first c.args.cursor
     (Some c.in-Err.fault) c.requires.next c.in-Err.ensures.faults
 
 pub returns-then-behind-from-clause-faults : goal.returns-then-behind-from-clause-faults

@@ -6,9 +6,9 @@ use Rattle.alloc_chain.proofs.walk.seek.Goals as goal
 
 pub returns-in-Err-clause-faults : goal.returns-in-Err-clause-faults
 returns-in-Err-clause-faults g c =
-    let invariant = c.loop-cursor.invariant in
-    list_faults_later (g.S.Space.state c.args.base.now) (g.S.Space.state c.loop-cursor.base) c.args.info c.args.lead c.requires.table
-    invariant.reads.stays c.args.first c.loop-cursor.cursor (Some c.in-Err.fault) invariant.first invariant.reached c.in-Err.ensures.faults
+    let before = c.loop-cursor.invariant in
+    list_faults_later c.requires.table before.reads.stays c.args.first c.loop-cursor.cursor (Some c.in-Err.fault) before.first
+    before.reached c.in-Err.ensures.faults
 
 pub returns-in-Err-clause-reads : goal.returns-in-Err-clause-reads
 returns-in-Err-clause-reads g c =
@@ -16,8 +16,6 @@ returns-in-Err-clause-reads g c =
 
 pub loop-cursor-preserved : goal.loop-cursor-preserved
 loop-cursor-preserved g c =
-    let space = g.S.Space in
-    let info = c.args.info in
     let before = c.loop-cursor.invariant in
     let step = c.in-Ok.ensures in
     record {
@@ -25,9 +23,9 @@ loop-cursor-preserved g c =
       next = step.next;
       passed = step.bounded;
       before = omega arith;
-      reached = λ told. said_later (space.state c.args.base.now) (space.state c.loop-cursor.base) info c.args.lead c.requires.table
-          before.reads.stays (λ t f. IsReached t info.count c.args.lead f c.in-Ok.step.1) c.args.first c.loop-cursor.cursor before.first
-          step.reached told (before.reached told);
+      reached = λ told. said_later c.requires.table before.reads.stays
+          (λ t f. IsReached t c.args.info.count c.args.lead f c.in-Ok.step.1) c.args.first c.loop-cursor.cursor before.first step.reached told
+          (before.reached told);
       reads = reads_then g.met.S.Space.keeps_join before.reads step.reads;
     }
 
@@ -36,9 +34,8 @@ returns-then-from-behind-clause-run g c = λ told.
     let before = c.loop-cursor.invariant in
     let cursor = c.loop-cursor.cursor in
     let step = c.in-Ok.ensures in
-    rest_later (g.S.Space.state c.args.base.now) (g.S.Space.state c.loop-cursor.base) c.args.info c.args.lead c.requires.table
-    before.reads.stays c.args.first cursor c.args.pos (c.args.pos - cursor.passed) c.in-Ok.step.0 before.first step.run
-    (omega (arith, before.before)) (omega (arith, before.before, step.passed)) told (before.reached told)
+    rest_later c.requires.table before.reads.stays c.args.first cursor c.args.pos (c.args.pos - cursor.passed) c.in-Ok.step.0
+    before.first step.run (omega (arith, before.before)) (omega (arith, before.before, step.passed)) told (before.reached told)
 
 pub returns-then-from-behind-clause-reads : goal.returns-then-from-behind-clause-reads
 returns-then-from-behind-clause-reads g c =

@@ -12,7 +12,8 @@ use Rattle.name_buckets.proofs.StayLemmas.{reads_then, HasEntryTable-stays, entr
 use Rattle.name_buckets.proofs.CauseLemmas.{passed_on, bad_cause, broken_cause, plain_stays}
 use Rattle.name_buckets.proofs.LookLemmas.{link_stays}
 use Rattle.name_buckets.proofs.FreeLemmas.{HasFollowed-more, followed_below, followed_needed, room_counted, wrong_number, named_before}
-use Rattle.name_buckets.proofs.free.free_in.Goals.{then-next-least_freed-via-then-next-least_freed, then-next-least_freed-via-else-next-least_freed+then-next-counts}
+use Rattle.name_buckets.proofs.free.free_in.Goals.{then-next-least_freed-via-then-next-least_freed}
+use Rattle.name_buckets.proofs.free.free_in.Goals.{then-next-least_freed-via-else-next-least_freed+then-next-counts}
 use Rattle.name_buckets.proofs.free.free_in.Goals as goal
 
 some_counted : (s : State) (kind : EntryKind) (info : TableInfo) → TellsEntryTable s kind info → HasCounts s.cells info
