@@ -8,7 +8,7 @@ use Rattle.difi.specs.declared.descriptor.Difi.{Difi}
 use Rattle.dpfs_tree.specs.declared.state.DpfsState.{DpfsState}
 use Rattle.dpfs_tree.specs.Picks.{word_of, bit_of, pick2, pick3, external_place, chosen}
 use Rattle.difi.specs.Contents.{view_size}
-use Rattle.dpfs_tree.specs.Marks.{is_marked, copy_read, copy_of, place_of, run_of}
+use Rattle.dpfs_tree.specs.Marks.{is_marked, copy_read, place_by, place_of, run_of}
 
 cond_out : (f : ℕ → ℕ) (b : Bool) (p q : ℕ) → f (cond b p q) ≡ cond b (f p) (f q)
 cond_out f true p q = refl
@@ -24,7 +24,7 @@ unmarked touched n clear block =
 
 -- with no mark the bytes at their places are the chosen ones
 pub place_of-chosen : (bytes : ℕ → ℕ) (part_at : ℕ) (difi : Difi) (state : DpfsState) (x : ℕ) → ((block : ℕ) → is_marked state.touched.items block ≡ false) → bytes (place_of bytes part_at difi state x) ≡ chosen bytes part_at difi state.selector x
-unfolding place_of copy_of chosen pick3
+unfolding place_by chosen pick3
 place_of-chosen bytes part_at difi state x unmarked =
     cond_out bytes (ltb x difi.dpfs3.size) _ _ ∙ rw (unmarked (x / 2 ^ difi.dpfs3.log)) refl
 
@@ -51,7 +51,7 @@ word_in_block m i log least h =
 
 -- a run lies in one piece
 pub place_of-run : (bytes : ℕ → ℕ) (part_at : ℕ) (difi : Difi) (state : DpfsState) (at k : ℕ) → k < run_of difi at → place_of bytes part_at difi state (at + k) ≡ place_of bytes part_at difi state at + k
-unfolding place_of run_of
+unfolding place_by run_of
 place_of-run bytes part_at difi state at k h =
     ⊎_elim
     (λ (below : at < difi.dpfs3.size).
@@ -63,13 +63,13 @@ place_of-run bytes part_at difi state at k h =
 
 -- the place of a byte of level 3, by its block's copy
 pub place_of-copy : (bytes : ℕ → ℕ) (part_at : ℕ) (difi : Difi) (state : DpfsState) (at chosen copy from : ℕ) → at < difi.dpfs3.size → chosen ≡ bit_of (pick2 bytes part_at difi state.selector) (at / 2 ^ difi.dpfs3.log) → copy ≡ copy_read (is_marked state.touched.items (at / 2 ^ difi.dpfs3.log)) chosen → from ≡ part_at + difi.dpfs3.at + copy * difi.dpfs3.size → from + at ≡ place_of bytes part_at difi state at
-unfolding place_of copy_of
+unfolding place_by
 place_of-copy bytes part_at difi state at chosen copy from below by_bit by_mark begins =
     rw (lt-ltb at difi.dpfs3.size below, ← by_bit, ← by_mark, begins) refl
 
 -- the place of a byte behind level 3
 pub place_of-external : (bytes : ℕ → ℕ) (part_at : ℕ) (difi : Difi) (state : DpfsState) (at : ℕ) → difi.dpfs3.size ≤ at → external_place part_at difi at ≡ place_of bytes part_at difi state at
-unfolding place_of
+unfolding place_by
 place_of-external bytes part_at difi state at behind = rw (le-ltb at difi.dpfs3.size behind) refl
 
 -- how far a run may go

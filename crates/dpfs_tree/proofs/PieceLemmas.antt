@@ -12,7 +12,7 @@ use Rattle.dpfs_tree.specs.declared.state.DpfsState.{DpfsState}
 use Rattle.dpfs_tree.specs.Picks.{bytes_of}
 use Rattle.difi.specs.Contents.{view_size}
 use Rattle.dpfs_tree.specs.Marks.{place_of, run_of}
-use Rattle.dpfs_tree.specs.View.{view_state, IsLocated}
+use Rattle.dpfs_tree.specs.View.{contents_state, IsLocated}
 use Rattle.dpfs_tree.proofs.PickLemmas.{run_of-is, place_of-run}
 
 module _ (base : State) (part_at : ℕ) (difi : Difi) (state : DpfsState) (at : ℕ) where
@@ -37,14 +37,14 @@ module _ (base : State) (part_at : ℕ) (difi : Difi) (state : DpfsState) (at : 
     pub run_inside : IsTrue base.shape.sound → IsInside mid.shape place 1
     run_inside sound = record { sound = subst (λ (shape : Shape). IsTrue shape.sound) (sym stays.space.shape) sound; inside = omega (arith, same_size, run.some, run.in_base) }
 
-    view_bytes : (bytes : List ℕ) → length bytes ≤ n → (IsTrue mid.told → AreBytesAt mid.cells place bytes) → IsTrue base.told → AreBytesAt (view_state base part_at difi state).cells at bytes
+    view_bytes : (bytes : List ℕ) → length bytes ≤ n → (IsTrue mid.told → AreBytesAt mid.cells place bytes) → IsTrue base.told → AreBytesAt (contents_state base part_at difi state).cells at bytes
     view_bytes bytes bounded are told k h =
         ap base.cells (run.places told k (omega (arith, h, bounded)))
         ∙ sym (stays.cells told (place + k) (omega (arith, h, bounded, run.in_base)))
-        ∙ are (subst IsTrue (sym stays.space.told) told) k h
+        ∙ are (stays.space.told told) k h
 
     -- a piece of the run in the base is one of the view
-    pub view_piece : IsTrue base.shape.plain → (result : Result (Bor (List ℕ)) Bad) → IsPiece mid place n result → IsPiece (view_state base part_at difi state) at most result
+    pub view_piece : IsTrue base.shape.plain → (result : Result (Bor (List ℕ)) Bad) → IsPiece mid place n result → IsPiece (contents_state base part_at difi state) at most result
     view_piece plain (Ok piece) h = record {
       some = h.some;
       bounded = omega (arith, h.bounded, run.bounded);

@@ -1,35 +1,52 @@
--- A view stays where the cells of its base do.
-use Rattle.std.proofs.Common.{◌≡◌, ℕ, ◌+◌, ◌*◌, ◌/◌, ◌^◌, ◌<◌, ◌≤◌, Bool, true, false, Option, refl, ap, arith, ⊎_elim}
-use Rattle.std.proofs.lemmas.Bool.{cases_lt, lt-ltb, le-ltb}
-use Rattle.std.proofs.lemmas.Nat.{mod_below}
+-- A view stays where its base does.
+use Rattle.std.proofs.Common.{◌≡◌, ℕ, ◌<◌, Option, refl, ap}
 use Rattle.save_bytes.specs.declared.space.Bad.{Bad}
 use Rattle.save_bytes.specs.State.{State, Shape}
 use Rattle.save_bytes.specs.Stays.{SameCells, Stays}
-use Rattle.save_bytes.proofs.SpaceLemmas.{UnlessDisk-map}
+use Rattle.save_bytes.specs.Spots.{Spot, Mark, Frame, LandsAsBefore}
+use Rattle.save_bytes.specs.Reads.{Reads}
+use Rattle.save_bytes.proofs.SpaceLemmas.{UnlessDisk-map, UnlessDisk-both, UnlessDisk-always}
 use Rattle.difi.specs.declared.descriptor.Difi.{Difi}
-use Rattle.difi.specs.Places.{blocks_of}
-use Rattle.dpfs_tree.specs.declared.state.DpfsState.{DpfsState}
-use Rattle.dpfs_tree.specs.Picks.{bytes_of, bit_of, pick1, pick2}
 use Rattle.difi.specs.Contents.{view_size}
-use Rattle.dpfs_tree.specs.Marks.{is_marked, copy_read, copy_of, place_of}
-use Rattle.dpfs_tree.specs.View.{view_state, HasTree}
-use Rattle.difi.proofs.PlaceLemmas.{block_below}
+use Rattle.dpfs_tree.specs.declared.state.DpfsState.{DpfsState}
+use Rattle.dpfs_tree.specs.declared.view.DpfsView.{DpfsView}
+use Rattle.dpfs_tree.specs.Picks.{bytes_of}
+use Rattle.dpfs_tree.specs.View.{contents_state, HasContents}
+use Rattle.dpfs_tree.specs.Held.{shown_contents, SameContents, SameState, ContentsKeep, ContentsLand, contents_land}
 use Rattle.dpfs_tree.specs.SameLaws.{view_cells}
+use Rattle.dpfs_tree.specs.ViewLaws.{contents_lands}
 
 -- what stays in the base stays in the view
-pub view_stays : (base new : State) (part_at : ℕ) (difi : Difi) (state : DpfsState) (refusal : Option Bad) → HasTree base.shape part_at difi state.selector → Stays base new refusal → Stays (view_state base part_at difi state) (view_state new part_at difi state) refusal
+pub view_stays : (base new : State) (part_at : ℕ) (difi : Difi) (state : DpfsState) (refusal : Option Bad)
+    → HasContents base.shape part_at difi state.selector → Stays base new refusal
+    → Stays (contents_state base part_at difi state) (contents_state new part_at difi state) refusal
 view_stays base new part_at difi state refusal tree stays = record {
   space = record {
-    shape = ap (λ (shape : Shape). (view_state (record base { shape = shape }) part_at difi state).shape) stays.space.shape;
+    shape = ap (λ (shape : Shape). (contents_state (record base { shape = shape }) part_at difi state).shape) stays.space.shape;
     faults = stays.space.faults;
     cause = stays.space.cause;
     told = stays.space.told;
-    twins = λ told. UnlessDisk-map refusal (λ _. record { bottom = λ x h. refl; is_fixed = λ x h. refl }) (stays.space.twins told);
+    twins = λ told. UnlessDisk-always refusal (record { bottom = λ x h. refl; is_fixed = λ x h. refl });
   };
   cells = λ told. UnlessDisk-map refusal (view_cells base new part_at difi state tree) (stays.cells told);
 }
 
--- the same in a view with the same place, descriptor and state
-pub same_view_stays : (base new : State) (part_at part_new : ℕ) (difi difi_new : Difi) (state state_new : DpfsState) (refusal : Option Bad) → part_new ≡ part_at → difi_new ≡ difi → state_new ≡ state → HasTree base.shape part_at difi state.selector → Stays base new refusal → Stays (view_state base part_at difi state) (view_state new part_new difi_new state_new) refusal
-same_view_stays base new part_at part_new difi difi_new state state_new refusal same_place same_difi same_state tree stays =
-    rw (same_place, same_difi, same_state) (view_stays base new part_at difi state refusal tree stays)
+same_state : (spot : Spot) (old new : DpfsState) → new ≡ old → SameState spot old new
+same_state (Mark part level block) old new same = λ here. rw same refl
+same_state Frame old new same = same
+same_state spot old new same = tt
+
+module _ {S : Type 0} (states : S → State) (keeps : Spot → S → S → Type 0) (lands : S → ℕ → Spot → Type 0) (s t : DpfsView S)
+    (refusal : Option Bad) (same : SameContents s t) (state_now : t.state.now ≡ s.state.now)
+    (tree : HasContents (states s.base.now).shape s.part_at s.difi.now s.state.now.selector) where
+  -- a call that reads the base reads the view
+  pub contents_read : Reads states keeps lands s.base.now t.base.now refusal
+      → Reads (shown_contents states) (ContentsKeep keeps) (contents_land states lands) s t refusal
+  contents_read reads = record {
+    stays = rw (same.same_place, same.same_difi, state_now)
+        (view_stays (states s.base.now) (states t.base.now) s.part_at s.difi.now s.state.now refusal tree reads.stays);
+    frame = (same, state_now, reads.frame);
+    sectors = λ number. (same, tt, reads.sectors number);
+    spots = λ told spot. (same, same_state spot s.state.now t.state.now state_now, reads.spots told spot);
+    reach = λ told. UnlessDisk-both refusal _ _ _ (contents_lands states s t same lands tree) (reads.stays.cells told) (reads.reach told);
+  }

@@ -1,18 +1,20 @@
 -- The cells of a view are the same where those of its base are.
-use Rattle.std.proofs.Common.{◌≡◌, ℕ, ◌+◌, ◌*◌, ◌/◌, ◌^◌, ◌<◌, ◌≤◌, Bool, true, false, add-zero, refl, arith, ⊎_elim}
+use Rattle.std.proofs.Common.{◌≡◌, ℕ, ◌+◌, ◌*◌, ◌/◌, ◌^◌, ◌<◌, ◌≤◌, Bool, true, false, inl, inr, add-zero, refl, arith, ⊎_elim}
 use Rattle.std.specs.Int.{div_ceil}
 use Rattle.std.proofs.lemmas.Bool.{cases_lt, lt-ltb, le-ltb}
 use Rattle.std.proofs.lemmas.Nat.{mod_below, row_fits}
 use Rattle.save_bytes.specs.State.{State, Shape}
 use Rattle.save_bytes.specs.Stays.{SameCells}
+use Rattle.save_bytes.specs.Spots.{Spot, LandsAsBefore}
 use Rattle.difi.specs.declared.descriptor.Difi.{Difi}
 use Rattle.difi.specs.Places.{blocks_of}
 use Rattle.difi.specs.Contents.{view_size}
 use Rattle.difi.proofs.PlaceLemmas.{block_below}
 use Rattle.dpfs_tree.specs.declared.state.DpfsState.{DpfsState}
 use Rattle.dpfs_tree.specs.Picks.{bytes_of, word_of, bit_of, pick1, pick2}
-use Rattle.dpfs_tree.specs.Marks.{is_marked, copy_read, copy_of, place_of}
-use Rattle.dpfs_tree.specs.View.{view_state, HasTree}
+use Rattle.dpfs_tree.specs.Marks.{is_marked, copy_read, place_by, other_place}
+use Rattle.dpfs_tree.specs.View.{contents_state, HasContents}
+use Rattle.dpfs_tree.specs.Held.{IsBeside, MarksSpot, ContentsLand}
 
 -- two lists with the same bytes in a word have the same bit there
 pub bit_of-same : (one other : ℕ → ℕ) (k : ℕ) → ((i : ℕ) → i < 4 → one (4 * (k / 32) + i) ≡ other (4 * (k / 32) + i)) → bit_of one k ≡ bit_of other k
@@ -45,55 +47,83 @@ copy_read-lt : (marked : Bool) (bit : ℕ) → bit < 2 → copy_read marked bit 
 copy_read-lt true bit h = omega arith
 copy_read-lt false bit h = h
 
-module _ (base : Shape) (part_at : ℕ) (difi : Difi) (state : DpfsState) (tree : HasTree base part_at difi state.selector) where
+module _ (base : Shape) (part_at : ℕ) (difi : Difi) (selector : ℕ) (tree : HasContents base part_at difi selector) where
   module _ (old new : ℕ → ℕ) (same : (x : ℕ) → x < base.size → new x ≡ old x) where
-    pick1-same : (x : ℕ) → x < difi.dpfs1.size → pick1 new part_at difi state.selector x ≡ pick1 old part_at difi state.selector x
+    pick1-same : (x : ℕ) → x < difi.dpfs1.size → pick1 new part_at difi selector x ≡ pick1 old part_at difi selector x
     unfolding pick1
-    pick1-same x h = same _ (omega (arith, in_copy (part_at + difi.dpfs1.at) difi.dpfs1.size state.selector (x + 1) base.size tree.one_of_two (omega (arith, h)) tree.level1))
+    pick1-same x h =
+        let start : ℕ = part_at + difi.dpfs1.at in
+        same _ (omega (arith, in_copy start difi.dpfs1.size selector (x + 1) base.size tree.one_of_two (omega (arith, h)) tree.level1))
 
-    bit1-same : (block : ℕ) → block < blocks_of difi.dpfs2 → bit_of (pick1 new part_at difi state.selector) block ≡ bit_of (pick1 old part_at difi state.selector) block
+    bit1-same : (block : ℕ) → block < blocks_of difi.dpfs2
+        → bit_of (pick1 new part_at difi selector) block ≡ bit_of (pick1 old part_at difi selector) block
     bit1-same block h =
-        bit_of-same _ _ block (λ i small. pick1-same (4 * (block / 32) + i) (omega (arith, word_inside block (blocks_of difi.dpfs2) h, tree.bits1, small)))
+        bit_of-same _ _ block
+        (λ i small. pick1-same (4 * (block / 32) + i) (omega (arith, word_inside block (blocks_of difi.dpfs2) h, tree.bits1, small)))
 
-    pick2-same : (x : ℕ) → x < difi.dpfs2.size → pick2 new part_at difi state.selector x ≡ pick2 old part_at difi state.selector x
+    pick2-same : (x : ℕ) → x < difi.dpfs2.size → pick2 new part_at difi selector x ≡ pick2 old part_at difi selector x
     unfolding pick2
     pick2-same x h =
         let block = x / 2 ^ difi.dpfs2.log in
-        let bit = bit_of (pick1 old part_at difi state.selector) block in
-        let inside = in_copy (part_at + difi.dpfs2.at) difi.dpfs2.size bit (x + 1) base.size (bit_of-lt (pick1 old part_at difi state.selector) block) (omega (arith, h)) tree.level2 in
+        let bits = pick1 old part_at difi selector in
+        let start : ℕ = part_at + difi.dpfs2.at in
+        let inside = in_copy start difi.dpfs2.size (bit_of bits block) (x + 1) base.size (bit_of-lt bits block) (omega (arith, h)) tree.level2 in
         rw (bit1-same block (block_below x difi.dpfs2.size difi.dpfs2.log h)) (same _ (omega (arith, inside)))
 
-    bit2-same : (block : ℕ) → block < blocks_of difi.dpfs3 → bit_of (pick2 new part_at difi state.selector) block ≡ bit_of (pick2 old part_at difi state.selector) block
+    bit2-same : (block : ℕ) → block < blocks_of difi.dpfs3
+        → bit_of (pick2 new part_at difi selector) block ≡ bit_of (pick2 old part_at difi selector) block
     bit2-same block h =
-        bit_of-same _ _ block (λ i small. pick2-same (4 * (block / 32) + i) (omega (arith, word_inside block (blocks_of difi.dpfs3) h, tree.bits2, small)))
+        bit_of-same _ _ block
+        (λ i small. pick2-same (4 * (block / 32) + i) (omega (arith, word_inside block (blocks_of difi.dpfs3) h, tree.bits2, small)))
 
     -- the same place where the bytes of the base are the same
-    pub place_of-same : (x : ℕ) → place_of new part_at difi state x ≡ place_of old part_at difi state x
-    unfolding place_of copy_of
-    place_of-same x =
+    pub place_by-same : (marked : ℕ → Bool) (x : ℕ) → place_by new part_at difi selector marked x ≡ place_by old part_at difi selector marked x
+    unfolding place_by
+    place_by-same marked x =
         ⊎_elim
-        (λ (below : x < difi.dpfs3.size). rw (lt-ltb x difi.dpfs3.size below, bit2-same (x / 2 ^ difi.dpfs3.log) (block_below x difi.dpfs3.size difi.dpfs3.log below)) refl)
+        (λ (below : x < difi.dpfs3.size).
+        let bit = bit2-same (x / 2 ^ difi.dpfs3.log) (block_below x difi.dpfs3.size difi.dpfs3.log below) in
+        rw (lt-ltb x difi.dpfs3.size below, bit) refl)
         (λ (behind : difi.dpfs3.size ≤ x). rw (le-ltb x difi.dpfs3.size behind) refl)
         (cases_lt x difi.dpfs3.size)
 
   -- and that place lies in the base
-  pub place_of-inside : (bytes : ℕ → ℕ) (x : ℕ) → x < view_size difi → place_of bytes part_at difi state x < base.size
-  unfolding place_of copy_of
-  place_of-inside bytes x inside =
+  pub place_by-inside : (marked : ℕ → Bool) (bytes : ℕ → ℕ) (x : ℕ) → x < view_size difi
+      → place_by bytes part_at difi selector marked x < base.size
+  unfolding place_by
+  place_by-inside marked bytes x inside =
       ⊎_elim
       (λ (below : x < difi.dpfs3.size).
       let block = x / 2 ^ difi.dpfs3.log in
-      let bit = bit_of (pick2 bytes part_at difi state.selector) block in
-      let copy = copy_read (is_marked state.touched.items block) bit in
-      let one = copy_read-lt (is_marked state.touched.items block) bit (bit_of-lt (pick2 bytes part_at difi state.selector) block) in
-      rw (lt-ltb x difi.dpfs3.size below) (omega (arith, in_copy (part_at + difi.dpfs3.at) difi.dpfs3.size copy (x + 1) base.size one (omega (arith, below)) tree.level3)))
+      let bit = bit_of (pick2 bytes part_at difi selector) block in
+      let one = copy_read-lt (marked block) bit (bit_of-lt (pick2 bytes part_at difi selector) block) in
+      let start : ℕ = part_at + difi.dpfs3.at in
+      let there = in_copy start difi.dpfs3.size (copy_read (marked block) bit) (x + 1) base.size one (omega (arith, below)) tree.level3 in
+      rw (lt-ltb x difi.dpfs3.size below) (omega (arith, there)))
       (λ (behind : difi.dpfs3.size ≤ x).
       let external = behind_level3 difi x behind inside in
       rw (le-ltb x difi.dpfs3.size behind) (omega (arith, inside, external.1, tree.external external.0)))
       (cases_lt x difi.dpfs3.size)
 
+  -- a put into the view touches no spot that it would not have touched, where that is so of the base
+  pub lands_as_before : (old new : ℕ → ℕ) → ((x : ℕ) → x < base.size → new x ≡ old x) → (lands later : ℕ → Spot → Type 0)
+      → LandsAsBefore base.size lands later
+      → LandsAsBefore (view_size difi) (ContentsLand old part_at difi selector lands) (ContentsLand new part_at difi selector later)
+  lands_as_before old new same lands later as_before x below spot =
+      ⊎_elim
+      (λ (found : (y : ℕ) × (y < view_size difi) × IsBeside difi x y × later (other_place new part_at difi selector y) spot).
+      let there : other_place new part_at difi selector found.0 ≡ other_place old part_at difi selector found.0 =
+      place_by-same old new same (λ block. true) found.0 in
+      let lands_new : later (other_place old part_at difi selector found.0) spot = rw there at found.3 in
+      inl (found.0, found.1, found.2, as_before _ (place_by-inside (λ block. true) old found.0 found.1) spot lands_new))
+      (λ (mark : MarksSpot difi x spot). inr mark)
+
 -- the same cells where the base's are the same
-pub view_cells : (base new : State) (part_at : ℕ) (difi : Difi) (state : DpfsState) → HasTree base.shape part_at difi state.selector → SameCells base new → SameCells (view_state base part_at difi state) (view_state new part_at difi state)
+pub view_cells : (base new : State) (part_at : ℕ) (difi : Difi) (state : DpfsState)
+    → HasContents base.shape part_at difi state.selector → SameCells base new
+    → SameCells (contents_state base part_at difi state) (contents_state new part_at difi state)
 view_cells base new part_at difi state tree same = λ x inside.
-    (let there = place_of-same base.shape part_at difi state tree (bytes_of base.cells) (bytes_of new.cells) (λ y h. rw (same y h) refl) x in
-    rw there (same _ (place_of-inside base.shape part_at difi state tree (bytes_of base.cells) x inside)))
+    (let marked = is_marked state.touched.items in
+    let there = place_by-same base.shape part_at difi state.selector tree (bytes_of base.cells) (bytes_of new.cells)
+        (λ y h. rw (same y h) refl) marked x in
+    rw there (same _ (place_by-inside base.shape part_at difi state.selector tree marked (bytes_of base.cells) x inside)))

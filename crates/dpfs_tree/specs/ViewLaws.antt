@@ -3,6 +3,7 @@ use Rattle.std.proofs.Common.{◌≡◌, ℕ, ◌+◌, ◌-◌, ◌^◌, ◌<◌
 use Rattle.std.proofs.lemmas.Bool.{and_parts, and_from, cases_lt, lt-ltb, le-leb, eq-eqb, ltb-true, leb-true, eqb-true}
 use Rattle.save_bytes.specs.State.{Shape, State}
 use Rattle.save_bytes.specs.Stays.{SameCells, SameTwins}
+use Rattle.save_bytes.specs.Spots.{Spot, Mark, Frame, LandsAsBefore}
 use Rattle.difi.specs.declared.places.Extent2.{Extent2}
 use Rattle.difi.specs.declared.descriptor.Difi.{Difi}
 use Rattle.difi.specs.declared.fault.DifiFault.{DifiFault}
@@ -14,9 +15,10 @@ use Rattle.difi.proofs.CompleteLemmas.{levels_pass}
 use Rattle.dpfs_tree.specs.declared.state.DpfsState.{DpfsState}
 use Rattle.difi.specs.Contents.{view_size}
 use Rattle.dpfs_tree.specs.declared.view.DpfsView.{DpfsView}
-use Rattle.dpfs_tree.specs.View.{CanView, can_view, HasTree, view_state}
-use Rattle.dpfs_tree.specs.Held.{shown, SameView}
-use Rattle.dpfs_tree.specs.SameLaws.{view_cells}
+use Rattle.dpfs_tree.specs.View.{CanViewContents, can_view_contents, HasContents, contents_state}
+use Rattle.dpfs_tree.specs.Held.{shown_contents, SameContents, SameState, ContentsKeep, ContentsLand, contents_land}
+use Rattle.dpfs_tree.specs.Picks.{bytes_of}
+use Rattle.dpfs_tree.specs.SameLaws.{view_cells, lands_as_before}
 
 -- levels that are sound in a partition are so in a longer one
 module _ (difi : Difi) (n m : ℕ) (le : n ≤ m) (h : HasSoundLevels difi n) where
@@ -52,9 +54,9 @@ unit_ok (Ok tt) ok = refl
 unit_ok (Err fault) ok = cc
 
 -- the test passes where a view can be made
-pub can_view-true : (base : Shape) (part_at : ℕ) (difi : Difi) (state : DpfsState) → CanView base part_at difi state → can_view base part_at difi state ≡ true
-unfolding can_view
-can_view-true base part_at difi state h =
+pub can_view_contents-true : (base : Shape) (part_at : ℕ) (difi : Difi) (state : DpfsState) → CanViewContents base part_at difi state → can_view_contents base part_at difi state ≡ true
+unfolding can_view_contents
+can_view_contents-true base part_at difi state h =
     let part = h.partition in
     let levels = longer difi part.part_len (base.size - part_at) (omega (arith, part.inside)) part.levels in
     and_from _ _ h.sound
@@ -71,9 +73,9 @@ not-true true h = cc
 not-true false h = refl
 
 -- and only there
-pub true-can_view : (base : Shape) (part_at : ℕ) (difi : Difi) (state : DpfsState) → can_view base part_at difi state ≡ true → CanView base part_at difi state
-unfolding can_view
-true-can_view base part_at difi state h =
+pub true-can_view_contents : (base : Shape) (part_at : ℕ) (difi : Difi) (state : DpfsState) → can_view_contents base part_at difi state ≡ true → CanViewContents base part_at difi state
+unfolding can_view_contents
+true-can_view_contents base part_at difi state h =
     let sound = and_parts _ _ h in
     let plain = and_parts _ _ sound.1 in
     let single = and_parts _ _ plain.1 in
@@ -127,13 +129,15 @@ view_size-fits difi n true is h =
 view_size-fits difi n false is h = rw is (omega (arith, h.copies.level3.inside))
 
 -- what can be viewed has its tree in the base
-pub tree_of : (base : Shape) (part_at : ℕ) (difi : Difi) (state : DpfsState) → base.size < 2 ^ 64 → CanView base part_at difi state → HasTree base part_at difi state.selector
+pub tree_of : (base : Shape) (part_at : ℕ) (difi : Difi) (state : DpfsState) → base.size < 2 ^ 64 → CanViewContents base part_at difi state → HasContents base part_at difi state.selector
 tree_of base part_at difi state small h =
     let part = h.partition in
     let copies = part.levels.copies in
     record {
       sound = h.sound;
       plain = h.plain;
+      single = h.single;
+      first = part.first;
       small = small;
       one_of_two = h.made.selector part.levels.selector;
       log2 = part.levels.block_sizes.dpfs2;
@@ -143,35 +147,81 @@ tree_of base part_at difi state small h =
       level3 = omega (arith, part.inside, copies.level3.inside);
       bits1 = copies.bits1;
       bits2 = copies.bits2;
+      apart12 = copies.apart12;
+      apart13 = copies.apart13;
+      apart23 = copies.apart23;
+      external_apart = λ external. (let level = part.levels.external_level external in (level.apart1, level.apart2, level.apart3));
       external = λ external. (let level = part.levels.external_level external in omega (arith, part.inside, level.inside));
       view_fits = omega (arith, part.inside, view_size-fits difi part.part_len difi.external refl part.levels);
     }
 
-pub view_tree : (base : Shape) (part_at : ℕ) (difi : Difi) (state : DpfsState) → (IsTrue base.sound → base.size < 2 ^ 64) → can_view base part_at difi state ≡ true → HasTree base part_at difi state.selector
-view_tree base part_at difi state fits sound = let view = true-can_view base part_at difi state sound in tree_of base part_at difi state (fits view.sound) view
+pub contents_tree : (base : Shape) (part_at : ℕ) (difi : Difi) (state : DpfsState) → (IsTrue base.sound → base.size < 2 ^ 64) → can_view_contents base part_at difi state ≡ true → HasContents base part_at difi state.selector
+contents_tree base part_at difi state fits sound = let view = true-can_view_contents base part_at difi state sound in tree_of base part_at difi state (fits view.sound) view
 
 -- the laws of a space
-pub view_size_fits : (base : State) (part_at : ℕ) (difi : Difi) (state : DpfsState) → (IsTrue base.shape.sound → base.shape.size < 2 ^ 64) → IsTrue (view_state base part_at difi state).shape.sound → view_size difi < 2 ^ 64
-view_size_fits base part_at difi state fits sound = let tree = view_tree base.shape part_at difi state fits sound in omega (arith, tree.view_fits, tree.small)
+pub view_size_fits : (base : State) (part_at : ℕ) (difi : Difi) (state : DpfsState) → (IsTrue base.shape.sound → base.shape.size < 2 ^ 64) → IsTrue (contents_state base part_at difi state).shape.sound → view_size difi < 2 ^ 64
+view_size_fits base part_at difi state fits sound = let tree = contents_tree base.shape part_at difi state fits sound in omega (arith, tree.view_fits, tree.small)
 
-pub SameView-same : {S : Type 0} (s : DpfsView S) → SameView s s
-SameView-same s = record { same_base = refl; same_place = refl; same_difi = refl; same_state = refl; state_now = refl }
+module _ {S : Type 0} (keeps : Spot → S → S → Type 0) where
+  SameContents-same : (s : DpfsView S) → SameContents s s
+  SameContents-same s = record { same_base = refl; same_place = refl; same_difi = refl; same_state = refl; marks = refl; selector = refl }
 
-pub SameView-join : {S : Type 0} (s t u : DpfsView S) → SameView s t → SameView t u → SameView s u
-SameView-join s t u h k = record {
-  same_base = k.same_base ∙ h.same_base;
-  same_place = k.same_place ∙ h.same_place;
-  same_difi = k.same_difi ∙ h.same_difi;
-  same_state = k.same_state ∙ h.same_state;
-  state_now = k.state_now ∙ h.state_now;
-}
+  SameState-same : (spot : Spot) (state : DpfsState) → SameState spot state state
+  SameState-same (Mark part level block) state = λ here. refl
+  SameState-same Frame state = refl
+  SameState-same spot state = tt
 
-pub shown_shape : {S : Type 0} (states : S → State) (s t : DpfsView S) → SameView s t → (states t.base.now).shape ≡ (states s.base.now).shape → (shown states t).shape ≡ (shown states s).shape
-shown_shape states s t same shape = rw (same.same_place, same.same_difi, same.state_now, shape) refl
+  pub ContentsKeep-same : ((spot : Spot) (s : S) → keeps spot s s) → (spot : Spot) (s : DpfsView S) → ContentsKeep keeps spot s s
+  ContentsKeep-same same spot s = (SameContents-same s, SameState-same spot s.state.now, same spot s.base.now)
 
--- where the view is the same and its base has the same cells, the view has
-pub shown_cells : {S : Type 0} (states : S → State) (s t : DpfsView S) → SameView s t → HasTree (states s.base.now).shape s.part_at s.difi.now s.state.now.selector
-    → SameCells (states s.base.now) (states t.base.now) → SameCells (shown states s) (shown states t) × SameTwins (shown states s) (shown states t)
-shown_cells states s t same tree cells =
-    let there : SameCells (shown states s) (view_state (states t.base.now) s.part_at s.difi.now s.state.now) = view_cells (states s.base.now) (states t.base.now) s.part_at s.difi.now s.state.now tree cells in
-    (rw (same.same_place, same.same_difi, same.state_now) there, record { bottom = λ x h. refl; is_fixed = λ x h. refl })
+  SameContents-join : (s t u : DpfsView S) → SameContents s t → SameContents t u → SameContents s u
+  SameContents-join s t u h k = record {
+    same_base = k.same_base ∙ h.same_base;
+    same_place = k.same_place ∙ h.same_place;
+    same_difi = k.same_difi ∙ h.same_difi;
+    same_state = k.same_state ∙ h.same_state;
+    marks = k.marks ∙ h.marks;
+    selector = k.selector ∙ h.selector;
+  }
+
+  SameState-join : (spot : Spot) (a b c : DpfsState) → SameState spot a b → SameState spot b c → SameState spot a c
+  SameState-join (Mark part level block) a b c h k = λ here. k here ∙ h here
+  SameState-join Frame a b c h k = k ∙ h
+  SameState-join spot a b c h k = tt
+
+  pub ContentsKeep-join : ((spot : Spot) (s t u : S) → keeps spot s t → keeps spot t u → keeps spot s u) → (spot : Spot) (s t u : DpfsView S)
+      → ContentsKeep keeps spot s t → ContentsKeep keeps spot t u → ContentsKeep keeps spot s u
+  ContentsKeep-join join spot s t u h k = (
+    SameContents-join s t u h.0 k.0,
+    SameState-join spot s.state.now t.state.now u.state.now h.1 k.1,
+    join spot s.base.now t.base.now u.base.now h.2 k.2,
+  )
+
+module _ {S : Type 0} (states : S → State) (s t : DpfsView S) (same : SameContents s t) where
+  -- the same shape, where the base has the same
+  pub contents_shape : (states t.base.now).shape ≡ (states s.base.now).shape → (shown_contents states t).shape ≡ (shown_contents states s).shape
+  unfolding can_view_contents
+  contents_shape shape = rw (same.same_place, same.same_difi, same.marks, same.selector, shape) refl
+
+  -- the same cells, where the base has the same and no mark was set or cleared
+  pub contents_cells : t.state.now ≡ s.state.now → HasContents (states s.base.now).shape s.part_at s.difi.now s.state.now.selector
+      → SameCells (states s.base.now) (states t.base.now)
+      → SameCells (shown_contents states s) (shown_contents states t) × SameTwins (shown_contents states s) (shown_contents states t)
+  contents_cells state_now tree cells =
+      let there : SameCells (shown_contents states s) (contents_state (states t.base.now) s.part_at s.difi.now s.state.now) =
+      view_cells (states s.base.now) (states t.base.now) s.part_at s.difi.now s.state.now tree cells in
+      (rw (same.same_place, same.same_difi, state_now) there, record { bottom = λ x h. refl; is_fixed = λ x h. refl })
+
+  -- and puts land where they would have landed
+  pub contents_lands : (lands : S → ℕ → Spot → Type 0) → HasContents (states s.base.now).shape s.part_at s.difi.now s.state.now.selector
+      → SameCells (states s.base.now) (states t.base.now)
+      → LandsAsBefore (states s.base.now).shape.size (lands s.base.now) (lands t.base.now)
+      → LandsAsBefore (view_size s.difi.now) (contents_land states lands s) (contents_land states lands t)
+  contents_lands lands tree cells as_before =
+      let old = bytes_of (states s.base.now).cells in
+      let new = bytes_of (states t.base.now).cells in
+      let there : LandsAsBefore (view_size s.difi.now) (contents_land states lands s)
+          (ContentsLand new s.part_at s.difi.now s.state.now.selector (lands t.base.now)) =
+      lands_as_before (states s.base.now).shape s.part_at s.difi.now s.state.now.selector tree old new (λ y h. rw (cells y h) refl)
+      (lands s.base.now) (lands t.base.now) as_before in
+      rw (same.same_place, same.same_difi, same.selector) there

@@ -7,7 +7,7 @@ ghost use Rattle.save_bytes.specs.Refusals.{NeverDamaged};
 ghost use Rattle.difi.specs.Places.{blocks_of};
 ghost use Rattle.dpfs_tree.specs.Picks.{bytes_of, bit_of, pick1, pick2};
 ghost use Rattle.save_bytes.specs.Reads.{Reads};
-ghost use Rattle.dpfs_tree.specs.View.{HasTree};
+ghost use Rattle.dpfs_tree.specs.View.{HasContents};
 
 use difi::{Difi, LevelPlace};
 use save_bytes::{Bad, Space, space_u32};
@@ -49,7 +49,7 @@ fn level2_copy<S: Space>(
     selector: u8,
     block: u64,
 ) -> Result<u8, Bad>
-    requires tree { HasTree (S.state base.old).shape part_at difi.now selector }
+    requires tree { HasContents (S.state base.old).shape part_at difi.now selector }
     requires block { block < blocks_of difi.now.dpfs2 }
     ensures bit { IsTrue (S.state base.old).told
         → IfOk result (λ copy. copy ≡ bit_of (pick1 (bytes_of (S.state base.old).cells) part_at difi.now selector) block) }
@@ -69,7 +69,7 @@ pub(crate) fn level3_copy<S: Space>(
     selector: u8,
     block: u64,
 ) -> Result<u8, Bad>
-    requires tree { HasTree (S.state base.old).shape part_at difi.now selector }
+    requires tree { HasContents (S.state base.old).shape part_at difi.now selector }
     requires block { block < blocks_of difi.now.dpfs3 }
     ensures bit { IsTrue (S.state base.old).told
         → IfOk result (λ copy. copy ≡ bit_of (pick2 (bytes_of (S.state base.old).cells) part_at difi.now selector) block) }

@@ -8,7 +8,7 @@ ghost use Rattle.dpfs_tree.specs.Picks.{bytes_of};
 ghost use Rattle.difi.specs.Contents.{view_size};
 ghost use Rattle.dpfs_tree.specs.Marks.{is_marked, copy_read, place_of, run_of};
 ghost use Rattle.save_bytes.specs.Reads.{Reads};
-ghost use Rattle.dpfs_tree.specs.View.{view_state, HasTree, IsLocated};
+ghost use Rattle.dpfs_tree.specs.View.{contents_state, HasContents, IsLocated};
 
 use crate::bits::{copy_start, level3_copy};
 use crate::state::DpfsState;
@@ -61,7 +61,7 @@ fn level3_place<S: Space>(
     state: &DpfsState,
     at: u64,
 ) -> Result<u64, Bad>
-    requires tree { HasTree (S.state base.old).shape part_at difi.now state.now.selector }
+    requires tree { HasContents (S.state base.old).shape part_at difi.now state.now.selector }
     requires inside { at < difi.now.dpfs3.size }
     ensures place { IsTrue (S.state base.old).told
         → IfOk result (λ place. place ≡ place_of (bytes_of (S.state base.old).cells) part_at difi.now state.now at) }
@@ -87,7 +87,7 @@ fn place_at<S: Space>(
     state: &DpfsState,
     at: u64,
 ) -> Result<u64, Bad>
-    requires tree { HasTree (S.state base.old).shape part_at difi.now state.now.selector }
+    requires tree { HasContents (S.state base.old).shape part_at difi.now state.now.selector }
     requires inside { at < view_size difi.now }
     ensures place { IsTrue (S.state base.old).told
         → IfOk result (λ place. place ≡ place_of (bytes_of (S.state base.old).cells) part_at difi.now state.now at) }
@@ -110,7 +110,7 @@ pub(crate) fn locate<S: Space>(
     at: u64,
     most: usize,
 ) -> Result<(u64, usize), Bad>
-    requires inside { IsInside (view_state (S.state base.old) part_at difi.now state.now).shape at 1 }
+    requires inside { IsInside (contents_state (S.state base.old) part_at difi.now state.now).shape at 1 }
     requires some { 1 ≤ most }
     ensures located { IsLocated (S.state base.old) part_at difi.now state.now at most result }
     ensures reads { Reads S.state S.keeps S.lands base.old base.new (result_err result) }

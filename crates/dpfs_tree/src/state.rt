@@ -4,7 +4,7 @@ ghost use Rattle.std.specs.Prelude.{◌≡◌, ℕ, ◌<◌, IfOk};
 ghost use Rattle.difi.specs.Sound.{HasBlockSizes};
 ghost use Rattle.dpfs_tree.specs.Picks.{chosen};
 ghost use Rattle.difi.specs.Contents.{view_size};
-ghost use Rattle.dpfs_tree.specs.Marks.{is_marked, place_of, IsFresh};
+ghost use Rattle.dpfs_tree.specs.Marks.{is_marked, place_of, IsFreshContents};
 
 use difi::Difi;
 use std::alloc::{AllocError, Global};
@@ -25,7 +25,7 @@ impl DpfsState {
     /// Where memory runs out.
     pub fn new(alloc: Global, difi: &Difi) -> Result<DpfsState, AllocError>
         requires { HasBlockSizes difi.now }
-        ensures fresh { IfOk result (IsFresh difi.now) }
+        ensures fresh { IfOk result (IsFreshContents difi.now) }
         // The view that it gives has the chosen bytes of level 3, then those of external level four.
         ensures chosen { IfOk result (λ state. (bytes : ℕ → ℕ) (part_at x : ℕ) → x < view_size difi.now
             → bytes (place_of bytes part_at difi.now state x) ≡ chosen bytes part_at difi.now difi.now.selector x) }

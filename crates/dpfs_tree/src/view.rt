@@ -3,14 +3,13 @@
 ghost use Rattle.std.specs.Prelude.{refl, ◌≤◌, IsTrue};
 ghost use Rattle.std.specs.Result.{result_err};
 ghost use Rattle.save_bytes.specs.State.{IsInside};
-ghost use Rattle.save_bytes.specs.Stays.{Stays};
 ghost use Rattle.save_bytes.specs.Reads.{Reads};
-ghost use Rattle.dpfs_tree.specs.View.{CanView, IsLocated};
+ghost use Rattle.dpfs_tree.specs.View.{CanViewContents, IsLocated};
 ghost use Rattle.dpfs_tree.specs.Picks.{bytes_of};
 ghost use Rattle.dpfs_tree.specs.Marks.{place_of};
-ghost use Rattle.dpfs_tree.specs.Held.{shown, IsViewOf, SameView};
+ghost use Rattle.dpfs_tree.specs.Held.{shown_contents, IsContentsOf, ContentsKeep, contents_land};
 ghost use Rattle.save_bytes.specs.Spots.{Frame};
-ghost use Rattle.dpfs_tree.specs.ViewLaws.{true-can_view, view_tree, shown_cells, view_size_fits, SameView-same, SameView-join, shown_shape};
+ghost use Rattle.dpfs_tree.specs.ViewLaws.{true-can_view_contents, contents_tree, view_size_fits, ContentsKeep-same, ContentsKeep-join, contents_shape, contents_cells, contents_lands};
 
 use crate::places::{locate, view_len};
 use crate::state::DpfsState;
@@ -35,9 +34,9 @@ impl<'a, S: Space> DpfsView<'a, S> {
         difi: &'a Difi,
         state: &'a mut DpfsState,
     ) -> DpfsView<'a, S>
-        requires { CanView (S.state base.old).shape part_at difi.now state.old }
-        ensures holds { IsViewOf result base.entry part_at difi.now state.entry }
-        ensures sound { IsTrue (shown S.state result).shape.sound }
+        requires { CanViewContents (S.state base.old).shape part_at difi.now state.old }
+        ensures holds { IsContentsOf result base.entry part_at difi.now state.entry }
+        ensures sound { IsTrue (shown_contents S.state result).shape.sound }
     {
         DpfsView {
             base,
@@ -50,12 +49,11 @@ impl<'a, S: Space> DpfsView<'a, S> {
     /// Where the bytes from `at` on lie in the base, and how many lie there in one piece: at least 1 and at most
     /// `most`. It is refused only where the disk below failed.
     pub fn locate(&mut self, at: u64, most: usize) -> Result<(u64, usize), Bad>
-        requires inside { IsInside (shown S.state self.old).shape at 1 }
+        requires inside { IsInside (shown_contents S.state self.old).shape at 1 }
         requires some { 1 ≤ most }
         ensures located { IsLocated (S.state self.old.base.now) self.old.part_at self.old.difi.now self.old.state.now at most result }
-        ensures reads { Reads S.state S.keeps S.lands self.old.base.now self.new.base.now (result_err result) }
-        ensures stays { Stays (shown S.state self.old) (shown S.state self.new) (result_err result) }
-        ensures same { SameView self.old self.new }
+        ensures reads { Reads (shown_contents S.state) (ContentsKeep S.keeps) (contents_land S.state S.lands) self.old self.new (result_err result) }
+        ensures base { Reads S.state S.keeps S.lands self.old.base.now self.new.base.now (result_err result) }
     {
         let base = &mut *self.base;
         locate(base, self.part_at, self.difi, &*self.state, at, most)
@@ -64,11 +62,11 @@ impl<'a, S: Space> DpfsView<'a, S> {
 
 // A view lends from its base and is not written to yet: its first place for writing is its end.
 impl<S: Space> Space for DpfsView<'_, S> {
-    ghost state = { shown S.state };
+    ghost state = { shown_contents S.state };
 
-    ghost keeps = { λ spot s t. SameView s t × S.keeps spot s.base.now t.base.now };
+    ghost keeps = { ContentsKeep S.keeps };
 
-    ghost lands = { λ s x spot. ⊥ };
+    ghost lands = { contents_land S.state S.lands };
 
     ghost size_fits = { λ s. view_size_fits (S.state s.base.now) s.part_at s.difi.now s.state.now (S.size_fits s.base.now) };
 
@@ -76,17 +74,26 @@ impl<S: Space> Space for DpfsView<'_, S> {
 
     ghost no_twins = { λ s single. record { apart = λ x y same. same; free = λ x. refl } };
 
-    ghost keeps_same = { λ spot s. (SameView-same s, S.keeps_same spot s.base.now) };
+    ghost keeps_same = { ContentsKeep-same S.keeps S.keeps_same };
 
-    ghost keeps_join = { λ spot s t u h k. (SameView-join s t u h.0 k.0, S.keeps_join spot s.base.now t.base.now u.base.now h.1 k.1) };
+    ghost keeps_join = { ContentsKeep-join S.keeps S.keeps_join };
 
-    ghost keeps_shape = { λ s t h. shown_shape S.state s t h.0 (S.keeps_shape s.base.now t.base.now h.1) };
+    ghost keeps_hold = { λ s t h. (h.0, tt, S.keeps_hold s.base.now t.base.now h.2) };
+
+    ghost keeps_shape = { λ s t h. contents_shape S.state s t h.0 (S.keeps_shape s.base.now t.base.now h.2) };
 
     ghost keeps_cells = { λ s t sound single told still kept.
-        (let view = true-can_view (S.state s.base.now).shape s.part_at s.difi.now s.state.now sound in
-        let tree = view_tree (S.state s.base.now).shape s.part_at s.difi.now s.state.now (S.size_fits s.base.now) sound in
-        let below = S.keeps_cells s.base.now t.base.now view.sound view.single told still (λ spot. (kept spot).1) in
-        shown_cells S.state s t (kept Frame).0 tree below.0) };
+        (let view = true-can_view_contents (S.state s.base.now).shape s.part_at s.difi.now s.state.now sound in
+        let tree = contents_tree (S.state s.base.now).shape s.part_at s.difi.now s.state.now (S.size_fits s.base.now) sound in
+        let below = S.keeps_cells s.base.now t.base.now view.sound view.single told still (λ spot. (kept spot).2) in
+        contents_cells S.state s t (kept Frame).0 (kept Frame).1 tree below.0) };
+
+    ghost keeps_lands = { λ s t sound single told still kept.
+        (let view = true-can_view_contents (S.state s.base.now).shape s.part_at s.difi.now s.state.now sound in
+        let tree = contents_tree (S.state s.base.now).shape s.part_at s.difi.now s.state.now (S.size_fits s.base.now) sound in
+        let cells = S.keeps_cells s.base.now t.base.now view.sound view.single told still (λ spot. (kept spot).2) in
+        let below = S.keeps_lands s.base.now t.base.now view.sound view.single told still (λ spot. (kept spot).2) in
+        contents_lands S.state s t (kept Frame).0 S.lands tree cells.0 below) };
 
     fn len(&self) -> u64 {
         view_len(self.difi)

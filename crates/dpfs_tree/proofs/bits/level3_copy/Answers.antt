@@ -23,7 +23,7 @@ returns-clause-bit g c = λ told.
     let stays = c.in-Ok.ensures.reads.stays in
     let kept = bit_of-stays old.cells mid.cells old.shape.size from c.args.block (stays.cells told) (omega (arith, fits, c.copy_start-level2.ensures)) in
     let is = bit_of-pick2 (bytes_of old.cells) c.args.part_at difi c.args.selector from c.in-Ok.copy c.args.block tree.log2.0 c.copy_start-level2.ensures (c.in-Ok.ensures.bit told) in
-    subst (λ (n : ℕ). IfOk c.bit_at.result (λ copy. copy ≡ n)) (kept ∙ is) (c.bit_at.ensures.bit (subst IsTrue (sym stays.space.told) told))
+    subst (λ (n : ℕ). IfOk c.bit_at.result (λ copy. copy ≡ n)) (kept ∙ is) (c.bit_at.ensures.bit (stays.space.told told))
 
 pub returns-clause-reads : goal.returns-clause-reads
 returns-clause-reads g c =

@@ -1,11 +1,15 @@
+use Rattle.std.proofs.Common.{refl}
 use Rattle.std.specs.Result.{result_err}
-use Rattle.dpfs_tree.specs.ViewLaws.{view_tree}
-use Rattle.dpfs_tree.proofs.SameLemmas.{view_stays}
+use Rattle.dpfs_tree.specs.ViewLaws.{contents_tree}
+use Rattle.dpfs_tree.proofs.SameLemmas.{contents_read}
 use Rattle.dpfs_tree.proofs.view.DpfsView.locate.Goals as goal
 
-pub returns-clause-stays : goal.returns-clause-stays
-returns-clause-stays g c =
-    let states = g.S.Space.state in
+pub returns-clause-reads : goal.returns-clause-reads
+returns-clause-reads g c =
+    let space = g.S.Space in
     let view = c.args.self.now in
-    let tree = view_tree (states view.base.now).shape view.part_at view.difi.now view.state.now (g.met.S.Space.size_fits view.base.now) c.requires.inside.sound in
-    view_stays (states view.base.now) (states c.locate.new.base) view.part_at view.difi.now view.state.now (result_err c.locate.result) tree c.locate.ensures.reads.stays
+    let shape = (space.state view.base.now).shape in
+    let fits = g.met.S.Space.size_fits view.base.now in
+    let tree = contents_tree shape view.part_at view.difi.now view.state.now fits c.requires.inside.sound in
+    contents_read space.state space.keeps space.lands view _ (result_err c.locate.result)
+    (record { same_base = refl; same_place = refl; same_difi = refl; same_state = refl; marks = refl; selector = refl }) refl tree c.locate.ensures.reads
