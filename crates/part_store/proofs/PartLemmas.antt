@@ -6,6 +6,7 @@ use Rattle.save_bytes.specs.Cells.{Cell, Byte, Blank, Spoilt, IsByte}
 use Rattle.save_bytes.specs.CellNumbers.{value_of}
 use Rattle.save_bytes.specs.State.{Shape, State, IsInside}
 use Rattle.difi.specs.declared.places.LevelPlace.{LevelPlace}
+use Rattle.difi.specs.declared.descriptor.Difi.{Difi}
 use Rattle.difi.specs.Sound.{difi_part}
 use Rattle.std.specs.Borrow.{Bor}
 use Rattle.std.specs.Result.{result_err}
@@ -18,25 +19,25 @@ use Rattle.save_bytes.proofs.SpaceLemmas.{UnlessDisk-map, Stays-join}
 use Rattle.difi.proofs.TestLemmas.{apart, overlap-apart}
 use Rattle.difi.specs.Contents.{view_size}
 use Rattle.save_bytes.specs.Reads.{Reads}
-use Rattle.save_bytes.specs.Spots.{Spot, Frame}
+use Rattle.save_bytes.specs.Spots.{Spot, Frame, Hold, LandsAsBefore}
 use Rattle.dpfs_tree.specs.declared.view.DpfsView.{DpfsView}
-use Rattle.dpfs_tree.specs.Held.{shown, SameView}
-use Rattle.dpfs_tree.specs.View.{HasTree as HasContents, IsLocated}
-use Rattle.dpfs_tree.specs.ViewLaws.{can_view-true as contents_pass, true-can_view as contents_hold, tree_of as contents_of_base}
+use Rattle.dpfs_tree.specs.Held.{shown_contents, ContentsKeep, contents_land}
+use Rattle.dpfs_tree.specs.declared.state.DpfsState.{DpfsState}
+use Rattle.dpfs_tree.specs.View.{HasContents, contents_state, IsLocated}
+use Rattle.dpfs_tree.specs.ViewLaws.{can_view_contents-true as contents_pass, true-can_view_contents as contents_hold, tree_of as contents_of_base}
 use Rattle.dpfs_tree.proofs.SameLemmas.{view_stays as contents_stay}
 use Rattle.ivfc_tree.specs.declared.path.BlockState.{BlockState}
 use Rattle.ivfc_tree.specs.declared.path.BlockState.TheVariants.{Holds, NeverWritten, Fails}
 use Rattle.ivfc_tree.specs.Paths.{cell_in}
 use Rattle.ivfc_tree.specs.Levels.{level_of, level4_of}
+use Rattle.ivfc_tree.specs.declared.state.IvfcState.{IvfcState}
 use Rattle.ivfc_tree.specs.View.{CanView as CanHash, HasTree as HasHashes, IsVerified}
-use Rattle.ivfc_tree.proofs.LevelLemmas.{level4_is, tree_of as hashes_of}
-use Rattle.ivfc_tree.proofs.ViewLemmas.{place_inside, view_stays as hashed_stay}
+use Rattle.ivfc_tree.specs.View.{view_state as hashed_state}
+use Rattle.ivfc_tree.specs.ViewLaws.{tree_of as hashes_of, place_inside}
+use Rattle.ivfc_tree.proofs.LevelLemmas.{level4_is}
+use Rattle.ivfc_tree.proofs.ViewLemmas.{view_stays as hashed_stay}
 use Rattle.part_store.specs.declared.part.Part.{Part}
 use Rattle.part_store.specs.Parts.{master_of, contents_of, hashed_of, part_state, CanView, can_view, IsFound}
-
--- what is verified under the master hash in the table is so in the partition
-pub verified_part : (base : State) (part : Part) (table : List ℕ) (at most : ℕ) (result : Result ℕ Bad) → IsVerified (hashed_of base part table) at most result → IsVerified (part_state base part table) at most result
-verified_part base part table at most result h = record { some = h.some; bounded = h.bounded; inside = h.inside; bytes = h.bytes; damaged = h.damaged }
 
 -- a part that can be viewed has its contents in the base
 pub contents_there : (base : State) (part : Part) (n : ℕ) → base.shape.size < 2 ^ 64 → CanView base.shape part n → HasContents base.shape part.at part.difi part.dpfs.selector
@@ -75,6 +76,14 @@ place_small base part table at small view inside =
     let contents = contents_there base part (length table) small view in
     omega (arith, place_there base part table at small view inside, contents.view_fits, small)
 
+-- a byte of level four lies in the contents
+pub four_small : (contents : Shape) (difi : Difi) (master_len at : ℕ) → HasHashes contents difi master_len → at < difi.ivfc4.size
+    → (level4_of difi).at + at < 2 ^ 64
+four_small contents difi master_len at tree inside =
+    let there : (level4_of difi).at + at < contents.size =
+    subst (λ (level : LevelPlace). level.at + at < contents.size) (level4_is difi) (place_inside contents difi master_len at tree inside) in
+    omega (arith, there, tree.levels.small)
+
 byte_value : (cell : Cell) → IsByte cell → Byte (value_of cell) ≡ cell
 byte_value (Byte value) byte = refl
 byte_value (Blank part level block) byte = absurd byte
@@ -85,53 +94,64 @@ byte_in Holds part value byte = refl
 byte_in (NeverWritten level block) part value byte = absurd byte
 byte_in (Fails level block) part value byte = absurd byte
 
--- where verified bytes lie
-pub found : (first mid last : State) (part : Part) (table : List ℕ) (at most n place m : ℕ) → first.shape.size < 2 ^ 64 → CanView first.shape part (length table) → mid.shape ≡ first.shape → IsVerified (part_state first part table) at most (Ok n) → Stays (contents_of first part) (contents_of mid part) None → IsLocated mid part.at part.difi part.dpfs ((level4_of part.difi).at + at) n (Ok (place, m)) → Stays mid last None → (IsTrue mid.told → (x : ℕ) → IsByte (mid.cells x)) → IsFound (part_state first part table) last at most (Ok (place, m))
-found first mid last part table at most n place m small view shape verified stays located later bytes =
-    let there = (level4_of part.difi).at + at in
-    let size : last.shape.size ≡ mid.shape.size = ap (λ (shape : Shape). shape.size) later.space.shape in
-    record {
-      some = located.some;
-      bounded = omega (arith, located.bounded, verified.bounded);
-      inside = omega (arith, located.bounded, verified.inside);
-      in_base = omega (arith, located.in_base, size);
-      cells = λ told k h. (
-          let told_mid : IsTrue mid.told = subst IsTrue (sym stays.space.told) told in
-          let within : at + k < part.difi.ivfc4.size = omega (arith, h, located.bounded, verified.inside) in
-          let inner : (level4_of part.difi).at + (at + k) ≡ there + k = omega arith in
-          let place_of_level4 : (level_of part.difi 4).at ≡ (level4_of part.difi).at = ap (λ (level : LevelPlace). level.at) (level4_is part.difi) in
-          let same : (contents_of first part).cells (there + k) ≡ last.cells (place + k) =
-          sym (stays.cells told (there + k) (omega (arith, place_there first part table (at + k) small view within)))
-          ∙ ap mid.cells (located.places told_mid k h)
-          ∙ sym (later.cells told_mid (place + k) (omega (arith, h, located.in_base))) in
-          let byte : IsByte (last.cells (place + k)) = subst IsByte (sym (later.cells told_mid (place + k) (omega (arith, h, located.in_base)))) (bytes told_mid (place + k)) in
-          byte_in _ part.number _ (verified.bytes told k (omega (arith, h, located.bounded)))
-          ∙ ap (λ (x : ℕ). Byte (value_of ((contents_of first part).cells (x + (at + k))))) place_of_level4
-          ∙ ap (λ (x : ℕ). Byte (value_of ((contents_of first part).cells x))) inner
-          ∙ ap (λ (cell : Cell). Byte (value_of cell)) same
-          ∙ byte_value (last.cells (place + k)) byte);
-      damaged = λ told. tt;
-    }
-
--- bytes that could not be verified, or not be located
-pub unverified : (s base : State) (at most : ℕ) (bad : Bad) → IsVerified s at most (Err bad) → IsFound s base at most (Err bad)
-unverified s base at most bad verified = record { some = tt; bounded = tt; inside = tt; in_base = tt; cells = λ told. tt; damaged = verified.damaged }
-
+-- bytes that could not be located
 pub unlocated : (s base : State) (at most : ℕ) (bad : Bad) → NeverDamaged (Some bad) → IsFound s base at most (Err bad)
 unlocated s base at most Disk never = record { some = tt; bounded = tt; inside = tt; in_base = tt; cells = λ told. tt; damaged = λ told. tt }
 unlocated s base at most (Damaged part level block) never = absurd never
 
-pub found_run : (first mid last : State) (part : Part) (table : List ℕ) (at most n : ℕ) → first.shape.size < 2 ^ 64 → CanView first.shape part (length table) → mid.shape ≡ first.shape → IsVerified (part_state first part table) at most (Ok n) → Stays (contents_of first part) (contents_of mid part) None → (IsTrue mid.told → (x : ℕ) → IsByte (mid.cells x)) → (result : Result (ℕ × ℕ) Bad) → IsLocated mid part.at part.difi part.dpfs ((level4_of part.difi).at + at) n result → Stays mid last (result_err result) → IsFound (part_state first part table) last at most result
-found_run first mid last part table at most n small view shape verified stays bytes (Ok (place, m)) located later = found first mid last part table at most n place m small view shape verified stays located later bytes
-found_run first mid last part table at most n small view shape verified stays bytes (Err bad) located later = unlocated (part_state first part table) last at most bad located.plain
+-- bytes that could not be verified
+pub unverified : (s base : State) (at most : ℕ) (bad : Bad) → IsVerified s at most (Err bad) → IsFound s base at most (Err bad)
+unverified s base at most bad verified =
+    record { some = tt; bounded = tt; inside = tt; in_base = tt; cells = λ told. tt; damaged = verified.damaged }
+
+-- where verified bytes of level four lie in the base of the contents
+module _ (first mid last : State) (part_at : ℕ) (difi : Difi) (dpfs : DpfsState) (number : ℕ) (master : List ℕ) (ivfc : IvfcState)
+    (at most n : ℕ) (tree : HasHashes first.shape difi (length master)) (verified : IsVerified (hashed_state first number master difi ivfc) at most (Ok n))
+    (stays : Stays first (contents_state mid part_at difi dpfs) None) (bytes : IsTrue mid.told → (x : ℕ) → IsByte (mid.cells x)) where
+  found : (place m : ℕ) → IsLocated mid part_at difi dpfs ((level4_of difi).at + at) n (Ok (place, m)) → Stays mid last None
+      → IsFound (hashed_state first number master difi ivfc) last at most (Ok (place, m))
+  found place m located later =
+      let size : last.shape.size ≡ mid.shape.size = ap (λ (shape : Shape). shape.size) later.space.shape in
+      let four : (level_of difi 4).at ≡ (level4_of difi).at = ap (λ (level : LevelPlace). level.at) (level4_is difi) in
+      record {
+        some = located.some;
+        bounded = omega (arith, located.bounded, verified.bounded);
+        inside = omega (arith, located.bounded, verified.inside);
+        in_base = omega (arith, located.in_base, size);
+        cells = λ told k h. (
+            let told_mid : IsTrue mid.told = stays.space.told told in
+            let within : at + k < difi.ivfc4.size = omega (arith, h, located.bounded, verified.inside) in
+            let there : (level4_of difi).at + at + k ≡ (level_of difi 4).at + (at + k) = omega (arith, four) in
+            let in_first : (level4_of difi).at + at + k < first.shape.size = omega (arith, there, place_inside first.shape difi (length master) (at + k) tree within) in
+            let same : last.cells (place + k) ≡ mid.cells (place + k) = later.cells told_mid (place + k) (omega (arith, h, located.in_base)) in
+            let shown : first.cells ((level4_of difi).at + at + k) ≡ last.cells (place + k) =
+            sym (stays.cells told ((level4_of difi).at + at + k) in_first) ∙ ap mid.cells (located.places told_mid k h) ∙ sym same in
+            let byte : IsByte (last.cells (place + k)) = subst IsByte (sym same) (bytes told_mid (place + k)) in
+            byte_in _ number _ (verified.bytes told k (omega (arith, h, located.bounded)))
+            ∙ ap (λ (x : ℕ). Byte (value_of (first.cells x))) (sym there)
+            ∙ ap (λ (cell : Cell). Byte (value_of cell)) shown
+            ∙ byte_value (last.cells (place + k)) byte);
+        damaged = λ told. tt;
+      }
+
+  pub found_run : (result : Result (ℕ × ℕ) Bad) → IsLocated mid part_at difi dpfs ((level4_of difi).at + at) n result
+      → Stays mid last (result_err result) → IsFound (hashed_state first number master difi ivfc) last at most result
+  found_run (Ok (place, m)) located later = found place m located later
+  found_run (Err bad) located later = unlocated (hashed_state first number master difi ivfc) last at most bad located.plain
+
+-- what is found under the master hash in the table is so in the partition
+pub found_part : (base last : State) (part : Part) (table : List ℕ) (at most : ℕ) (result : Result (ℕ × ℕ) Bad)
+    → IsFound (hashed_of base part table) last at most result → IsFound (part_state base part table) last at most result
+found_part base last part table at most result h =
+    record { some = h.some; bounded = h.bounded; inside = h.inside; in_base = h.in_base; cells = h.cells; damaged = h.damaged }
 
 -- a piece of the base where bytes were found is one of the space
-pub found_piece : (s base : State) (at most place m : ℕ) → IsTrue base.shape.plain → base.told ≡ s.told → IsFound s base at most (Ok (place, m)) → (result : Result (Bor (List ℕ)) Bad) → IsPiece base place m result → IsPiece s at most result
+pub found_piece : (s base : State) (at most place m : ℕ) → IsTrue base.shape.plain → (IsTrue s.told → IsTrue base.told) → IsFound s base at most (Ok (place, m)) → (result : Result (Bor (List ℕ)) Bad) → IsPiece base place m result → IsPiece s at most result
 found_piece s base at most place m plain same_told found (Ok piece) h = record {
   some = h.some;
   bounded = omega (arith, h.bounded, found.bounded);
   inside = omega (arith, h.bounded, found.inside);
-  bytes = λ told k below. found.cells told k (omega (arith, below, h.bounded)) ∙ h.bytes (subst IsTrue (sym same_told) told) k below;
+  bytes = λ told k below. found.cells told k (omega (arith, below, h.bounded)) ∙ h.bytes (same_told told) k below;
   damaged = λ told. tt;
   plain = λ plain. tt;
 }
@@ -142,30 +162,40 @@ found_piece s base at most place m plain same_told found (Err (Damaged part leve
 pub refused_piece : (s base : State) (at most : ℕ) (bad : Bad) → IsFalse s.shape.plain → IsFound s base at most (Err bad) → IsPiece s at most (Err bad)
 refused_piece s base at most bad worn found = record { some = tt; bounded = tt; inside = tt; bytes = λ told. tt; damaged = found.damaged; plain = λ plain. absurd (let no = worn in cc) }
 
--- what is known of a base from its contents: its shape and, where nothing of it moved, its cells
-pub base_stays : (base new contents contents_new : State) (refusal : Option Bad) → contents.faults ≡ base.faults → contents_new.faults ≡ new.faults → contents.told ≡ base.told → contents_new.told ≡ new.told → new.shape ≡ base.shape → Stays contents contents_new refusal
-    → (IsTrue base.told → IsTrue new.told → SameCells base new × SameTwins base new) → Stays base new refusal
-base_stays base new contents contents_new refusal faults faults_new told told_new shape stays same = record {
-  space = record {
-    shape = shape;
-    faults = rw (faults, faults_new) at stays.space.faults;
-    cause = rw (faults, faults_new) at stays.space.cause;
-    told = rw (told, told_new) at stays.space.told;
-    twins = λ is_told. UnlessDisk-map refusal (λ (still : contents_new.told ≡ contents.told). (same is_told (told_later is_told still)).1) stays.space.told;
-  };
-  cells = λ is_told. UnlessDisk-map refusal (λ (still : contents_new.told ≡ contents.told). (same is_told (told_later is_told still)).0) stays.space.told;
-} where
-  told_later : IsTrue base.told → contents_new.told ≡ contents.told → IsTrue new.told
-  told_later is_told still = sym told_new ∙ still ∙ told ∙ is_told
-
-module _ {S : Type 0} (states : S → State) (keeps : Spot → S → S → Type 0) (keeps_shape : (s t : S) → keeps Frame s t → (states t).shape ≡ (states s).shape)
-    (keeps_cells : (s t : S) → IsTrue (states s).shape.sound → IsFalse (states s).shape.doubled → IsTrue (states s).told → IsTrue (states t).told → ((spot : Spot) → keeps spot s t) → SameCells (states s) (states t) × SameTwins (states s) (states t)) where
-  -- a call that reads the contents leaves their base as it is
-  pub base_reads : (old new : DpfsView S) (refusal : Option Bad) → IsTrue (states old.base.now).shape.sound → IsFalse (states old.base.now).shape.doubled
-      → Reads (shown states) (λ spot s t. SameView s t × keeps spot s.base.now t.base.now) (λ s x spot. ⊥) old new refusal → Stays (states old.base.now) (states new.base.now) refusal
+-- What is known of a base from its contents, after a call that left alone each of their spots.
+module _ {S : Type 0} (states : S → State) (keeps : Spot → S → S → Type 0) (lands : S → ℕ → Spot → Type 0)
+    (keeps_hold : (s t : S) → keeps Frame s t → keeps Hold s t)
+    (keeps_shape : (s t : S) → keeps Hold s t → (states t).shape ≡ (states s).shape)
+    (keeps_cells : (s t : S) → IsTrue (states s).shape.sound → IsFalse (states s).shape.doubled → IsTrue (states s).told
+    → IsTrue (states t).told → ((spot : Spot) → keeps spot s t) → SameCells (states s) (states t) × SameTwins (states s) (states t))
+    (keeps_lands : (s t : S) → IsTrue (states s).shape.sound → IsFalse (states s).shape.doubled → IsTrue (states s).told
+    → IsTrue (states t).told → ((spot : Spot) → keeps spot s t) → LandsAsBefore (states s).shape.size (lands s) (lands t)) where
+  -- a call that reads the contents reads their base
+  pub base_reads : (old new : DpfsView S) (refusal : Option Bad) → IsTrue (states old.base.now).shape.sound
+      → IsFalse (states old.base.now).shape.doubled
+      → Reads (shown_contents states) (ContentsKeep keeps) (contents_land states lands) old new refusal
+      → Reads states keeps lands old.base.now new.base.now refusal
   base_reads old new refusal sound single reads =
-      base_stays (states old.base.now) (states new.base.now) (shown states old) (shown states new) refusal refl refl refl refl (keeps_shape old.base.now new.base.now reads.unmoved.frame.1) reads.stays
-      (λ told still. keeps_cells old.base.now new.base.now sound single told still (λ spot. (reads.unmoved.spots told spot).1))
+      let one = old.base.now in
+      let two = new.base.now in
+      let kept : IsTrue (states one).told → (spot : Spot) → keeps spot one two = λ told spot. (reads.spots told spot).2 in
+      let space = reads.stays.space in
+      record {
+        stays = record {
+          space = record {
+            shape = keeps_shape one two (keeps_hold one two reads.frame.2);
+            faults = space.faults;
+            cause = space.cause;
+            told = space.told;
+            twins = λ told. UnlessDisk-map refusal (λ still. (keeps_cells one two sound single told still (kept told)).1) (space.told told);
+          };
+          cells = λ told. UnlessDisk-map refusal (λ still. (keeps_cells one two sound single told still (kept told)).0) (space.told told);
+        };
+        frame = reads.frame.2;
+        sectors = λ number. (reads.sectors number).2;
+        spots = kept;
+        reach = λ told. UnlessDisk-map refusal (λ still. keeps_lands one two sound single told still (kept told)) (space.told told);
+      }
 
 -- what stays in the contents stays in the partition
 pub part_stays : (first last : State) (part : Part) (table : List ℕ) (refusal : Option Bad) → first.shape.size < 2 ^ 64 → CanView first.shape part (length table) → last.shape ≡ first.shape → Stays (contents_of first part) (contents_of last part) refusal → Stays (part_state first part table) (part_state last part table) refusal

@@ -8,7 +8,7 @@ use Rattle.save_bytes.specs.State.{Shape, State}
 use Rattle.difi.specs.declared.descriptor.Difi.{Difi}
 use Rattle.difi.specs.Places.{overlap, blocks_of}
 use Rattle.difi.specs.Sound.{AreApart, difi_part}
-use Rattle.dpfs_tree.specs.View.{view_state as contents_state, CanView as CanViewContents, can_view as can_view_contents}
+use Rattle.dpfs_tree.specs.View.{contents_state, CanViewContents, can_view_contents}
 use Rattle.ivfc_tree.specs.Marks.{IsMadeFor}
 use Rattle.ivfc_tree.specs.View.{view_state as hashed_state}
 use Rattle.part_store.specs.declared.part.Part.{Part}

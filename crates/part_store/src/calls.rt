@@ -1,17 +1,16 @@
 //! Calls through both trees of a partition.
 
 ghost use Rattle.std.specs.Prelude.{◌≡◌, ℕ, ◌+◌, ◌^◌, ◌<◌, ◌≤◌, IsTrue, IfOk, length};
+ghost use Rattle.std.specs.Borrow.{sem};
+ghost use Rattle.std.specs.Io.BufRead.{Rests};
 ghost use Rattle.std.specs.Result.{result_err};
-ghost use Rattle.save_bytes.specs.State.{IsInside};
 ghost use Rattle.save_bytes.specs.Refusals.{NeverDamaged};
+ghost use Rattle.save_bytes.specs.Answers.{IsPiece};
 ghost use Rattle.save_bytes.specs.Reads.{Reads};
 ghost use Rattle.ivfc_tree.specs.Levels.{HasBlock, level4_of};
 ghost use Rattle.ivfc_tree.specs.Paths.{block_state};
 ghost use Rattle.ivfc_tree.specs.View.{CanView as CanHash, view_state, IsVerified, status_of};
-ghost use Rattle.difi.specs.Contents.{view_size};
-ghost use Rattle.dpfs_tree.specs.View.{CanView as CanViewContents, IsLocated};
-ghost use Rattle.save_bytes.specs.Stays.{Stays};
-ghost use Rattle.save_bytes.specs.Spots.{Spot, Frame};
+ghost use Rattle.dpfs_tree.specs.Held.{shown_contents, ContentsKeep, contents_land};
 ghost use Rattle.part_store.specs.Parts.{CanView, contents_of, master_of, part_state, IsFound};
 
 use crate::part::Part;
@@ -65,36 +64,6 @@ fn status_in<S: Space>(
     view.status(level, block)
 }
 
-/// Tries the hash path of the byte at `at`, and answers how many bytes from there on are good by it.
-pub(crate) fn verify<S: Space>(
-    base: &mut S,
-    part: &mut Part,
-    table: &mut [u8],
-    at: u64,
-    most: usize,
-) -> Result<usize, Bad>
-    requires view { CanView (S.state base.old).shape part.old (length table.old) }
-    requires inside { at + 1 ≤ part.old.difi.ivfc4.size }
-    requires some { 1 ≤ most }
-    ensures verified { IsVerified (part_state (S.state base.old) part.old table.old) at most result }
-    ensures stays { Stays (S.state base.old) (S.state base.new) (result_err result) }
-    ensures frame { S.keeps Frame base.old base.new }
-    ensures spots { IsTrue (S.state base.old).told → (spot : Spot) → S.keeps spot base.old base.new }
-    ensures part { part.new ≡ part.old }
-    ensures table { table.new ≡ table.old }
-{
-    let start = (part.difi.place + part.difi.master.at) as usize;
-    let end = start + part.difi.master.size as usize;
-    let difi = part.difi;
-    let number = part.number;
-    let place = part.at;
-    let dpfs = &mut part.dpfs;
-    let ivfc = &mut part.ivfc;
-    let master = &mut table[start..end];
-    let mut contents = DpfsView::new(base, place, &difi, dpfs);
-    verify_in(&mut contents, number, &difi, master, ivfc, at, most)
-}
-
 /// Tells the state of a block of one of the four hash levels.
 pub(crate) fn status<S: Space>(
     base: &mut S,
@@ -108,9 +77,7 @@ pub(crate) fn status<S: Space>(
     ensures status { IsTrue (S.state base.old).told → IfOk result (λ status. status
         ≡ status_of (block_state (contents_of (S.state base.old) part.old).cells (master_of table.old part.old.difi) part.old.difi part.old.ivfc level block)) }
     ensures plain { NeverDamaged (result_err result) }
-    ensures stays { Stays (S.state base.old) (S.state base.new) (result_err result) }
-    ensures frame { S.keeps Frame base.old base.new }
-    ensures spots { IsTrue (S.state base.old).told → (spot : Spot) → S.keeps spot base.old base.new }
+    ensures reads { Reads S.state S.keeps S.lands base.old base.new (result_err result) }
     ensures part { part.new ≡ part.old }
     ensures table { table.new ≡ table.old }
 {
@@ -126,25 +93,6 @@ pub(crate) fn status<S: Space>(
     status_in(&mut contents, number, &difi, master, ivfc, level, block)
 }
 
-// Where bytes of the contents lie in the base, and how many lie there in one piece, up to `most`.
-fn locate<S: Space>(
-    base: &mut S,
-    part: &mut Part,
-    at: u64,
-    most: usize,
-) -> Result<(u64, usize), Bad>
-    requires view { CanViewContents (S.state base.old).shape part.old.at part.old.difi part.old.dpfs }
-    requires inside { at + 1 ≤ view_size part.old.difi }
-    requires some { 1 ≤ most }
-    ensures located { IsLocated (S.state base.old) part.old.at part.old.difi part.old.dpfs at most result }
-    ensures reads { Reads S.state S.keeps S.lands base.old base.new (result_err result) }
-    ensures part { part.new ≡ part.old }
-{
-    let difi = part.difi;
-    let mut contents = DpfsView::new(base, part.at, &difi, &mut part.dpfs);
-    contents.locate(at, most)
-}
-
 // Where a byte of level four lies in the contents.
 fn place_in_contents(difi: &Difi, at: u64) -> u64
     requires { (level4_of difi.now).at + at < 2 ^ 64 }
@@ -156,6 +104,33 @@ fn place_in_contents(difi: &Difi, at: u64) -> u64
         difi.ivfc4.at
     };
     from + at
+}
+
+// Where bytes of level four lie in the base of the contents, and how many lie there in one piece, up to `most`, where they
+// have a hash path.
+fn find_in<S: Space>(
+    contents: &mut DpfsView<'_, S>,
+    number: u8,
+    difi: &Difi,
+    master: &mut [u8],
+    state: &mut IvfcState,
+    at: u64,
+    most: usize,
+) -> Result<(u64, usize), Bad>
+    requires of { contents.old.difi.now ≡ difi.now }
+    requires view { CanHash (shown_contents S.state contents.old).shape difi.now (length master.old) state.old }
+    requires inside { at + 1 ≤ difi.now.ivfc4.size }
+    requires some { 1 ≤ most }
+    ensures found { IsFound (view_state (shown_contents S.state contents.old) number master.old difi.now state.old) (S.state contents.new.base.now) at most result }
+    ensures reads { Reads (shown_contents S.state) (ContentsKeep S.keeps) (contents_land S.state S.lands) contents.old contents.new (result_err result) }
+    ensures master { master.new ≡ master.old }
+    ensures state { state.new ≡ state.old }
+{
+    let most = match verify_in(contents, number, difi, master, state, at, most) {
+        Ok(most) => most,
+        Err(bad) => return Err(bad),
+    };
+    contents.locate(place_in_contents(difi, at), most)
 }
 
 /// Where the bytes of level four from `at` on lie in the base, and how many lie there in one piece, up to `most`,
@@ -171,16 +146,43 @@ pub(crate) fn find<S: Space>(
     requires inside { at + 1 ≤ part.old.difi.ivfc4.size }
     requires some { 1 ≤ most }
     ensures found { IsFound (part_state (S.state base.old) part.old table.old) (S.state base.new) at most result }
-    ensures stays { Stays (S.state base.old) (S.state base.new) (result_err result) }
-    ensures frame { S.keeps Frame base.old base.new }
-    ensures spots { IsTrue (S.state base.old).told → (spot : Spot) → S.keeps spot base.old base.new }
+    ensures reads { Reads S.state S.keeps S.lands base.old base.new (result_err result) }
     ensures part { part.new ≡ part.old }
     ensures table { table.new ≡ table.old }
 {
-    let most = match verify(base, part, table, at, most) {
-        Ok(most) => most,
+    let start = (part.difi.place + part.difi.master.at) as usize;
+    let end = start + part.difi.master.size as usize;
+    let difi = part.difi;
+    let number = part.number;
+    let part_at = part.at;
+    let dpfs = &mut part.dpfs;
+    let ivfc = &mut part.ivfc;
+    let master = &mut table[start..end];
+    let mut contents = DpfsView::new(base, part_at, &difi, dpfs);
+    find_in(&mut contents, number, &difi, master, ivfc, at, most)
+}
+
+/// Lends 1 to `most` bytes of a partition's level four from `at` on, as they lie in the base, where they have a hash path:
+/// for as long as the base is lent. `Damaged` comes exactly where the byte at `at` has none, and names the topmost
+/// block that fails.
+pub fn lend<'a, S: Space>(
+    base: &'a mut S,
+    part: &mut Part,
+    table: &mut [u8],
+    at: u64,
+    most: usize,
+) -> Result<&'a [u8], Bad>
+    requires view { CanView (S.state base.old).shape part.old (length table.old) }
+    requires inside { at + 1 ≤ part.old.difi.ivfc4.size }
+    requires some { 1 ≤ most }
+    ensures piece { IsPiece (part_state (S.state base.old) part.old table.old) at most result }
+    ensures part { part.new ≡ part.old }
+    ensures table { table.new ≡ table.old }
+    ensures* after { sem 𝓛 (Rests S.row base.entry (λ new. Reads S.state S.keeps S.lands base.old new (result_err result))) }
+{
+    let (place, most) = match find(&mut *base, part, table, at, most) {
+        Ok(run) => run,
         Err(bad) => return Err(bad),
     };
-    let place = place_in_contents(&part.difi, at);
-    locate(base, part, place, most)
+    base.piece(place, most)
 }

@@ -5,6 +5,7 @@ mod calls;
 mod part;
 mod view;
 
+pub use calls::lend;
 pub use part::Part;
 pub use view::PartView;
 

@@ -5,7 +5,7 @@ ghost use Rattle.save_bytes.specs.Cells.{Cell};
 ghost use Rattle.difi.specs.Contents.{view_size};
 ghost use Rattle.difi.specs.Sound.{HasBlockSizes};
 ghost use Rattle.dpfs_tree.specs.Picks.{chosen};
-ghost use Rattle.dpfs_tree.specs.Marks.{place_of, IsFresh};
+ghost use Rattle.dpfs_tree.specs.Marks.{place_of, IsFreshContents};
 ghost use Rattle.ivfc_tree.specs.Marks.{IsMadeFor, HasNoMarks};
 ghost use Rattle.ivfc_tree.specs.Paths.{IsStateOf, block_state};
 
@@ -35,7 +35,7 @@ impl Part {
         ensures number { IfOk result (λ part. part.number ≡ number) }
         ensures place { IfOk result (λ part. part.at ≡ part_at) }
         ensures descriptor { IfOk result (λ part. part.difi ≡ difi.now) }
-        ensures untouched { IfOk result (λ part. IsFresh difi.now part.dpfs) }
+        ensures untouched { IfOk result (λ part. IsFreshContents difi.now part.dpfs) }
         ensures made { IfOk result (λ part. IsMadeFor difi.now part.ivfc) }
         ensures unmarked { IfOk result (λ part. HasNoMarks part.ivfc) }
         // The contents are the chosen bytes of level 3, then those of external level four.

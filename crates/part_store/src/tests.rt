@@ -125,9 +125,8 @@ fn four_lent(alloc: Global, image: &mut [u8], at: u64) -> Result<Result<[u8; 4],
     let mut table = table_of(image);
     let mut part = open(alloc, 0)?;
     let mut space = MemSpace::new(image, 512);
-    let view = PartView::new(&mut space, &mut part, &mut table);
     let mut four = [0; 4];
-    match view.lend(at, 4) {
+    match lend(&mut space, &mut part, &mut table, at, 4) {
         Ok(piece) => {
             let n = piece.len();
             four[..n].copy_from_slice(piece);

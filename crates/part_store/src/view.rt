@@ -8,7 +8,7 @@ ghost use Rattle.save_bytes.specs.State.{IsInside};
 ghost use Rattle.save_bytes.specs.Refusals.{NeverDamaged};
 ghost use Rattle.save_bytes.specs.Answers.{IsPiece};
 ghost use Rattle.save_bytes.specs.Stays.{Stays};
-ghost use Rattle.save_bytes.specs.Spots.{Spot, Frame};
+ghost use Rattle.save_bytes.specs.Reads.{Reads};
 ghost use Rattle.ivfc_tree.specs.Levels.{HasBlock};
 ghost use Rattle.ivfc_tree.specs.Paths.{block_state};
 ghost use Rattle.ivfc_tree.specs.View.{status_of};
@@ -54,9 +54,7 @@ impl<'a, S: Space> PartView<'a, S> {
         requires some { 1 ≤ most }
         ensures found { IsFound (shown S.state self.old) (S.state self.new.base.now) at most result }
         ensures stays { Stays (shown S.state self.old) (shown S.state self.new) (result_err result) }
-        ensures base { Stays (S.state self.old.base.now) (S.state self.new.base.now) (result_err result) }
-        ensures frame { S.keeps Frame self.old.base.now self.new.base.now }
-        ensures spots { IsTrue (S.state self.old.base.now).told → (spot : Spot) → S.keeps spot self.old.base.now self.new.base.now }
+        ensures base { Reads S.state S.keeps S.lands self.old.base.now self.new.base.now (result_err result) }
         ensures same { SameView self.old self.new }
     {
         let base = &mut *self.base;
@@ -73,9 +71,7 @@ impl<'a, S: Space> PartView<'a, S> {
         ensures piece { IsPiece (shown S.state self.old) at most result }
         ensures* after { sem 𝓛 (Rests (the_row (record { mir = named 0; lft = [] }) S.row) self.entry (λ new.
             Stays (shown S.state self.old) (shown S.state new) (result_err result)
-            × Stays (S.state self.old.base.now) (S.state new.base.now) (result_err result)
-            × S.keeps Frame self.old.base.now new.base.now
-            × (IsTrue (S.state self.old.base.now).told → (spot : Spot) → S.keeps spot self.old.base.now new.base.now)
+            × Reads S.state S.keeps S.lands self.old.base.now new.base.now (result_err result)
             × SameView self.old new)) }
     {
         let (place, most) = match self.locate(at, most) {
@@ -83,20 +79,6 @@ impl<'a, S: Space> PartView<'a, S> {
             Err(bad) => return Err(bad),
         };
         let base = &mut *self.base;
-        base.piece(place, most)
-    }
-
-    /// Lends as `piece` does, for as long as the base was lent.
-    pub fn lend(self, at: u64, most: usize) -> Result<&'a [u8], Bad>
-        requires inside { IsInside (shown S.state self).shape at 1 }
-        requires some { 1 ≤ most }
-        ensures piece { IsPiece (shown S.state self.entry) at most result }
-    {
-        let PartView { base, part, table } = self;
-        let (place, most) = match find(base, part, table, at, most) {
-            Ok(run) => run,
-            Err(bad) => return Err(bad),
-        };
         base.piece(place, most)
     }
 
@@ -109,9 +91,7 @@ impl<'a, S: Space> PartView<'a, S> {
             ≡ status_of (block_state (contents_of (S.state self.old.base.now) self.old.part.now).cells (master_of self.old.table.now self.old.part.now.difi) self.old.part.now.difi self.old.part.now.ivfc level block)) }
         ensures plain { NeverDamaged (result_err result) }
         ensures stays { Stays (shown S.state self.old) (shown S.state self.new) (result_err result) }
-        ensures base { Stays (S.state self.old.base.now) (S.state self.new.base.now) (result_err result) }
-        ensures frame { S.keeps Frame self.old.base.now self.new.base.now }
-        ensures spots { IsTrue (S.state self.old.base.now).told → (spot : Spot) → S.keeps spot self.old.base.now self.new.base.now }
+        ensures base { Reads S.state S.keeps S.lands self.old.base.now self.new.base.now (result_err result) }
         ensures same { SameView self.old self.new }
     {
         let base = &mut *self.base;

@@ -2,7 +2,7 @@ use Rattle.std.proofs.Common.{◌≡◌, ◌+◌, Result, Ok, Err, IfOk, refl, s
 use Rattle.save_bytes.specs.Memory.{memory_shape}
 use Rattle.difi.specs.declared.descriptor.Difi.{Difi}
 use Rattle.difi.specs.Sound.{HasSoundLevels, AreApart, difi_part}
-use Rattle.dpfs_tree.specs.Marks.{IsFresh}
+use Rattle.dpfs_tree.specs.Marks.{IsFreshContents}
 use Rattle.ivfc_tree.specs.Marks.{IsMadeFor}
 use Rattle.part_store.specs.declared.part.Part.{Part}
 use Rattle.part_store.specs.Parts.{CanView}
@@ -15,7 +15,7 @@ record IsLone (difi : Difi) : Type 0 where
   place : difi.place ≡ 0
   master : difi.master.at + difi.master.size ≡ 300
 
-can_view : (part : Part) → part.at ≡ 4096 → IsLone part.difi → IsFresh part.difi part.dpfs → IsMadeFor part.difi part.ivfc → CanView (memory_shape 110592 512) part 300
+can_view : (part : Part) → part.at ≡ 4096 → IsLone part.difi → IsFreshContents part.difi part.dpfs → IsMadeFor part.difi part.ivfc → CanView (memory_shape 110592 512) part 300
 can_view part at lone fresh made = record {
   contents = record {
     sound = refl;
@@ -31,10 +31,10 @@ can_view part at lone fresh made = record {
 }
 
 can_view_opened : {E : Type 0} (difi : Difi) (r : Result Part E) → IsLone difi → IfOk r (λ part. part.at ≡ 4096) → IfOk r (λ part. part.difi ≡ difi)
-    → IfOk r (λ part. IsFresh difi part.dpfs) → IfOk r (λ part. IsMadeFor difi part.ivfc) → IfOk r (λ part. CanView (memory_shape 110592 512) part 300)
+    → IfOk r (λ part. IsFreshContents difi part.dpfs) → IfOk r (λ part. IsMadeFor difi part.ivfc) → IfOk r (λ part. CanView (memory_shape 110592 512) part 300)
 can_view_opened difi (Err e) lone at same fresh made = tt
 can_view_opened difi (Ok part) lone at same fresh made =
-    can_view part at (subst IsLone (sym same) lone) (subst (λ difi. IsFresh difi part.dpfs) (sym same) fresh) (subst (λ difi. IsMadeFor difi part.ivfc) (sym same) made)
+    can_view part at (subst IsLone (sym same) lone) (subst (λ difi. IsFreshContents difi part.dpfs) (sym same) fresh) (subst (λ difi. IsMadeFor difi part.ivfc) (sym same) made)
 
 pub returns-clause-view : goal.returns-clause-view
 returns-clause-view c =
