@@ -1,24 +1,32 @@
 -- A store over its image and disk.
-use Rattle.std.proofs.Common.{◌≡◌, ◌^◌, ◌<◌, List, Option, Ok, IsTrue, ℕ, refl, ◌∙◌}
+use Rattle.std.proofs.Common.{◌≡◌, ◌^◌, ◌<◌, List, length, Option, Some, None, Ok, IsTrue, ℕ, refl, sym, ◌∙◌, ap, subst}
 use Rattle.std.specs.Borrow.{Bor}
 use Rattle.std.proofs.lemmas.Bool.{and_parts, eqb-true}
 use Rattle.save_bytes.specs.declared.space.Bad.{Bad}
 use Rattle.save_bytes.specs.Answers.{IsPiece}
 use Rattle.save_bytes.specs.State.{State}
-use Rattle.save_bytes.specs.Spots.{Spot}
-use Rattle.save_bytes.specs.Stays.{Stays}
+use Rattle.save_bytes.specs.Spots.{Spot, Mark, Frame, LandsAsBefore}
+use Rattle.save_bytes.specs.Stays.{SameCells, Stays}
+use Rattle.save_bytes.specs.Reads.{Reads}
+use Rattle.save_bytes.proofs.SpaceLemmas.{UnlessDisk-map}
 use Rattle.save_disk.specs.State as disks
 use Rattle.page_image.specs.declared.state.ImageState.{ImageState}
 use Rattle.page_image.specs.Images.{IsDiskOf, IsHeldPiece, image_state}
 use Rattle.page_image.specs.Laws.{image_size_fits, Leaves-join}
+use Rattle.page_image.specs.declared.image.Image.{Image}
+use Rattle.page_image.specs.Spots.{ImageLands}
+use Rattle.page_image.specs.Held.{ImageKeeps}
+use Rattle.page_image.specs.Held.{shown as shown_image}
 use Rattle.page_image.proofs.PieceLemmas.{image_piece}
 use Rattle.part_store.specs.declared.part.Part.{Part}
 use Rattle.part_store.specs.Parts.{IsFound}
+use Rattle.part_store.specs.Spots.{SamePart, PartSpot}
+use Rattle.part_store.specs.SpotLaws.{SamePart-same, PartSpot-same, SamePart-join, PartSpot-join}
 use Rattle.part_store.proofs.PartLemmas.{found_piece}
 use Rattle.container.specs.declared.store.Store.{Store}
 use Rattle.container.specs.Stores.{state_of}
-use Rattle.container.specs.StoreHeld.{SameStore, StoreKeeps}
-use Rattle.container.proofs.StoreLemmas.{sound_base, store_fits, store_stays}
+use Rattle.container.specs.StoreHeld.{shown, SameStore, SameSecond, IsKept, ReadsImage, ContainerSpot, StoreKeeps, store_lands}
+use Rattle.container.proofs.StoreLemmas.{sound_base, store_told, store_fits, store_stays, store_lands_before}
 
 module _ (disk : disks.State) (image : ImageState) (first : Part) (second : Option Part) (table : List ℕ) (sound : IsTrue (state_of (image_state disk image) first second table).shape.sound) where
   -- a sound store's disk is that of its image
@@ -36,22 +44,127 @@ module _ (disk : disks.State) (image : ImageState) (first : Part) (second : Opti
   image_stays disk_new image_new refusal stays = store_stays (image_state disk image) (image_state disk_new image_new) table refusal (image_size_fits disk image) stays first second sound
 
 -- bytes that are held where they were found are a piece of the store
-pub held_piece : (s : State) (disk : disks.State) (image : ImageState) (at most place m : ℕ) (piece : Bor (List ℕ)) → (image_state disk image).told ≡ s.told → IsFound s (image_state disk image) at most (Ok (place, m)) → IsHeldPiece image place m piece.now → IsPiece s at most (Ok piece)
-held_piece s disk image at most place m piece told found held = found_piece s (image_state disk image) at most place m refl told found (Ok piece) (image_piece disk image place m piece held)
+pub held_piece : (s : State) (disk : disks.State) (image : ImageState) (at most place m : ℕ) (piece : Bor (List ℕ))
+    → (IsTrue s.told → IsTrue (image_state disk image).told) → IsFound s (image_state disk image) at most (Ok (place, m))
+    → IsHeldPiece image place m piece.now → IsPiece s at most (Ok piece)
+held_piece s disk image at most place m piece told found held =
+    found_piece s (image_state disk image) at most place m refl told found (Ok piece) (image_piece disk image place m piece held)
 
-module _ {D : Type 0} (states : D → disks.State) where
-  pub SameStore-join : (s t u : Store D) → SameStore s t → SameStore t u → SameStore s u
-  SameStore-join s t u h k = record {
-    same_image = k.same_image ∙ h.same_image;
-    same_disk = k.same_disk ∙ h.same_disk;
-    same_parts = k.same_parts ∙ h.same_parts;
-    parts_now = k.parts_now ∙ h.parts_now;
-    same_table = k.same_table ∙ h.same_table;
-    table_now = k.table_now ∙ h.table_now;
+second_same : (P : Part → Part → Type 0) → ((part : Part) → P part part) → (second : Option Part) → SameSecond P second second
+second_same P same None = tt
+second_same P same (Some part) = same part
+
+-- a call that reads the image, and keeps all else of the container, reads the store
+module _ {D : Type 0} (states : D → disks.State) (s t : Store D) (refusal : Option Bad)
+    (same_container : t.container.ghost_name ≡ s.container.ghost_name) (same_disk : t.disk.ghost_name ≡ s.disk.ghost_name)
+    (kept : IsKept s.container.now t.container.now)
+    (reads : ReadsImage (states s.disk.now) s.container.now.image (states t.disk.now) t.container.now.image refusal)
+    (sound : IsTrue (shown states s).shape.sound) where
+  same_store : SameStore s t
+  same_store = record {
+    same_container = same_container;
+    same_disk = same_disk;
+    header = kept.header;
+    first = rw kept.parts (SamePart-same s.container.now.parts.first);
+    second = rw kept.parts (second_same SamePart SamePart-same s.container.now.parts.second);
+    table_len = ap length kept.table;
   }
+
+  same_spot : (spot : Spot) → ContainerSpot spot s.container.now t.container.now
+  same_spot (Mark part level block) = rw kept.parts
+      (PartSpot-same (Mark part level block) s.container.now.parts.first,
+      second_same (PartSpot (Mark part level block)) (PartSpot-same (Mark part level block)) s.container.now.parts.second)
+  same_spot Frame = kept
+  same_spot spot = tt
+
+  stays_in_store : Stays (shown states s) (shown states t) refusal
+  stays_in_store =
+      let container = s.container.now in
+      rw (kept.parts, kept.table)
+      (image_stays (states s.disk.now) container.image container.parts.first container.parts.second container.table.items sound
+      (states t.disk.now) t.container.now.image refusal reads.stays)
+
+  lands_before : SameCells (image_state (states s.disk.now) s.container.now.image) (image_state (states t.disk.now) t.container.now.image)
+      → LandsAsBefore (shown states s).shape.size (store_lands states s) (store_lands states t)
+  lands_before cells =
+      let container = s.container.now in
+      let base = image_state (states s.disk.now) container.image in
+      let new = image_state (states t.disk.now) t.container.now.image in
+      rw kept.parts
+      (store_lands_before base new container.table.items refusal (image_size_fits (states s.disk.now) container.image) reads.stays cells
+      (ImageLands container.image.grain) (ImageLands t.container.now.image.grain)
+      (λ x below spot. subst (λ (grain : ℕ). ImageLands grain x spot) reads.frame.0.grain)
+      container.parts.first container.parts.second sound)
+
+  pub store_reads : Reads (shown states) (StoreKeeps states) (store_lands states) s t refusal
+  store_reads =
+      let container = s.container.now in
+      let base = image_state (states s.disk.now) container.image in
+      let told : IsTrue (shown states s).told → IsTrue base.told =
+      λ is. sym (store_told base container.parts.first container.table.items container.parts.second) ∙ is in
+      record {
+        stays = stays_in_store;
+        frame = (same_store, kept, reads.frame);
+        sectors = λ number. (same_store, tt, reads.sectors number);
+        spots = λ is spot. (same_store, same_spot spot, reads.spots (told is) spot);
+        reach = λ is. UnlessDisk-map refusal lands_before (reads.stays.cells (told is));
+      }
+
+-- what a call on a view of the image reads of the image
+pub view_reads : {D : Type 0} (states : D → disks.State) (lands : Image D → ℕ → Spot → Type 0) (s t : Image D) (refusal : Option Bad)
+    → Reads (shown_image states) (ImageKeeps states) lands s t refusal
+    → ReadsImage (states s.disk.now) s.image.now (states t.disk.now) t.image.now refusal
+view_reads states lands s t refusal reads = record {
+  stays = reads.stays;
+  frame = reads.frame.1;
+  sectors = λ number. (reads.sectors number).1;
+  spots = λ told spot. (reads.spots told spot).1;
+}
+
+-- one call on a store behind another
+module _ {D : Type 0} (states : D → disks.State) where
+  SameSecond-join : (P : Part → Part → Type 0) → ((a b c : Part) → P a b → P b c → P a c) → (x y z : Option Part)
+      → SameSecond P x y → SameSecond P y z → SameSecond P x z
+  SameSecond-join P join None None None h k = tt
+  SameSecond-join P join (Some a) (Some b) (Some c) h k = join a b c h k
+  SameSecond-join P join None None (Some c) h k = k
+  SameSecond-join P join None (Some b) z h k = absurd h
+  SameSecond-join P join (Some a) None z h k = absurd h
+  SameSecond-join P join (Some a) (Some b) None h k = k
+
+  SameStore-join : (s t u : Store D) → SameStore s t → SameStore t u → SameStore s u
+  SameStore-join s t u h k =
+      let one = s.container.now.parts in
+      let two = t.container.now.parts in
+      let three = u.container.now.parts in
+      record {
+        same_container = k.same_container ∙ h.same_container;
+        same_disk = k.same_disk ∙ h.same_disk;
+        header = k.header ∙ h.header;
+        first = SamePart-join one.first two.first three.first h.first k.first;
+        second = SameSecond-join SamePart SamePart-join one.second two.second three.second h.second k.second;
+        table_len = k.table_len ∙ h.table_len;
+      }
+
+  spot_join : (spot : Spot) (s t u : Store D) → SameStore s t → ContainerSpot spot s.container.now t.container.now → ContainerSpot spot t.container.now u.container.now
+      → ContainerSpot spot s.container.now u.container.now
+  spot_join (Mark part level block) s t u same h k = (
+    PartSpot-join (Mark part level block) s.container.now.parts.first t.container.now.parts.first u.container.now.parts.first same.first h.0 k.0,
+    second_join (Mark part level block) s.container.now.parts.second t.container.now.parts.second u.container.now.parts.second same.second h.1 k.1,
+  ) where
+    second_join : (spot : Spot) (x y z : Option Part) → SameSecond SamePart x y → SameSecond (PartSpot spot) x y → SameSecond (PartSpot spot) y z → SameSecond (PartSpot spot) x z
+    second_join spot None None None same h k = tt
+    second_join spot (Some a) (Some b) (Some c) same h k = PartSpot-join spot a b c same h k
+    second_join spot None None (Some c) same h k = k
+    second_join spot None (Some b) z same h k = absurd h
+    second_join spot (Some a) None z same h k = absurd h
+    second_join spot (Some a) (Some b) None same h k = k
+  spot_join Frame s t u same h k = record { header = k.header ∙ h.header; parts = k.parts ∙ h.parts; table = k.table ∙ h.table }
+  spot_join spot s t u same h k = tt
 
   pub StoreKeeps-join : (spot : Spot) (s t u : Store D) → StoreKeeps states spot s t → StoreKeeps states spot t u → StoreKeeps states spot s u
   StoreKeeps-join spot s t u h k = (
     SameStore-join s t u h.0 k.0,
-    Leaves-join (states s.disk.now) (states t.disk.now) (states u.disk.now) s.image.now t.image.now u.image.now spot h.1 k.1,
+    spot_join spot s t u h.0 h.1 k.1,
+    Leaves-join (states s.disk.now) (states t.disk.now) (states u.disk.now) s.container.now.image t.container.now.image u.container.now.image spot h.2 k.2,
   )

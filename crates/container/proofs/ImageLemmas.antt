@@ -12,7 +12,8 @@ use Rattle.dpfs_tree.specs.Picks.{chosen}
 use Rattle.dpfs_tree.proofs.PickLemmas.{place_of-chosen}
 use Rattle.difi.specs.Contents.{view_size}
 use Rattle.dpfs_tree.proofs.SameLemmas.{view_stays as contents_stay}
-use Rattle.ivfc_tree.proofs.SameLemmas.{state-same}
+use Rattle.ivfc_tree.specs.ViewLaws.{state-same}
+use Rattle.ivfc_tree.specs.Marks.{is_marked}
 use Rattle.ivfc_tree.specs.Levels.{HasBlock}
 use Rattle.ivfc_tree.specs.Paths.{block_state}
 use Rattle.ivfc_tree.specs.View.{status_of}
@@ -72,9 +73,10 @@ module _ (disk : disks.State) (image : ImageState) (header : Header) (table : Li
   store_sound first (Some part) count one other =
       let view = part_view 0 first (omega (arith, count)) one in
       let next = part_view 1 part (omega (arith, count)) other in
-      and_from _ _ (can_view-true (image_state disk image).shape first (length table) view)
+      and_from _ _ (rw (one.number_is, other.number_is) refl)
+      (and_from _ _ (can_view-true (image_state disk image).shape first (length table) view)
       (and_from _ _ (can_view-true (image_state disk image).shape part (length table) next)
-      (lt-ltb _ _ (omega (arith, four_fits (image_state disk image) first table (image_size_fits disk image) view, four_fits (image_state disk image) part table (image_size_fits disk image) next, image.layout.most))))
+      (lt-ltb _ _ (omega (arith, four_fits (image_state disk image) first table (image_size_fits disk image) view, four_fits (image_state disk image) part table (image_size_fits disk image) next, image.layout.most)))))
 
 -- a part of a number is the first or the second
 pub data IsOne (parts : Parts) (number : ℕ) (part : Part) : Type 0 where
@@ -121,7 +123,7 @@ module _ (base : State) (bytes : List ℕ) (header : Header) (number : ℕ) (par
   ideal_stays : Stays told_base ideal None
   unfolding told_base ideal
   ideal_stays = record {
-    space = record { shape = refl; faults = omega arith; cause = tt; told = refl; twins = λ told. record { bottom = λ x h. refl; is_fixed = λ x h. refl } };
+    space = record { shape = refl; faults = omega arith; cause = tt; told = λ told. refl; twins = λ told. record { bottom = λ x h. refl; is_fixed = λ x h. refl } };
     cells = λ told y below. sym (same y below);
   }
 
@@ -131,7 +133,7 @@ module _ (base : State) (bytes : List ℕ) (header : Header) (number : ℕ) (par
   chosen_stays : Stays (contents_of ideal part) chosen_contents None
   unfolding ideal chosen_contents
   chosen_stays = record {
-    space = record { shape = refl; faults = omega arith; cause = tt; told = refl; twins = λ told. record { bottom = λ x h. refl; is_fixed = λ x h. refl } };
+    space = record { shape = refl; faults = omega arith; cause = tt; told = λ told. refl; twins = λ told. record { bottom = λ x h. refl; is_fixed = λ x h. refl } };
     cells = λ told z below. sym (ap Byte
         (place_of-chosen (λ y. slice_index bytes y) part.at part.difi part.dpfs z untouched.contents.unmarked
         ∙ ap (λ (at : ℕ). chosen (λ y. slice_index bytes y) at part.difi part.dpfs.selector z) place
@@ -159,7 +161,7 @@ module _ (base : State) (bytes : List ℕ) (header : Header) (number : ℕ) (par
   pub part_paths : (level block : ℕ) → HasBlock part.difi level block → block_state (contents_of base part).cells (master_of table part.difi) part.difi part.ivfc level block ≡ path_in bytes header number part.difi level block
   unfolding path_in
   part_paths level block there =
-      state-same (contents_of base part).shape part.difi (master_of table part.difi) (hashes_there base part table small view) (contents_of base part).cells (contents_in bytes header number part.difi) contents_are part.ivfc level block there
+      state-same (contents_of base part).shape part.difi (master_of table part.difi) (hashes_there base part table small view) (contents_of base part).cells (contents_in bytes header number part.difi) contents_are (is_marked part.ivfc) (is_marked part.ivfc) (λ level block. refl) level block there
       ∙ unmarked_state (contents_in bytes header number part.difi) (master_of table part.difi) part.difi part.ivfc untouched.hashes level block
       ∙ rw active refl
 

@@ -4,7 +4,7 @@ use Rattle.std.specs.Option.{option_map}
 use Rattle.container_header.specs.declared.header.Header.{Header}
 use Rattle.container_header.specs.Sound.{IsSound, IsDescriptor}
 use Rattle.difi.specs.Sound.{IsSound as IsSoundDifi}
-use Rattle.dpfs_tree.specs.Marks.{IsFresh, IsMadeFor as IsMadeForContents}
+use Rattle.dpfs_tree.specs.Marks.{IsFreshContents, IsMadeForContents}
 use Rattle.ivfc_tree.specs.Marks.{IsMadeFor, HasNoMarks}
 use Rattle.part_store.specs.declared.part.Part.{Part}
 use Rattle.container.specs.declared.parts.Parts.{Parts}
@@ -41,7 +41,7 @@ pub record IsPartOf (header : Header) (number : ℕ) (part : Part) : Type 0 wher
 
 -- nothing of a part was changed
 pub record IsUntouched (part : Part) : Type 0 where
-  pub contents : IsFresh part.difi part.dpfs
+  pub contents : IsFreshContents part.difi part.dpfs
   pub hashes : HasNoMarks part.ivfc
 
 -- a part is what its descriptor in the table says, and nothing of it was changed

@@ -5,10 +5,9 @@ ghost use Rattle.std.specs.Result.{result_err};
 ghost use Rattle.save_bytes.specs.Cells.{AreBytesAt, Blames};
 ghost use Rattle.save_bytes.specs.State.{IsInside};
 ghost use Rattle.save_bytes.specs.Refusals.{IfDamaged};
-ghost use Rattle.save_bytes.specs.Stays.{Stays};
-ghost use Rattle.save_bytes.specs.Spots.{Spot, Frame};
+ghost use Rattle.save_bytes.specs.Reads.{Reads};
 ghost use Rattle.save_bytes.specs.Answers.{IsRead};
-ghost use Rattle.container.specs.StoreHeld.{shown, StoreKeeps};
+ghost use Rattle.container.specs.StoreHeld.{shown, StoreKeeps, store_lands};
 
 use crate::store::Store;
 use save_bytes::Bad;
@@ -21,9 +20,7 @@ impl<'a, D: Disk> Store<'a, D> {
         requires { IsInside (shown D.state self.old).shape at (length out.old) }
         ensures read { IsRead (shown D.state self.old) at (length out.old) (result_err result) }
         ensures bytes { IsTrue (shown D.state self.old).told → OnOk result (AreBytesAt (shown D.state self.old).cells at out.new) }
-        ensures stays { Stays (shown D.state self.old) (shown D.state self.new) (result_err result) }
-        ensures frame { StoreKeeps D.state Frame self.old self.new }
-        ensures spots { IsTrue (shown D.state self.old).told → (spot : Spot) → StoreKeeps D.state spot self.old self.new }
+        ensures reads { Reads (shown D.state) (StoreKeeps D.state) (store_lands D.state) self.old self.new (result_err result) }
     {
         let mut done = 0;
         while done < out.len() {
@@ -40,9 +37,7 @@ impl<'a, D: Disk> Store<'a, D> {
         ensures bytes { IsTrue (shown D.state self.old).told → IfOk result (λ n. AreBytesAt (shown D.state self.old).cells at (take n out.new)) }
         ensures rest { IfOk result (λ n. drop n out.new ≡ drop n out.old) }
         ensures damaged { IsTrue (shown D.state self.old).told → IfDamaged (result_err result) (Blames ((shown D.state self.old).cells at)) }
-        ensures stays { Stays (shown D.state self.old) (shown D.state self.new) (result_err result) }
-        ensures frame { StoreKeeps D.state Frame self.old self.new }
-        ensures spots { IsTrue (shown D.state self.old).told → (spot : Spot) → StoreKeeps D.state spot self.old self.new }
+        ensures reads { Reads (shown D.state) (StoreKeeps D.state) (store_lands D.state) self.old self.new (result_err result) }
     {
         let piece = self.piece(at, out.len())?;
         let n = piece.len();

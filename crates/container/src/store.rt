@@ -7,41 +7,36 @@ ghost use Rattle.std.specs.Result.{result_err};
 ghost use Rattle.save_bytes.specs.State.{IsInside};
 ghost use Rattle.save_bytes.specs.Refusals.{NeverDamaged};
 ghost use Rattle.save_bytes.specs.Answers.{IsPiece};
-ghost use Rattle.save_bytes.specs.Stays.{Stays};
-ghost use Rattle.save_bytes.specs.Spots.{Spot, Frame};
+ghost use Rattle.save_bytes.specs.Reads.{Reads};
 ghost use Rattle.ivfc_tree.specs.Levels.{HasBlock};
 ghost use Rattle.part_store.specs.Parts.{IsFound};
 ghost use Rattle.page_image.specs.Images.{image_state, IsDiskOf};
 ghost use Rattle.container.specs.Parts.{part_count, part_at};
 ghost use Rattle.container.specs.Statuses.{status_in};
-ghost use Rattle.container.specs.StoreHeld.{shown, store_of, IsStoreOf, StoreKeeps};
+ghost use Rattle.container.specs.StoreHeld.{shown, store_of, IsStoreOf, IsKept, ReadsImage, StoreKeeps, store_lands};
 ghost use Rattle.container.specs.ImageCells.{IsHeld, AreImageCells, AreImageStatuses};
 ghost use Rattle.container.specs.Containers.{IsOpenOf, IsWholeContainer};
 ghost use Rattle.container.specs.contracts.store.Store.{the_row};
 ghost use mir.Syntax.{named};
 
 use crate::open::Container;
-use crate::parts::Parts;
 use crate::within::{find, tell};
 use ivfc_tree::Status;
-use page_image::ImageState;
 use save_bytes::Bad;
 use save_disk::Disk;
 
 /// The level fours of an image's parts, one after the other, each byte lent only where it has a hash path.
 #[derive(Drop)]
 pub struct Store<'a, D: Disk> {
-    image: &'a mut ImageState,
+    container: &'a mut Container,
     disk: &'a mut D,
-    parts: &'a mut Parts,
-    table: &'a mut [u8],
 }
 
 impl Container {
     /// The store of the container's parts over its disk.
     pub fn store<'a, D: Disk>(&'a mut self, disk: &'a mut D) -> Store<'a, D>
         requires { IsDiskOf (D.state disk.old) self.old.image }
-        ensures holds { IsStoreOf result self.old disk.entry }
+        ensures holds { IsStoreOf result self.entry disk.entry }
         ensures sound { IsWholeContainer self.old → IsTrue (shown D.state result).shape.sound }
         // As the container was opened, the cells are those of the image.
         ensures cells { (tag_of : List ℕ → List ℕ) (demands : Bool) (image : List ℕ) → IsWholeContainer self.old
@@ -51,16 +46,55 @@ impl Container {
             → IsOpenOf tag_of demands image self.old → IsHeld image self.old.image
             → AreImageStatuses image self.old.header self.old.parts (λ part level block. status_in (image_state (D.state disk.old) self.old.image) part self.old.table.items level block) }
     {
-        let image = &mut self.image;
-        let parts = &mut self.parts;
-        let table = &mut self.table[..];
         Store {
-            image,
+            container: self,
             disk,
-            parts,
-            table,
         }
     }
+}
+
+// Where bytes lie in the image, where they have a hash path.
+fn locate_in<D: Disk>(
+    container: &mut Container,
+    disk: &mut D,
+    at: u64,
+    most: usize,
+) -> Result<(u64, usize), Bad>
+    requires inside { IsInside (store_of (D.state disk.old) container.old).shape at 1 }
+    requires some { 1 ≤ most }
+    ensures found { IsFound (store_of (D.state disk.old) container.old) (image_state (D.state disk.new) container.new.image) at most result }
+    ensures reads { ReadsImage (D.state disk.old) container.old.image (D.state disk.new) container.new.image (result_err result) }
+    ensures kept { IsKept container.old container.new }
+{
+    let image = &mut container.image;
+    let parts = &mut container.parts;
+    let table = &mut container.table[..];
+    let mut view = image.view(disk);
+    find(&mut view, parts, table, at, most)
+}
+
+// Whether the path of a block of a part holds.
+fn tell_status<D: Disk>(
+    container: &mut Container,
+    disk: &mut D,
+    part: u8,
+    level: u8,
+    block: u64,
+) -> Result<Status, Bad>
+    requires sound { IsTrue (store_of (D.state disk.old) container.old).shape.sound }
+    requires part { part < part_count container.old.parts.second }
+    requires there { IfSome (part_at container.old.parts part) (λ found. HasBlock found.difi level block) }
+    ensures status { IsTrue (store_of (D.state disk.old) container.old).told → IfOk result (λ status. IfSome (part_at container.old.parts part)
+        (λ found. status ≡ status_in (image_state (D.state disk.old) container.old.image) found container.old.table.items level block)) }
+    ensures plain { NeverDamaged (result_err result) }
+    ensures reads { ReadsImage (D.state disk.old) container.old.image (D.state disk.new) container.new.image (result_err result) }
+    ensures kept { IsKept container.old container.new }
+{
+    let image = &mut container.image;
+    let parts = &mut container.parts;
+    let table = &mut container.table[..];
+    let mut view = image.view(disk);
+    tell(&mut view, parts, table, part, level, block)
 }
 
 impl<'a, D: Disk> Store<'a, D> {
@@ -68,8 +102,9 @@ impl<'a, D: Disk> Store<'a, D> {
     pub fn len(&self) -> u64
         ensures { IsTrue (shown D.state self.now).shape.sound → result ≡ (shown D.state self.now).shape.size }
     {
-        let first = self.parts.first.difi().ivfc4.size;
-        match &self.parts.second {
+        let parts = &self.container.parts;
+        let first = parts.first.difi().ivfc4.size;
+        match &parts.second {
             Some(second) => first.saturating_add(second.difi().ivfc4.size),
             None => first,
         }
@@ -79,17 +114,12 @@ impl<'a, D: Disk> Store<'a, D> {
     fn locate(&mut self, at: u64, most: usize) -> Result<(u64, usize), Bad>
         requires inside { IsInside (shown D.state self.old).shape at 1 }
         requires some { 1 ≤ most }
-        ensures found { IsFound (shown D.state self.old) (image_state (D.state self.new.disk.now) self.new.image.now) at most result }
-        ensures stays { Stays (shown D.state self.old) (shown D.state self.new) (result_err result) }
-        ensures frame { StoreKeeps D.state Frame self.old self.new }
-        ensures spots { IsTrue (shown D.state self.old).told → (spot : Spot) → StoreKeeps D.state spot self.old self.new }
+        ensures found { IsFound (shown D.state self.old) (image_state (D.state self.new.disk.now) self.new.container.now.image) at most result }
+        ensures reads { Reads (shown D.state) (StoreKeeps D.state) (store_lands D.state) self.old self.new (result_err result) }
     {
-        let image = &mut *self.image;
+        let container = &mut *self.container;
         let disk = &mut *self.disk;
-        let parts = &mut *self.parts;
-        let table = &mut *self.table;
-        let mut view = image.view(disk);
-        find(&mut view, parts, table, at, most)
+        locate_in(container, disk, at, most)
     }
 
     /// Lends 1 to `most` bytes from `at` on, as they are held of the image, where they have a hash path. `Damaged`
@@ -99,35 +129,29 @@ impl<'a, D: Disk> Store<'a, D> {
         requires some { 1 ≤ most }
         ensures piece { IsPiece (shown D.state self.old) at most result }
         ensures* after { sem 𝓛 (Rests (the_row (record { mir = named 0; lft = [] }) D.row) self.entry (λ new.
-            Stays (shown D.state self.old) (shown D.state new) (result_err result)
-            × StoreKeeps D.state Frame self.old new
-            × (IsTrue (shown D.state self.old).told → (spot : Spot) → StoreKeeps D.state spot self.old new))) }
+            Reads (shown D.state) (StoreKeeps D.state) (store_lands D.state) self.old new (result_err result))) }
     {
         let (place, most) = match self.locate(at, most) {
             Ok(run) => run,
             Err(bad) => return Err(bad),
         };
-        Ok(self.image.held(place, most))
+        let container = &*self.container;
+        Ok(container.image.held(place, most))
     }
 
     /// Whether the path of a block of one of the four hash levels of a part holds. It is refused only where the disk
     /// below failed.
     pub fn status(&mut self, part: u8, level: u8, block: u64) -> Result<Status, Bad>
         requires sound { IsTrue (shown D.state self.old).shape.sound }
-        requires part { part < part_count self.old.parts.now.second }
-        requires there { IfSome (part_at self.old.parts.now part) (λ found. HasBlock found.difi level block) }
-        ensures status { IsTrue (shown D.state self.old).told → IfOk result (λ status. IfSome (part_at self.old.parts.now part)
-            (λ found. status ≡ status_in (image_state (D.state self.old.disk.now) self.old.image.now) found self.old.table.now level block)) }
+        requires part { part < part_count self.old.container.now.parts.second }
+        requires there { IfSome (part_at self.old.container.now.parts part) (λ found. HasBlock found.difi level block) }
+        ensures status { IsTrue (shown D.state self.old).told → IfOk result (λ status. IfSome (part_at self.old.container.now.parts part)
+            (λ found. status ≡ status_in (image_state (D.state self.old.disk.now) self.old.container.now.image) found self.old.container.now.table.items level block)) }
         ensures plain { NeverDamaged (result_err result) }
-        ensures stays { Stays (shown D.state self.old) (shown D.state self.new) (result_err result) }
-        ensures frame { StoreKeeps D.state Frame self.old self.new }
-        ensures spots { IsTrue (shown D.state self.old).told → (spot : Spot) → StoreKeeps D.state spot self.old self.new }
+        ensures reads { Reads (shown D.state) (StoreKeeps D.state) (store_lands D.state) self.old self.new (result_err result) }
     {
-        let image = &mut *self.image;
+        let container = &mut *self.container;
         let disk = &mut *self.disk;
-        let parts = &mut *self.parts;
-        let table = &mut *self.table;
-        let mut view = image.view(disk);
-        tell(&mut view, parts, table, part, level, block)
+        tell_status(container, disk, part, level, block)
     }
 }

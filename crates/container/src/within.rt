@@ -4,8 +4,7 @@ ghost use Rattle.std.specs.Prelude.{◌≡◌, ℕ, ◌<◌, ◌≤◌, length, 
 ghost use Rattle.std.specs.Result.{result_err};
 ghost use Rattle.save_bytes.specs.State.{IsInside};
 ghost use Rattle.save_bytes.specs.Refusals.{NeverDamaged};
-ghost use Rattle.save_bytes.specs.Stays.{Stays};
-ghost use Rattle.save_bytes.specs.Spots.{Spot, Frame};
+ghost use Rattle.save_bytes.specs.Reads.{Reads};
 ghost use Rattle.ivfc_tree.specs.Levels.{HasBlock};
 ghost use Rattle.part_store.specs.Parts.{CanView, part_state, IsFound};
 ghost use Rattle.container.specs.Parts.{part_count, part_at};
@@ -29,9 +28,7 @@ fn find_in<S: Space>(
     requires inside { at < part.old.difi.ivfc4.size }
     requires some { 1 ≤ most }
     ensures found { IsFound (part_state (S.state image.old) part.old table.old) (S.state image.new) at most result }
-    ensures stays { Stays (S.state image.old) (S.state image.new) (result_err result) }
-    ensures frame { S.keeps Frame image.old image.new }
-    ensures spots { IsTrue (S.state image.old).told → (spot : Spot) → S.keeps spot image.old image.new }
+    ensures reads { Reads S.state S.keeps S.lands image.old image.new (result_err result) }
     ensures part { part.new ≡ part.old }
     ensures table { table.new ≡ table.old }
 {
@@ -50,9 +47,7 @@ pub(crate) fn find<S: Space>(
     requires inside { IsInside (store_state (S.state image.old) parts.old table.old).shape at 1 }
     requires some { 1 ≤ most }
     ensures found { IsFound (store_state (S.state image.old) parts.old table.old) (S.state image.new) at most result }
-    ensures stays { Stays (S.state image.old) (S.state image.new) (result_err result) }
-    ensures frame { S.keeps Frame image.old image.new }
-    ensures spots { IsTrue (S.state image.old).told → (spot : Spot) → S.keeps spot image.old image.new }
+    ensures reads { Reads S.state S.keeps S.lands image.old image.new (result_err result) }
     ensures parts { parts.new ≡ parts.old }
     ensures table { table.new ≡ table.old }
 {
@@ -78,9 +73,7 @@ fn tell_in<S: Space>(
     requires there { HasBlock part.old.difi level block }
     ensures status { IsTrue (S.state image.old).told → IfOk result (λ status. status ≡ status_in (S.state image.old) part.old table.old level block) }
     ensures plain { NeverDamaged (result_err result) }
-    ensures stays { Stays (S.state image.old) (S.state image.new) (result_err result) }
-    ensures frame { S.keeps Frame image.old image.new }
-    ensures spots { IsTrue (S.state image.old).told → (spot : Spot) → S.keeps spot image.old image.new }
+    ensures reads { Reads S.state S.keeps S.lands image.old image.new (result_err result) }
     ensures part { part.new ≡ part.old }
     ensures table { table.new ≡ table.old }
 {
@@ -102,9 +95,7 @@ pub(crate) fn tell<S: Space>(
     requires there { IfSome (part_at parts.old number) (λ part. HasBlock part.difi level block) }
     ensures status { IsTrue (S.state image.old).told → IfOk result (λ status. IfSome (part_at parts.old number) (λ part. status ≡ status_in (S.state image.old) part table.old level block)) }
     ensures plain { NeverDamaged (result_err result) }
-    ensures stays { Stays (S.state image.old) (S.state image.new) (result_err result) }
-    ensures frame { S.keeps Frame image.old image.new }
-    ensures spots { IsTrue (S.state image.old).told → (spot : Spot) → S.keeps spot image.old image.new }
+    ensures reads { Reads S.state S.keeps S.lands image.old image.new (result_err result) }
     ensures parts { parts.new ≡ parts.old }
     ensures table { table.new ≡ table.old }
 {

@@ -16,7 +16,7 @@ use Rattle.ivfc_tree.specs.declared.path.BlockState.{BlockState}
 use Rattle.ivfc_tree.specs.declared.path.BlockState.TheVariants.{Holds as GoodPath, NeverWritten, Fails}
 use Rattle.ivfc_tree.specs.Levels.{level_of, block_bytes}
 use Rattle.ivfc_tree.specs.Paths.{cell_in}
-use Rattle.ivfc_tree.proofs.LevelLemmas.{level4_size, level4_log}
+use Rattle.ivfc_tree.specs.ViewLaws.{level4_size, level4_log}
 use Rattle.ivfc_tree.proofs.HashLemmas.{block_bytes-is}
 use Rattle.part_store.specs.declared.part.Part.{Part}
 use Rattle.container.specs.Openings.{active_table}

@@ -4,8 +4,7 @@ use Rattle.container.proofs.open.Container.store.Goals as goal
 pub returns-clause-sound : goal.returns-clause-sound
 returns-clause-sound g c = λ whole.
     let container = c.args.self.now in
-    rw c.deref_mut.ensures.value
-    (store_sound (g.D.Disk.state c.args.disk.now) container.image container.header container.table.items c.requires whole.sound whole.table_len container.parts.first container.parts.second whole.count whole.first whole.second)
+    store_sound (g.D.Disk.state c.args.disk.now) container.image container.header container.table.items c.requires whole.sound whole.table_len container.parts.first container.parts.second whole.count whole.first whole.second
 
 pub returns-clause-cells : goal.returns-clause-cells
 returns-clause-cells g c = λ tag_of demands image whole opened held.

@@ -1,18 +1,17 @@
 use Rattle.std.proofs.Common.{◌-◌, ◌≤◌, IsTrue, None, length, take}
 use Rattle.save_bytes.specs.Cells.{AreBytesAt}
-use Rattle.save_bytes.specs.Stays.{Stays}
-use Rattle.save_bytes.specs.Spots.{Spot, Frame}
-use Rattle.container.specs.StoreHeld.{shown, StoreKeeps}
+use Rattle.save_bytes.specs.Reads.{Reads}
+use Rattle.container.specs.StoreHeld.{shown, StoreKeeps, store_lands}
 use Rattle.container.proofs.store.Store.copy.Given as goal
 
 abbrev pub invariant-loop-done : goal.invariant-loop-done
-invariant-loop-done g l = record {
-  within : l.done ≤ length l.out;
-  bytes : IsTrue (shown g.D.Disk.state l.initial.self).told → AreBytesAt (shown g.D.Disk.state l.initial.self).cells l.at (take l.done l.out);
-  stays : Stays (shown g.D.Disk.state l.initial.self) (shown g.D.Disk.state l.self) None;
-  frame : StoreKeeps g.D.Disk.state Frame l.initial.self l.self;
-  spots : IsTrue (shown g.D.Disk.state l.initial.self).told → (spot : Spot) → StoreKeeps g.D.Disk.state spot l.initial.self l.self;
-}
+invariant-loop-done g l =
+    let states = g.D.Disk.state in
+    record {
+      within : l.done ≤ length l.out;
+      bytes : IsTrue (shown states l.initial.self).told → AreBytesAt (shown states l.initial.self).cells l.at (take l.done l.out);
+      reads : Reads (shown states) (StoreKeeps states) (store_lands states) l.initial.self l.self None;
+    }
 
 abbrev pub decreases-loop-done : goal.decreases-loop-done
 decreases-loop-done g l = length l.initial.out - l.done

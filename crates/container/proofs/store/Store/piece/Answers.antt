@@ -1,4 +1,4 @@
-use Rattle.std.proofs.Common.{refl, ◌∙◌, sym}
+use Rattle.std.proofs.Common.{refl, sym, ◌∙◌, IsTrue}
 use Rattle.page_image.specs.Images.{image_state}
 use Rattle.container.specs.StoreHeld.{shown}
 use Rattle.container.proofs.StoreLemmas.{store_told}
@@ -10,12 +10,14 @@ returns g c =
     let states = g.D.Disk.state in
     let store = c.args.self.now in
     let new = c.locate.new.self in
+    let container = new.container.now in
     let before = c.in-Ok.ensures in
-    let same = before.frame.0 in
-    let told = sym (store_told (image_state (states new.disk.now) new.image.now) new.parts.now.first new.table.now new.parts.now.second) ∙ before.stays.space.told in (
-      (refl, λ _. tt, (before.stays, before.frame, before.spots)),
+    let image = image_state (states new.disk.now) container.image in
+    let told : IsTrue (shown states store).told → IsTrue image.told = λ is. sym (store_told image container.parts.first container.table.items container.parts.second) ∙ before.reads.stays.space.told is in (
+      (refl, λ _. tt, before.reads),
       record {
-        piece = held_piece (shown states store) (states new.disk.now) new.image.now c.args.at c.args.most c.in-Ok.run'.0 c.in-Ok.run'.1 c.held.result told before.found c.held.ensures;
+        piece = held_piece (shown states store) (states new.disk.now) container.image c.args.at c.args.most c.in-Ok.run'.0 c.in-Ok.run'.1
+            c.held.result told before.found c.held.ensures;
         after = tt;
       },
     )
