@@ -1,7 +1,7 @@
 -- The cells of an open image.
-use Rattle.std.proofs.Common.{◌≡◌, ◌≢◌, ℕ, ◌+◌, ◌-◌, ◌/◌, ◌^◌, ◌<◌, ◌≤◌, true, IsTrue, List, length, Option, Some, None, IfSome, slice_index, refl, sym, ◌∙◌, ap, subst, arith, ⊎_elim}
+use Rattle.std.proofs.Common.{◌≡◌, ◌≢◌, ℕ, ◌+◌, ◌-◌, ◌/◌, ◌^◌, ◌<◌, ◌≤◌, true, false, IsTrue, List, length, Option, Some, None, IfSome, slice_index, refl, sym, ◌∙◌, ap, subst, arith, ⊎_elim}
 use Rattle.std.proofs.lemmas.Bool.{cases_lt, cases_eq, lt-ltb, le-ltb, and_from, eq-eqb, ne_eqb}
-use Rattle.save_bytes.specs.Cells.{Byte}
+use Rattle.save_bytes.specs.Cells.{Cell, Byte}
 use Rattle.save_bytes.specs.Stays.{Stays}
 use Rattle.save_bytes.specs.State.{State}
 use Rattle.save_disk.specs.State as disks
@@ -12,13 +12,13 @@ use Rattle.dpfs_tree.specs.Picks.{chosen}
 use Rattle.dpfs_tree.proofs.PickLemmas.{place_of-chosen}
 use Rattle.difi.specs.Contents.{view_size}
 use Rattle.dpfs_tree.proofs.SameLemmas.{view_stays as contents_stay}
-use Rattle.ivfc_tree.specs.ViewLaws.{state-same}
+use Rattle.ivfc_tree.specs.ViewLaws.{state-same, block_of_there, place_inside}
 use Rattle.ivfc_tree.specs.Marks.{is_marked}
-use Rattle.ivfc_tree.specs.Levels.{HasBlock}
-use Rattle.ivfc_tree.specs.Paths.{block_state}
+use Rattle.ivfc_tree.specs.Levels.{HasBlock, level_of}
+use Rattle.ivfc_tree.specs.declared.path.BlockState.{BlockState}
+use Rattle.ivfc_tree.specs.Paths.{block_state, cell_in}
+use Rattle.save_bytes.specs.CellNumbers.{value_of}
 use Rattle.ivfc_tree.specs.View.{status_of}
-use Rattle.ivfc_tree.proofs.PathLemmas.{unmarked_state}
-use Rattle.ivfc_tree.proofs.ViewLemmas.{view_stays as hashed_stay}
 use Rattle.part_store.specs.declared.part.Part.{Part}
 use Rattle.part_store.specs.Parts.{CanView, contents_of, master_of, part_state}
 use Rattle.part_store.proofs.PartLemmas.{hashes_there, contents_there, part_from_base, can_view-true}
@@ -140,16 +140,6 @@ module _ (base : State) (bytes : List ℕ) (header : Header) (number : ℕ) (par
         ∙ ap (λ (selector : ℕ). chosen (λ y. slice_index bytes y) (partition_of header number).at part.difi selector z) untouched.contents.selector));
   }
 
-  pub part_cells : (x : ℕ) → x < part.difi.ivfc4.size → (part_state base part table).cells x ≡ cell_at bytes header number part.difi x
-  unfolding told_base ideal chosen_contents path_in
-  part_cells x below =
-      let in_ideal = part_from_base told_base ideal part table None small view ideal_stays in
-      let chosen_ = hashed_stay (contents_of ideal part) chosen_contents part.number (master_of table part.difi) part.difi part.ivfc None (hashes_there ideal part table small view) chosen_stays in
-      let first = sym (in_ideal.cells refl x below) in
-      let second = sym (chosen_.cells refl x below) in
-      let paths = unmarked_state (contents_in bytes header number part.difi) (master_of table part.difi) part.difi part.ivfc untouched.hashes 4 (x / block_size part.difi.ivfc4) in
-      first ∙ second ∙ rw (paths, is, active) refl
-
   -- the contents are the chosen bytes
   contents_are : (z : ℕ) → z < view_size part.difi → (contents_of base part).cells z ≡ contents_in bytes header number part.difi z
   unfolding told_base ideal chosen_contents
@@ -158,12 +148,26 @@ module _ (base : State) (bytes : List ℕ) (header : Header) (number : ℕ) (par
       sym (in_ideal.cells refl z below) ∙ sym (chosen_stays.cells refl z below)
 
   -- and a block's path comes to what it does in the image
-  pub part_paths : (level block : ℕ) → HasBlock part.difi level block → block_state (contents_of base part).cells (master_of table part.difi) part.difi part.ivfc level block ≡ path_in bytes header number part.difi level block
+  pub part_paths : (level block : ℕ) → HasBlock part.difi level block
+      → block_state (contents_of base part).cells (master_of table part.difi) part.difi part.ivfc level block
+      ≡ path_in bytes header number part.difi level block
   unfolding path_in
   part_paths level block there =
-      state-same (contents_of base part).shape part.difi (master_of table part.difi) (hashes_there base part table small view) (contents_of base part).cells (contents_in bytes header number part.difi) contents_are (is_marked part.ivfc) (is_marked part.ivfc) (λ level block. refl) level block there
-      ∙ unmarked_state (contents_in bytes header number part.difi) (master_of table part.difi) part.difi part.ivfc untouched.hashes level block
+      state-same (contents_of base part).shape part.difi (master_of table part.difi) (hashes_there base part table small view)
+      (contents_of base part).cells (contents_in bytes header number part.difi) contents_are (is_marked part.ivfc) (λ level block. false)
+      untouched.hashes level block there
       ∙ rw active refl
+
+  pub part_cells : (x : ℕ) → x < part.difi.ivfc4.size → (part_state base part table).cells x ≡ cell_at bytes header number part.difi x
+  part_cells x below =
+      let block : ℕ = x / block_size part.difi.ivfc4 in
+      let at : ℕ = (level_of part.difi 4).at + x in
+      let shape = (contents_of base part).shape in
+      let inside = place_inside shape part.difi (length (master_of table part.difi)) x (hashes_there base part table small view) below in
+      ap (λ (found : BlockState). cell_in found part.number (value_of ((contents_of base part).cells at)))
+      (part_paths 4 block (block_of_there part.difi x below))
+      ∙ ap (λ (cell : Cell). cell_in (path_in bytes header number part.difi 4 block) part.number (value_of cell)) (contents_are at inside)
+      ∙ ap (λ (n : ℕ). cell_in (path_in bytes header number part.difi 4 block) n (value_of (contents_in bytes header number part.difi at))) is
 
 module _ (disk : disks.State) (image : ImageState) (bytes : List ℕ) (header : Header) (table : List ℕ) (disk_of : IsDiskOf disk image) (held : IsHeld bytes image) (sound : IsSound header image.len) (whole : length table ≡ header.table_size) (active : table ≡ active_table bytes header) where
   -- the cells of a part that was read, over the image

@@ -27,7 +27,7 @@ use Rattle.dpfs_tree.specs.View.{HasContents, contents_state, IsLocated}
 use Rattle.dpfs_tree.specs.ViewLaws.{can_view_contents-true as contents_pass, true-can_view_contents as contents_hold, tree_of as contents_of_base}
 use Rattle.dpfs_tree.proofs.SameLemmas.{view_stays as contents_stay}
 use Rattle.ivfc_tree.specs.declared.path.BlockState.{BlockState}
-use Rattle.ivfc_tree.specs.declared.path.BlockState.TheVariants.{Holds, NeverWritten, Fails}
+use Rattle.ivfc_tree.specs.declared.path.BlockState.TheVariants.{Good, Blank as BlankAt, Bad as BadAt}
 use Rattle.ivfc_tree.specs.Paths.{cell_in}
 use Rattle.ivfc_tree.specs.Levels.{level_of, level4_of}
 use Rattle.ivfc_tree.specs.declared.state.IvfcState.{IvfcState}
@@ -90,9 +90,9 @@ byte_value (Blank part level block) byte = absurd byte
 byte_value (Spoilt part level block) byte = absurd byte
 
 byte_in : (found : BlockState) (part value : ℕ) → IsByte (cell_in found part value) → cell_in found part value ≡ Byte value
-byte_in Holds part value byte = refl
-byte_in (NeverWritten level block) part value byte = absurd byte
-byte_in (Fails level block) part value byte = absurd byte
+byte_in Good part value byte = refl
+byte_in (BlankAt level block) part value byte = absurd byte
+byte_in (BadAt level block) part value byte = absurd byte
 
 -- bytes that could not be located
 pub unlocated : (s base : State) (at most : ℕ) (bad : Bad) → NeverDamaged (Some bad) → IsFound s base at most (Err bad)

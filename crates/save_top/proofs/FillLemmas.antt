@@ -1,6 +1,8 @@
 -- What copying out of a store leaves of its disk.
-use Rattle.std.proofs.Common.{◌≡◌, refl}
-use Rattle.save_bytes.specs.Spots.{Spot, Frame}
+use Rattle.std.proofs.Common.{◌≡◌, ℕ, Option, refl}
+use Rattle.save_bytes.specs.declared.space.Bad.{Bad}
+use Rattle.save_bytes.specs.Spots.{Spot}
+use Rattle.save_bytes.specs.Reads.{Reads}
 use Rattle.save_disk.specs.State as disks
 use Rattle.save_disk.specs.Tells.{tells}
 use Rattle.page_image.specs.Images.{image_state}
@@ -18,12 +20,17 @@ store_told_by disk container = store_told (image_state disk container.image) con
 
 module _ {D : Type 0} (states : D → disks.State) where
   -- a store shows what its container's store shows
-  pub shown_store : (store : Store D) (container : Container) (disk : MutBor D) → IsStoreOf store container disk → shown states store ≡ store_of (states disk.now) container
-  shown_store store container disk holds = rw (holds.image_now, holds.parts_now, holds.table_now, holds.disk_now) refl
+  pub shown_store : (store : Store D) (container : MutBor Container) (disk : MutBor D) → IsStoreOf store container disk
+      → shown states store ≡ store_of (states disk.now) container.now
+  shown_store store container disk holds = rw (holds.container_now, holds.disk_now) refl
 
-  -- a call that leaves alone each spot of an image of which nothing was changed leaves the trace as it is
-  pub store_quiet : (old new : Store D) → IsClean old.image.now → ((spot : Spot) → StoreKeeps states spot old new) → disks.IsQuiet (states old.disk.now) (states new.disk.now)
-  store_quiet old new clean spots = quiet_where_clean (states old.disk.now) old.image.now (states new.disk.now) new.image.now clean (λ spot. (spots spot).1)
+  -- a call that reads a store of whose image nothing was changed leaves the trace as it is, whatever the disk tells
+  pub store_quiet : (lands : Store D → ℕ → Spot → Type 0) (old new : Store D) (refusal : Option Bad) → IsClean old.container.now.image
+      → Reads (shown states) (StoreKeeps states) lands old new refusal → disks.IsQuiet (states old.disk.now) (states new.disk.now)
+  store_quiet lands old new refusal clean reads =
+      quiet_where_clean (states old.disk.now) old.container.now.image (states new.disk.now) new.container.now.image clean
+      (λ number. (reads.sectors number).2)
 
-  pub store_steady : (old new : Store D) → StoreKeeps states Frame old new → disks.IsSteady (states old.disk.now) (states new.disk.now)
-  store_steady old new frame = frame.1.0.steady
+  pub store_steady : (lands : Store D → ℕ → Spot → Type 0) (old new : Store D) (refusal : Option Bad)
+      → Reads (shown states) (StoreKeeps states) lands old new refusal → disks.IsSteady (states old.disk.now) (states new.disk.now)
+  store_steady lands old new refusal reads = reads.frame.2.0.steady

@@ -13,7 +13,7 @@ use Rattle.difi.specs.declared.fault.DifiFault.{DifiFault}
 use Rattle.difi.specs.Places.{block_size, blocks_of}
 use Rattle.difi.proofs.PlaceLemmas.{block_begins}
 use Rattle.ivfc_tree.specs.declared.path.BlockState.{BlockState}
-use Rattle.ivfc_tree.specs.declared.path.BlockState.TheVariants.{Holds as GoodPath, NeverWritten, Fails}
+use Rattle.ivfc_tree.specs.declared.path.BlockState.TheVariants.{Good as GoodPath, Blank as BlankAt, Bad as BadAt}
 use Rattle.ivfc_tree.specs.Levels.{level_of, block_bytes}
 use Rattle.ivfc_tree.specs.Paths.{cell_in}
 use Rattle.ivfc_tree.specs.ViewLaws.{level4_size, level4_log}
@@ -52,18 +52,18 @@ cells_of image header parts cells number part are (is_second one same) x below =
 -- a cell that is a byte lies in a block whose path holds
 holds_there : (found : BlockState) (part value byte : ℕ) → cell_in found part value ≡ Byte byte → (found ≡ GoodPath) × (value ≡ byte)
 holds_there GoodPath part value byte is = (refl, cc)
-holds_there (NeverWritten level block) part value byte is = absurd (cc)
-holds_there (Fails level block) part value byte is = absurd (cc)
+holds_there (BlankAt level block) part value byte is = absurd (cc)
+holds_there (BadAt level block) part value byte is = absurd (cc)
 
 record IsDamaged (found : BlockState) (part p level block : ℕ) : Type 0 where
   part_is : part ≡ p
-  block_is : (found ≡ NeverWritten level block) ⊎ (found ≡ Fails level block)
+  block_is : (found ≡ BlankAt level block) ⊎ (found ≡ BadAt level block)
 
 -- and one that is none in a block that it names
 damaged_there : (found : BlockState) (part value p level block : ℕ) → Blames (cell_in found part value) p level block → IsDamaged found part p level block
 damaged_there GoodPath part value p level block blames = absurd blames
-damaged_there (NeverWritten upper at) part value p level block blames = record { part_is = blames.0; block_is = inl (rw (blames.1, blames.2) refl) }
-damaged_there (Fails upper at) part value p level block blames = record { part_is = blames.0; block_is = inr (rw (blames.1, blames.2) refl) }
+damaged_there (BlankAt upper at) part value p level block blames = record { part_is = blames.0; block_is = inl (rw (blames.1, blames.2) refl) }
+damaged_there (BadAt upper at) part value p level block blames = record { part_is = blames.0; block_is = inr (rw (blames.1, blames.2) refl) }
 
 then_true : {T : Type 0} (b : Bool) (one other : T) → b ≡ true → cond b one other ≡ one
 then_true b one other is = rw is refl

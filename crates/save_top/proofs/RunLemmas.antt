@@ -1,9 +1,12 @@
 -- A command as a whole.
-use Rattle.std.proofs.Common.{◌≡◌, ◌⊎◌, ℕ, ◌≤◌, List, Bool, Option, Some, Result, Ok, ◌∙◌, ap, arith, inl, inr, ⊎_elim}
-use Rattle.save_disk.specs.Trace.{Told, IsFresh, image_after}
+use Rattle.std.proofs.Common.{◌≡◌, ◌⊎◌, ℕ, ◌≤◌, List, [], ◌++◌, Bool, Option, Some, Result, Ok, refl, sym, ◌∙◌, ap, arith, inl, inr, ⊎_elim}
+use Rattle.save_disk.specs.Trace.{Event, Told, IsFresh, OnlySays, image_after}
+use Rattle.std.proofs.lemmas.List.{append-nil}
 use Rattle.save_disk.specs.State.{State, IsQuiet, Rose}
 use Rattle.save_disk.specs.Stops.{Since, AtEachMoment}
-use Rattle.save_disk.specs.Tells.{image_of, image_told, NoneRose}
+use Rattle.save_disk.specs.Tells.{image_of, image_told, NoneRose, Tells}
+use Rattle.save_top.specs.declared.failure.Failure.{Failure}
+use Rattle.save_top.specs.declared.failure.Failure.TheVariants.{Memory as NoMemory, Disk as DiskFailed, Refused}
 use Rattle.container.specs.declared.fault.OpenFault.{OpenFault}
 use Rattle.container.specs.declared.fault.OpenFault.TheVariants.{Memory, Disk, Header, Tag, TableHash, Difi}
 use Rattle.container.specs.Openings.{IsCaused}
@@ -14,8 +17,8 @@ use Rattle.container_header.specs.declared.fault.HeaderFault.{HeaderFault}
 use Rattle.container.specs.declared.open.Container.{Container}
 use Rattle.save_top.specs.declared.order.Order.{Order}
 use Rattle.save_top.specs.Peeks.{Holds}
-use Rattle.save_top.specs.Replies.{Reply, act_reply, reply_by, reply_to}
-use Rattle.save_top.specs.Failures.{IsFaultBy}
+use Rattle.save_top.specs.Replies.{Reply, refused, act_reply, reply_by, reply_to}
+use Rattle.save_top.specs.Failures.{IsFaultBy, IsFailureBy}
 use Rattle.save_top.proofs.Telling.{front_at_each_moment}
 
 -- at a trace with no event the image is that of the start
@@ -37,6 +40,23 @@ says_before old mid new status text result quiet says = record {
   front = λ told is. says.front told (quiet ∙ is);
   whole = λ done. (let all = says.whole done in (all.0, λ told is. all.1 told (quiet ∙ is)));
 }
+
+-- what was said is all that happened, on every desk that tells its trace
+pub silent_says : (status : ℕ) (text : List ℕ) (old new : State) (result : ℕ) → Says status text old new result → Tells OnlySays old new
+silent_says status text old new result says = λ told is. (let since = says.front told is in (since.0, since.1.only, since.2))
+
+pub silent_quiet : (old new : State) → IsQuiet old new → Tells OnlySays old new
+silent_quiet old new quiet = λ told is.
+    ([], tt, quiet ∙ is ∙ ap (λ (events : List Event). Some (record told { events = events })) (sym (append-nil told.events)))
+
+pub silent_after : (old mid new : State) → IsQuiet old mid → Tells OnlySays mid new → Tells OnlySays old new
+silent_after old mid new quiet says = λ told is. says told (quiet ∙ is)
+
+-- each failure has a reply
+pub reply_of : (failure : Failure) → (reply : Reply) × IsFailureBy reply failure
+reply_of NoMemory = (refused [], tt)
+reply_of DiskFailed = (refused [], tt)
+reply_of (Refused line) = (refused line.items, refl)
 
 pub says_as : (one other : Reply) (old new : State) (result : ℕ) → one ≡ other → Says other.status other.text old new result → Says one.status one.text old new result
 says_as one other old new result same says = rw same says

@@ -7,7 +7,7 @@ use Rattle.difi.specs.declared.descriptor.Difi.{Difi}
 use Rattle.difi.specs.declared.fault.DifiFault.{DifiFault}
 use Rattle.difi.specs.Places.{blocks_of}
 use Rattle.ivfc_tree.specs.declared.path.BlockState.{BlockState}
-use Rattle.ivfc_tree.specs.declared.path.BlockState.TheVariants.{Holds, NeverWritten, Fails}
+use Rattle.ivfc_tree.specs.declared.path.BlockState.TheVariants.{Good, Blank, Bad}
 use Rattle.ivfc_tree.specs.Levels.{block_bytes}
 use Rattle.container.specs.declared.fault.OpenFault.{OpenFault}
 use Rattle.container.specs.Openings.{active_table, part_reading, fault_of}
@@ -30,9 +30,9 @@ refused line = record { status = 1; text = line }
 
 -- what is said of a block of level four, by what its hash path comes to
 abbrev pub block_reply : List ℕ → Header → ℕ → Difi → ℕ → BlockState → Reply
-block_reply image header part difi block Holds = done (block_text part block (block_bytes (contents_in image header part difi) difi 4 block))
-block_reply image header part difi block (NeverWritten level at) = refused (damaged_line part level at)
-block_reply image header part difi block (Fails level at) = refused (damaged_line part level at)
+block_reply image header part difi block Good = done (block_text part block (block_bytes (contents_in image header part difi) difi 4 block))
+block_reply image header part difi block (Blank level at) = refused (damaged_line part level at)
+block_reply image header part difi block (Bad level at) = refused (damaged_line part level at)
 
 -- of a block of a part with this descriptor
 abbrev pub part_reply : List ℕ → Header → ℕ → ℕ → Result Difi DifiFault → Reply

@@ -116,7 +116,7 @@ fn fill<D: Disk>(
     requires inside { at + length out.old ≤ (store_of (D.state disk.old) container.old).shape.size }
     ensures read { IsRead (store_of (D.state disk.old) container.old) at (length out.old) (result_err result) }
     ensures bytes { IsTrue (tells (D.state disk.old)) → OnOk result (AreBytesAt (store_of (D.state disk.old) container.old).cells at out.new) }
-    ensures quiet { IsTrue (tells (D.state disk.old)) → IsClean container.old.image → IsQuiet (D.state disk.old) (D.state disk.new) }
+    ensures quiet { IsClean container.old.image → IsQuiet (D.state disk.old) (D.state disk.new) }
     ensures steady { IsSteady (D.state disk.old) (D.state disk.new) }
     ensures cause { OnDisk (result_err result) (Rose (D.state disk.old).counts.disk (D.state disk.new).counts.disk) }
 {
@@ -153,7 +153,7 @@ pub fn show<D: Disk>(
         → IfOk result (λ text. peek_reply image container.old.header part block ≡ done text.items) }
     ensures miss { (tag_of : List ℕ → List ℕ) (demands : Bool) (image : List ℕ) → IsTrue (tells (D.state disk.old)) → Holds tag_of demands image container.old
         → IfErr result (IsMissBy (peek_reply image container.old.header part block)) }
-    ensures quiet { IsTrue (tells (D.state disk.old)) → IsClean container.old.image → IsQuiet (D.state disk.old) (D.state disk.new) }
+    ensures quiet { IsClean container.old.image → IsQuiet (D.state disk.old) (D.state disk.new) }
     ensures steady { IsSteady (D.state disk.old) (D.state disk.new) }
     ensures cause { IfErr result (λ miss. miss ≡ Miss.Disk → Rose (D.state disk.old).counts.disk (D.state disk.new).counts.disk) }
 {

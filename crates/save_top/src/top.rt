@@ -3,7 +3,8 @@
 ghost use Rattle.std.specs.Prelude.{◌≡◌, ◌⊎◌, ◌≤◌, ◌↔◌, Bool, List, ℕ, IsTrue, IfOk, IfErr, Some, None};
 ghost use Rattle.save_disk.specs.State.{IsQuiet, IsSteady, Rose};
 ghost use Rattle.save_disk.specs.Stops.{Since, AtEachMoment};
-ghost use Rattle.save_disk.specs.Tells.{WhenFresh, NoneRose, tells};
+ghost use Rattle.save_disk.specs.Trace.{OnlySays};
+ghost use Rattle.save_disk.specs.Tells.{Tells, WhenFresh, NoneRose, tells};
 ghost use Rattle.page_image.specs.Images.{IsDiskOf};
 ghost use Rattle.page_image.specs.WriteOuts.{IsClean};
 ghost use Rattle.container.specs.Openings.{fault_of};
@@ -98,6 +99,7 @@ fn peek<D: Desk>(
     requires clean { IsClean container.old.image }
     ensures says { (tag_of : List ℕ → List ℕ) (demands : Bool) (image : List ℕ) → IsTrue (tells (D.state desk.old)) → Holds tag_of demands image container.old
         → Says (peek_reply image container.old.header part block).status (peek_reply image container.old.header part block).text (D.state desk.old) (D.state desk.new) result }
+    ensures silent { Tells OnlySays (D.state desk.old) (D.state desk.new) }
     ensures known { IsEnd result }
     ensures disk { result ≡ 3 → Rose (D.state desk.old).counts.disk (D.state desk.new).counts.disk }
     ensures sink { result ≡ 5 → Rose (D.state desk.old).counts.sink (D.state desk.new).counts.sink }
@@ -131,6 +133,7 @@ fn open<D: Desk, G: Signer>(alloc: Global, desk: &mut D, signer: &G) -> Result<C
 fn obey<D: Desk, G: Signer>(alloc: Global, order: Order, desk: &mut D, signer: &G) -> u8
     ensures says { WhenFresh (λ told. let reply = reply_to (G.tag_of signer.now) (G.is_demanding signer.now) order told.start in
         Says reply.status reply.text (D.state desk.old) (D.state desk.new) result) (D.state desk.old) }
+    ensures silent { Tells OnlySays (D.state desk.old) (D.state desk.new) }
     ensures known { IsEnd result }
     ensures disk { result ≡ 3 → Rose (D.state desk.old).counts.disk (D.state desk.new).counts.disk }
     ensures sink { result ≡ 5 → Rose (D.state desk.old).counts.sink (D.state desk.new).counts.sink }
@@ -157,6 +160,9 @@ pub fn run<D: Desk, G: Signer>(alloc: Global, words: &Words, desk: &mut D, signe
     // image of the start gives under this signer.
     ensures any_moment { (order : Order) → order_of words.now ≡ Some order
         → WhenFresh (λ told. Since (AtEachMoment (SaysFront (reply_to (G.tag_of signer.now) (G.is_demanding signer.now) order told.start).text)) told (D.state desk.new).told) (D.state desk.old) }
+
+    // On every desk that tells its trace, whatever came before and of whichever reads it tells, output alone was added.
+    ensures silent { Tells OnlySays (D.state desk.old) (D.state desk.new) }
 
     // At 0 and 1 it is all of that text, and the status that goes with it.
     ensures whole { result ≤ 1 → (order : Order) → order_of words.now ≡ Some order

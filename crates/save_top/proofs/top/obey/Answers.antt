@@ -5,7 +5,7 @@ use Rattle.save_disk.proofs.Told.{fresh_tells}
 use Rattle.save_top.specs.declared.order.Act.TheVariants.{Info, Peek}
 use Rattle.save_top.specs.Texts.{info_text}
 use Rattle.save_top.specs.Replies.{done, peek_reply, reply_to}
-use Rattle.save_top.proofs.RunLemmas.{says_before, says_as, end_done, opened_reply}
+use Rattle.save_top.proofs.RunLemmas.{says_before, says_as, end_done, opened_reply, silent_says, silent_after, reply_of}
 use Rattle.save_top.proofs.top.obey.Goals as goal
 
 pub returns-in-Err-clause-says : goal.returns-in-Err-clause-says
@@ -47,3 +47,25 @@ returns-clause-says g c = λ told is fresh.
     let sure = tells_same old mid c.in-Ok.ensures.quiet c.in-Ok.ensures.steady.size (fresh_tells old told is fresh) in
     let says = says_before old mid new block.status block.text c.peek.result c.in-Ok.ensures.quiet (c.peek.ensures.says tag_of demands told.start sure holds) in
     says_as (reply_to tag_of demands c.args.order told.start) block old new c.peek.result reply says
+
+pub returns-in-Err-clause-silent : goal.returns-in-Err-clause-silent
+returns-in-Err-clause-silent g c =
+    let state = g.D.Disk.state in
+    let mid = state c.open.new.desk in
+    let new = state c.fail.new.desk in
+    let reply = reply_of c.in-Err.failure in
+    silent_after (state c.args.desk.now) mid new c.in-Err.ensures.quiet
+    (silent_says reply.0.status reply.0.text mid new c.fail.result (c.fail.ensures.says reply.0 reply.1))
+
+pub returns-in-Info-clause-silent : goal.returns-in-Info-clause-silent
+returns-in-Info-clause-silent g c =
+    let state = g.D.Disk.state in
+    let mid = state c.open.new.desk in
+    let new = state c.info.new.desk in
+    silent_after (state c.args.desk.now) mid new c.in-Ok.ensures.quiet
+    (silent_says 0 (info_text c.header.result.now) mid new c.info.result c.info.ensures.says)
+
+pub returns-clause-silent : goal.returns-clause-silent
+returns-clause-silent g c =
+    let state = g.D.Disk.state in
+    silent_after (state c.args.desk.now) (state c.open.new.desk) (state c.peek.new.desk) c.in-Ok.ensures.quiet c.peek.ensures.silent
