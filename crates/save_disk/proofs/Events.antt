@@ -1,9 +1,11 @@
 -- One more event at the end of a trace.
-use Rattle.std.proofs.Common.{◌≡◌, ℕ, List, [], ◌∷◌, ◌++◌, map, refl, sym, ◌∙◌, ap, append_assoc}
+use Rattle.std.proofs.Common.{◌≡◌, ℕ, List, [], ◌∷◌, ◌++◌, map, refl, sym, subst, ◌∙◌, ap, append_assoc, ⊎_elim}
 use Rattle.std.proofs.lemmas.List.{map_push}
 use Rattle.save_disk.specs.declared.trace.KeptEvent.{KeptEvent}
 use Rattle.save_disk.specs.Trace.{Event, Write, Sync, Said, with_sector, image_after, said_of}
+use Rattle.save_disk.specs.Stops.{EachWrite}
 use Rattle.save_disk.specs.KeptEvents.{event_of}
+use Rattle.save_disk.proofs.Moments.{each_write-append}
 
 -- the last event changes the image that the others left
 pub image_after-push : (grain : ℕ) (events : List Event) (event : Event) (image : List ℕ) → image_after grain image (events ++ event ∷ []) ≡ image_after grain (image_after grain image events) (event ∷ [])
@@ -35,3 +37,24 @@ said_more said next events now event was more changed =
     ∙ sym (said_of-append (map event_of events) (event_of event ∷ []))
     ∙ ap said_of (sym (map_push event_of events event))
     ∙ ap (λ (l : List KeptEvent). said_of (map event_of l)) (sym more)
+
+module _ (Q : ℕ → List ℕ → Type 0) where
+  -- one write, or none
+  pub one_write : (sector : ℕ) (bytes : List ℕ) → Q sector bytes → EachWrite Q (Write sector bytes ∷ [])
+  one_write sector bytes such number written has =
+      ⊎_elim
+      (λ (here : Write sector bytes ≡ Write number written).
+      let same_sector : sector ≡ number = cc in
+      let same_bytes : bytes ≡ written = cc in
+      subst (λ (n : ℕ). Q n written) same_sector (subst (Q sector) same_bytes such))
+      (λ none. absurd none)
+      has
+
+  pub no_write : (event : Event) → ((sector : ℕ) (bytes : List ℕ) → event ≡ Write sector bytes → ⊥) → EachWrite Q (event ∷ [])
+  no_write event apart number written has = ⊎_elim (λ (here : event ≡ Write number written). absurd (apart number written here)) (λ none. absurd none) has
+
+  -- each write is such, once there is one event more and its write is
+  pub each_write_more : (events now : List KeptEvent) (event : KeptEvent) → EachWrite Q (map event_of events) → now ≡ events ++ event ∷ [] → EachWrite Q (event_of event ∷ []) → EachWrite Q (map event_of now)
+  each_write_more events now event was more such =
+      let whole : map event_of events ++ event_of event ∷ [] ≡ map event_of now = sym (map_push event_of events event) ∙ ap (λ (l : List KeptEvent). map event_of l) (sym more) in
+      subst (EachWrite Q) whole (each_write-append Q (map event_of events) (event_of event ∷ []) was such)

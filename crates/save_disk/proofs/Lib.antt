@@ -1,7 +1,11 @@
 pub mod Sectors
 pub mod SectorBytes
-pub mod Events
 pub mod Pieces
 pub mod Telling
+pub mod Moments
+pub mod Events
 pub mod Told
 pub mod Growth
+pub mod Kept
+pub mod Commits
+pub mod Rows

@@ -28,12 +28,12 @@ pick true P x y = x
 pick false P x y = y
 
 -- what holds of the whole trace holds of its parts
-in_unsynced : (events : List Event) (sector : ℕ) (bytes : List ℕ) → HasWrite (unsynced events) sector bytes → HasWrite events sector bytes
+pub in_unsynced : (events : List Event) (sector : ℕ) (bytes : List ℕ) → HasWrite (unsynced events) sector bytes → HasWrite events sector bytes
 in_unsynced [] sector bytes has = has
 in_unsynced (event ∷ events) sector bytes has =
     pick (has_sync (event ∷ events)) (λ l. HasWrite l sector bytes → HasWrite (event ∷ events) sector bytes) (λ h. inr (in_unsynced events sector bytes h)) (λ h. h) has
 
-in_synced : (events : List Event) (sector : ℕ) (bytes : List ℕ) → HasWrite (synced events) sector bytes → HasWrite events sector bytes
+pub in_synced : (events : List Event) (sector : ℕ) (bytes : List ℕ) → HasWrite (synced events) sector bytes → HasWrite events sector bytes
 in_synced [] sector bytes has = has
 in_synced (event ∷ events) sector bytes has =
     pick (has_sync (event ∷ events)) (λ l. HasWrite l sector bytes → HasWrite (event ∷ events) sector bytes) (λ h. ⊎_elim (λ e. inl e) (λ later. inr (in_synced events sector bytes later)) h) (λ h. absurd h) has

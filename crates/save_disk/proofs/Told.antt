@@ -3,7 +3,9 @@ use Rattle.std.proofs.Common.{◌≡◌, ℕ, zero, suc, ◌/◌, ◌<◌, ◌�
 use Rattle.std.proofs.lemmas.Bool.{cases_lt}
 use Rattle.save_disk.specs.Trace.{Told, IsFresh, sector_of, image_now}
 use Rattle.save_disk.specs.State.{State, IsSound, IsRead}
+use Rattle.save_disk.specs.Stops.{EachWrite, Fits}
 use Rattle.save_disk.specs.Tells.{all_below, is_sure, tells}
+use Rattle.save_disk.proofs.Moments.{length-image_after}
 
 -- a number below the bound passes
 pub all_below-at : (test : ℕ → Bool) (n x : ℕ) → IsTrue (all_below test n) → x < n → IsTrue (test x)
@@ -41,9 +43,15 @@ fresh_tells state told is fresh = rw is (all_below-all (λ x. told.sure (x / tol
 pub told_grain : (state : State) (told : Told) → IsSound state → state.told ≡ Some told → told.grain ≡ state.grain
 told_grain state told sound is = subst (λ (o : Option Told). IfSome o (λ t. t.grain ≡ state.grain)) is sound.told_grain
 
+-- each write that is told is of a whole sector that begins inside the image
+pub told_writes : (state : State) (told : Told) → IsSound state → state.told ≡ Some told → EachWrite (Fits told.grain (length told.start)) told.events
+told_writes state told sound is = subst (λ (o : Option Told). IfSome o (λ t. EachWrite (Fits t.grain (length t.start)) t.events)) is sound.told_writes
+
 -- the image has at each moment the disk's length
 pub now_size : (state : State) (told : Told) → IsSound state → state.told ≡ Some told → length (image_now told) ≡ state.size
-now_size state told sound is = subst (λ (o : Option Told). IfSome o (λ t. length (image_now t) ≡ state.size)) is sound.told_now
+now_size state told sound is =
+    let size : length told.start ≡ state.size = subst (λ (o : Option Told). IfSome o (λ t. length t.start ≡ state.size)) is sound.told_size in
+    length-image_after told.grain told.start told.events (told_writes state told sound is) ∙ size
 
 -- a read that is told gives the sector of the image
 pub read_sure : (state : State) (told : Told) (sector : ℕ) (bytes : List ℕ) → IsSound state → state.told ≡ Some told → IsTrue (told.sure sector) → IsRead state sector bytes → bytes ≡ sector_of state.grain (image_now told) sector

@@ -25,4 +25,4 @@ pub record StaysClosed (before after : FileDesk) : Type 0 where
   pub mute : IsMute before → IsMute after
 
 pub is_sound : (desk : FileDesk) → IsSound (file_state desk)
-is_sound desk = record { grain = known_grain desk.grain desk.is_known; size = desk.is_small; told_size = tt; told_grain = tt; told_now = tt }
+is_sound desk = record { grain = known_grain desk.grain desk.is_known; size = desk.is_small; told_size = tt; told_grain = tt; told_writes = tt }

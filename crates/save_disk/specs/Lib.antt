@@ -1,6 +1,8 @@
 pub mod Trace
-pub mod State
 pub mod Stops
+pub mod Keeps
+pub mod StopRows
+pub mod State
 pub mod Tells
 pub mod Writes
 pub mod Grains

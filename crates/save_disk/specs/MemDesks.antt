@@ -1,6 +1,5 @@
 -- What a desk in memory shows.
-use Rattle.std.specs.Prelude.{length, refl}
-use Rattle.std.proofs.Common.{sym, ◌∙◌, ap}
+use Rattle.std.specs.Prelude.{refl}
 use Rattle.save_disk.specs.declared.memory.MemDesk.{MemDesk}
 use Rattle.save_disk.specs.State.{State, IsSound}
 use Rattle.save_disk.specs.Grains.{known_grain}
@@ -20,5 +19,5 @@ is_sound desk = record {
   size = desk.trace.is_small;
   told_size = refl;
   told_grain = refl;
-  told_now = ap length (sym desk.trace.is_written) ∙ desk.trace.is_sized;
+  told_writes = desk.trace.fits;
 }

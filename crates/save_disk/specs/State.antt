@@ -2,6 +2,7 @@
 use Rattle.std.specs.Prelude.{ℕ, ◌+◌, ◌-◌, ◌^◌, ◌<◌, ◌≤◌, ◌≡◌, ◌≢◌, ◌⊎◌, min, List, [], ◌∷◌, ◌++◌, length, take, drop, Option, Some, None, MatchOption, IfSome, Result, OnErr, IsTrue}
 use Rattle.std.specs.Option.{option_map}
 use Rattle.save_disk.specs.Trace.{Event, Write, Told, sector_of, image_now}
+use Rattle.save_disk.specs.Stops.{EachWrite, Fits}
 
 -- how often each part of the desk has failed
 pub record Counts : Type 0 where
@@ -18,13 +19,14 @@ pub record State : Type 0 where
   pub grain : ℕ
   pub counts : Counts
 
--- what holds of every state: a sector has 512 or 4,096 bytes, and the trace speaks of this disk
+-- what holds of every state: a sector has 512 or 4,096 bytes, the trace speaks of this disk, and each write that it
+-- tells is of a whole sector that begins inside the image
 pub record IsSound (state : State) : Type 0 where
   pub grain : (state.grain ≡ 512) ⊎ (state.grain ≡ 4096)
   pub size : state.size < 2 ^ 64
   pub told_size : IfSome state.told (λ told. length told.start ≡ state.size)
   pub told_grain : IfSome state.told (λ told. told.grain ≡ state.grain)
-  pub told_now : IfSome state.told (λ told. length (image_now told) ≡ state.size)
+  pub told_writes : IfSome state.told (λ told. EachWrite (Fits told.grain (length told.start)) told.events)
 
 -- the count is greater than before, or stands at its last value
 abbrev pub Rose : ℕ → ℕ → Type 0
@@ -69,6 +71,10 @@ pub record WriteFails (sector : ℕ) (bytes : List ℕ) (before after : Told) : 
 -- the trace went on as a relation says; a desk that tells nothing goes on telling nothing
 abbrev pub GoesOn : (Told → Told → Type 0) → State → State → Type 0
 GoesOn R before after = MatchOption before.told (after.told ≡ None) (λ told. (next : Told) × (after.told ≡ Some next) × R told next)
+
+-- the same, of a disk that tells its trace
+abbrev pub Goes : (Told → Told → Type 0) → State → State → Type 0
+Goes R before after = (told : Told) → before.told ≡ Some told → (next : Told) × (after.told ≡ Some next) × R told next
 
 -- n bytes were heard: the next of the source, and none exactly where none is left
 pub record Hears (n : ℕ) (out : List ℕ) (before after : Told) : Type 0 where

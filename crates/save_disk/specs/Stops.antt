@@ -1,5 +1,5 @@
 -- What a stop may leave: each sector by itself is what the last sync kept, or any later write to it.
-use Rattle.std.specs.Prelude.{ℕ, ◌-◌, ◌*◌, ◌<◌, ◌≡◌, ◌⊎◌, Bool, true, false, ◌||◌, if◌then◌else◌, List, [], ◌∷◌, ◌++◌, length, take, Option, Some}
+use Rattle.std.specs.Prelude.{ℕ, zero, suc, ◌+◌, ◌-◌, ◌*◌, ◌<◌, ◌≡◌, ◌⊎◌, Bool, true, false, ◌||◌, if◌then◌else◌, List, [], ◌∷◌, ◌++◌, length, take, Option, Some}
 use Rattle.save_disk.specs.Trace.{Event, Write, Sync, Said, Told, sector_cut, image_after}
 
 abbrev pub is_sync : Event → Bool
@@ -24,6 +24,25 @@ unsynced (event ∷ events) = if has_sync (event ∷ events) then unsynced event
 abbrev pub HasWrite : List Event → ℕ → List ℕ → Type 0
 HasWrite [] sector bytes = ⊥
 HasWrite (event ∷ events) sector bytes = (event ≡ Write sector bytes) ⊎ HasWrite events sector bytes
+
+-- each write among the events is such
+abbrev pub EachWrite : (ℕ → List ℕ → Type 0) → List Event → Type 0
+EachWrite Q events = (sector : ℕ) (bytes : List ℕ) → HasWrite events sector bytes → Q sector bytes
+
+-- a write of a whole sector that begins inside the image
+abbrev pub Fits : ℕ → ℕ → ℕ → List ℕ → Type 0
+Fits grain size sector bytes = (length bytes ≡ grain) × (sector * grain < size)
+
+-- how many syncs there were
+abbrev pub syncs : List Event → ℕ
+syncs [] = 0
+syncs (event ∷ events) = (if is_sync event then 1 else 0) + syncs events
+
+-- the events up to the nth sync
+abbrev pub until_sync : List Event → ℕ → List Event
+until_sync [] n = []
+until_sync (event ∷ events) zero = []
+until_sync (event ∷ events) (suc n) = event ∷ until_sync events (if is_sync event then n else suc n)
 
 -- a sector's bytes that a stop may leave, cut to the image
 abbrev pub IsVersion : ℕ → List ℕ → List Event → ℕ → List ℕ → Type 0

@@ -2,6 +2,7 @@
 
 ghost use Rattle.std.specs.Prelude.{◌≡◌, ◌*◌, ◌+◌, ◌^◌, ◌<◌, ◌≤◌, ◌++◌, [], ◌∷◌, min, length, map, take, drop, vec_len, vec_capacity, IsTrue, IfOk, OnOk};
 ghost use Rattle.save_disk.specs.Trace.{Write, Sync, Said, with_sector, image_after, said_of, sector_of, image_now};
+ghost use Rattle.save_disk.specs.Stops.{EachWrite, Fits};
 ghost use Rattle.save_disk.specs.State.{then_event};
 ghost use Rattle.save_disk.specs.Grains.{is_grain};
 ghost use Rattle.save_disk.specs.KeptEvents.{event_of};
@@ -32,6 +33,7 @@ pub(crate) struct Trace {
     ghost is_written: { image.items ≡ image_after grain start.items (map event_of events.items) },
     ghost is_said: { said.items ≡ said_of (map event_of events.items) },
     ghost is_heard: { heard ≤ length source.items },
+    ghost fits: { EachWrite (Fits grain (length start.items)) (map event_of events.items) },
 }
 
 impl Trace {

@@ -1,5 +1,6 @@
-use Rattle.std.proofs.Common.{refl, sym, append-nil}
-use Rattle.save_disk.proofs.Events.{written_more, said_more}
+use Rattle.std.proofs.Common.{length, refl, sym, append-nil}
+use Rattle.save_disk.specs.Stops.{Fits}
+use Rattle.save_disk.proofs.Events.{written_more, said_more, no_write, each_write_more}
 use Rattle.save_disk.proofs.trace.Trace.sync.Goals as goal
 
 pub invariant_of-self-clause-is_written : goal.invariant_of-self-clause-is_written
@@ -11,3 +12,8 @@ pub invariant_of-self-clause-is_said : goal.invariant_of-self-clause-is_said
 invariant_of-self-clause-is_said c =
     let s = c.args.self.now in
     said_more s.said.items _ s.events.items _ _ s.is_said c.add.ensures (sym (append-nil _))
+
+pub invariant_of-self-clause-fits : goal.invariant_of-self-clause-fits
+invariant_of-self-clause-fits c =
+    let s = c.args.self.now in
+    each_write_more (Fits s.grain (length s.start.items)) s.events.items _ _ s.fits c.add.ensures (no_write (Fits s.grain (length s.start.items)) _ (λ sector bytes same. cc))
