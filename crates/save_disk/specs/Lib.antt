@@ -12,4 +12,5 @@ pub mod KeptEvents
 pub mod Traces
 pub mod Memory
 pub mod MemDesks
+pub mod Windows
 pub mod FileDesks

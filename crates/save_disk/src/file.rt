@@ -6,6 +6,7 @@ ghost use Rattle.save_disk.specs.State.{IsSteady, IsQuiet, Happens, IsRead, Goes
 ghost use Rattle.save_disk.specs.Calls.{no_faults};
 ghost use Rattle.save_disk.specs.Grains.{is_grain};
 
+use crate::window::{WINDOW, Window};
 use crate::{Desk, Disk, Failed};
 use std::fs::{File, OpenOptions};
 use std::io::{ErrorKind, Read, Write};
@@ -13,6 +14,9 @@ use std::os::fd::AsRawFd;
 use std::os::unix::fs::FileExt;
 use std::path::Path;
 use std::{fs, io};
+
+/// How often a call on a standard stream is tried that was interrupted.
+const TRIES: usize = 100;
 
 /// The image's file.
 #[derive(Drop)]
@@ -27,6 +31,7 @@ struct Opened {
 #[derive(Drop)]
 pub struct FileDesk<'a> {
     opened: Option<Opened>,
+    window: Window,
     streams: Option<&'a HostRuntime>,
     size: u64,
     grain: u64,
@@ -50,14 +55,36 @@ impl<'a> FileDesk<'a> {
         ensures told { (file_state result).told ≡ None }
         ensures grain { (file_state result).grain ≡ grain }
         ensures counts { (file_state result).counts ≡ no_faults }
+        ensures heard { IsMute result → ⊥ }
     {
-        let opened = open(rt, path, create).ok();
+        FileDesk::over(rt, open(rt, path, create).ok(), grain)
+    }
+
+    /// The same over a file that is opened for reading alone: every write fails. None is made.
+    pub fn reading(rt: &'a HostRuntime, path: &str, grain: u64) -> FileDesk<'a>
+        requires { IsTrue (is_grain grain) }
+        ensures told { (file_state result).told ≡ None }
+        ensures grain { (file_state result).grain ≡ grain }
+        ensures counts { (file_state result).counts ≡ no_faults }
+        ensures heard { IsMute result → ⊥ }
+    {
+        FileDesk::over(rt, open_to_read(rt, path).ok(), grain)
+    }
+
+    fn over(rt: &'a HostRuntime, opened: Option<Opened>, grain: u64) -> FileDesk<'a>
+        requires { IsTrue (is_grain grain) }
+        ensures told { (file_state result).told ≡ None }
+        ensures grain { (file_state result).grain ≡ grain }
+        ensures counts { (file_state result).counts ≡ no_faults }
+        ensures heard { IsMute result → ⊥ }
+    {
         let size = match &opened {
             Some(opened) => opened.len,
             None => 0,
         };
         FileDesk {
             opened,
+            window: Window::new(),
             streams: Some(rt),
             size,
             grain,
@@ -78,6 +105,7 @@ impl<'a> FileDesk<'a> {
     {
         FileDesk {
             opened: None,
+            window: Window::new(),
             streams: None,
             size: 0,
             grain: 512,
@@ -90,7 +118,7 @@ impl<'a> FileDesk<'a> {
 }
 
 impl<'a> Disk for FileDesk<'a> {
-    ghost use Rattle.save_disk.specs.FileDesks.{file_state, is_sound, IsClosed, StaysClosed};
+    ghost use Rattle.save_disk.specs.FileDesks.{file_state, is_sound, IsClosed, StaysOpened};
 
     ghost state = { file_state };
 
@@ -106,7 +134,7 @@ impl<'a> Disk for FileDesk<'a> {
         ensures steady { IsSteady (file_state self.old) (file_state self.new) }
         ensures cause { HasCause (file_state self.old).counts.disk (file_state self.new).counts.disk result }
         ensures closed { IsClosed self.old → IsErr result }
-        ensures stays { StaysClosed self.old self.new }
+        ensures stays { StaysOpened self.old self.new }
     {
         let outcome = match &self.opened {
             Some(_) => Ok(self.size),
@@ -123,12 +151,12 @@ impl<'a> Disk for FileDesk<'a> {
         ensures steady { IsSteady (file_state self.old) (file_state self.new) }
         ensures cause { HasCause (file_state self.old).counts.disk (file_state self.new).counts.disk result }
         ensures closed { IsClosed self.old → IsErr result }
-        ensures stays { StaysClosed self.old self.new }
+        ensures stays { StaysOpened self.old self.new }
     {
         let at = sector * self.grain;
         let part = (self.size - at).min(self.grain) as usize;
         let outcome = match &self.opened {
-            Some(opened) => read_part(&opened.file, at, part, out),
+            Some(opened) => read_part(opened, &mut self.window, at, part, out),
             None => Err(Failed),
         };
         counted(outcome, &mut self.disk)
@@ -142,10 +170,11 @@ impl<'a> Disk for FileDesk<'a> {
         ensures steady { IsSteady (file_state self.old) (file_state self.new) }
         ensures cause { HasCause (file_state self.old).counts.disk (file_state self.new).counts.disk result }
         ensures closed { IsClosed self.old → IsErr result }
-        ensures stays { StaysClosed self.old self.new }
+        ensures stays { StaysOpened self.old self.new }
     {
         let at = sector * self.grain;
         let part = (self.size - at).min(self.grain) as usize;
+        self.window.forget(at, part as u64);
         let outcome = match &self.opened {
             Some(opened) => opened.file.write_all_at(&bytes[..part], at).or(Err(Failed)),
             None => Err(Failed),
@@ -159,7 +188,7 @@ impl<'a> Disk for FileDesk<'a> {
         ensures steady { IsSteady (file_state self.old) (file_state self.new) }
         ensures cause { HasCause (file_state self.old).counts.disk (file_state self.new).counts.disk result }
         ensures closed { IsClosed self.old → IsErr result }
-        ensures stays { StaysClosed self.old self.new }
+        ensures stays { StaysOpened self.old self.new }
     {
         let outcome = match &mut self.opened {
             Some(opened) => sync(opened).or(Err(Failed)),
@@ -170,7 +199,7 @@ impl<'a> Disk for FileDesk<'a> {
 }
 
 impl<'a> Desk for FileDesk<'a> {
-    ghost use Rattle.save_disk.specs.FileDesks.{file_state, IsMute, StaysClosed};
+    ghost use Rattle.save_disk.specs.FileDesks.{file_state, IsMute, IsEnded, StaysOpened};
 
     fn hear(&mut self, out: &mut [u8]) -> Result<usize, Failed>
         requires { 1 ≤ length out.old }
@@ -180,11 +209,13 @@ impl<'a> Desk for FileDesk<'a> {
         ensures steady { IsSteady (file_state self.old) (file_state self.new) }
         ensures cause { HasCause (file_state self.old).counts.source (file_state self.new).counts.source result }
         ensures mute { IsMute self.old → IsErr result }
-        ensures stays { StaysClosed self.old self.new }
+        ensures ends { IfOk result (λ n. n ≡ 0 → IsEnded self.new) }
+        ensures ended { IsEnded self.old → IfOk result (λ n. n ≡ 0) }
+        ensures stays { StaysOpened self.old self.new }
     {
         let outcome = match self.streams {
             Some(_) if self.is_at_end => Ok(0),
-            Some(rt) => rt.stdin().read(out).or(Err(Failed)),
+            Some(rt) => read_some(rt, out),
             None => Err(Failed),
         };
         let n = counted(outcome, &mut self.source)?;
@@ -201,7 +232,7 @@ impl<'a> Desk for FileDesk<'a> {
         ensures steady { IsSteady (file_state self.old) (file_state self.new) }
         ensures cause { HasCause (file_state self.old).counts.sink (file_state self.new).counts.sink result }
         ensures mute { IsMute self.old → IsErr result }
-        ensures stays { StaysClosed self.old self.new }
+        ensures stays { StaysOpened self.old self.new }
     {
         let outcome = match self.streams {
             Some(rt) => write_some(rt, bytes),
@@ -224,11 +255,40 @@ fn counted<T>(outcome: Result<T, Failed>, count: &mut u64) -> Result<T, Failed>
 }
 
 /// Reads the part of a sector that lies in the file, and puts zeros after it.
-fn read_part(file: &File, at: u64, part: usize, out: &mut [u8]) -> Result<(), Failed>
+fn read_part(
+    opened: &Opened,
+    window: &mut Window,
+    at: u64,
+    part: usize,
+    out: &mut [u8],
+) -> Result<(), Failed>
     requires { part ≤ length out.old }
 {
-    file.read_exact_at(&mut out[..part], at).or(Err(Failed))?;
+    read_through(opened, window, at, &mut out[..part])?;
     out[part..].fill(0);
+    Ok(())
+}
+
+/// Reads bytes of the file: from the window, from one that is filled anew, or where that fails alone.
+fn read_through(
+    opened: &Opened,
+    window: &mut Window,
+    at: u64,
+    out: &mut [u8],
+) -> Result<(), Failed> {
+    if window.get(at, out) || refill(opened, window, at).is_ok() && window.get(at, out) {
+        return Ok(());
+    }
+    opened.file.read_exact_at(out, at).or(Err(Failed))
+}
+
+/// Fills the window with the bytes that lie around a place of the file.
+fn refill(opened: &Opened, window: &mut Window, at: u64) -> io::Result<()> {
+    let start = at - at % WINDOW as u64;
+    let n = opened.len.saturating_sub(start).min(WINDOW as u64) as usize;
+    let mut bytes = [0; WINDOW];
+    opened.file.read_exact_at(&mut bytes[..n], start)?;
+    window.fill(start, &bytes, n);
     Ok(())
 }
 
@@ -242,32 +302,69 @@ fn sync(opened: &mut Opened) -> io::Result<()> {
     Ok(())
 }
 
+/// Reads some bytes of the standard input, or none at its end.
+fn read_some(rt: &HostRuntime, out: &mut [u8]) -> Result<usize, Failed>
+    ensures count { IfOk result (λ n. n ≤ length out.new) }
+    ensures size { length out.new ≡ length out.old }
+{
+    for _ in 0..TRIES {
+        match rt.stdin().read(out) {
+            Ok(n) => return Ok(n),
+            Err(error) if error.kind() == ErrorKind::Interrupted => {}
+            Err(_) => return Err(Failed),
+        }
+    }
+    Err(Failed)
+}
+
 /// Writes some of the bytes to the standard output.
 fn write_some(rt: &HostRuntime, bytes: &[u8]) -> Result<usize, Failed>
     ensures some { IfOk result (λ n. 1 ≤ n) }
     ensures count { IfOk result (λ n. n ≤ length bytes.now) }
 {
-    match rt.stdout().write(bytes) {
-        Ok(0) | Err(_) => Err(Failed),
-        Ok(n) => Ok(n),
+    for _ in 0..TRIES {
+        match rt.stdout().write(bytes) {
+            Ok(0) => return Err(Failed),
+            Ok(n) => return Ok(n),
+            Err(error) if error.kind() == ErrorKind::Interrupted => {}
+            Err(_) => return Err(Failed),
+        }
     }
+    Err(Failed)
 }
 
 /// Opens the regular file at a path, or makes one where nothing stands.
 fn open(rt: &HostRuntime, path: &str, create: Option<u64>) -> io::Result<Opened> {
     match (fs::metadata(rt, path), create) {
-        (Ok(found), _) if found.is_file() => open_found(rt, path),
+        (Ok(found), _) if found.is_file() => regular(open_found(rt, path)?),
         (Ok(_), _) => Err(ErrorKind::Unsupported.into()),
         (Err(error), Some(len)) if error.kind() == ErrorKind::NotFound => make(rt, path, len),
         (Err(error), _) => Err(error),
     }
 }
 
-fn open_found(rt: &HostRuntime, path: &str) -> io::Result<Opened> {
-    let file = match OpenOptions::new().read(true).write(true).open(rt, path) {
-        Ok(file) => file,
-        Err(_) => File::open(rt, path)?,
-    };
+/// Opens the regular file at a path for reading alone.
+fn open_to_read(rt: &HostRuntime, path: &str) -> io::Result<Opened> {
+    if fs::metadata(rt, path)?.is_file() {
+        regular(File::open(rt, path)?)
+    } else {
+        Err(ErrorKind::Unsupported.into())
+    }
+}
+
+/// Opens a file for reading and writing, or where it may not be written for reading.
+fn open_found(rt: &HostRuntime, path: &str) -> io::Result<File> {
+    match OpenOptions::new().read(true).write(true).open(rt, path) {
+        Err(error) if may_not_be_written(error.kind()) => File::open(rt, path),
+        outcome => outcome,
+    }
+}
+
+fn may_not_be_written(kind: ErrorKind) -> bool {
+    kind == ErrorKind::PermissionDenied || kind == ErrorKind::ReadOnlyFilesystem
+}
+
+fn regular(file: File) -> io::Result<Opened> {
     let found = file.metadata()?;
     if !found.is_file() {
         return Err(ErrorKind::Unsupported.into());
@@ -279,15 +376,26 @@ fn open_found(rt: &HostRuntime, path: &str) -> io::Result<Opened> {
     })
 }
 
+/// Makes a file of zeros. One that can't get its length is removed.
 fn make(rt: &HostRuntime, path: &str, len: u64) -> io::Result<Opened> {
     let folder = open_folder(rt, path)?;
     let file = File::create_new(rt, path)?;
+    match lengthen(file, len) {
+        Ok(file) => Ok(Opened {
+            file,
+            len,
+            folder: Some(folder),
+        }),
+        Err(error) => {
+            let _ = fs::remove_file(rt, path);
+            Err(error)
+        }
+    }
+}
+
+fn lengthen(file: File, len: u64) -> io::Result<File> {
     file.set_len(len)?;
-    Ok(Opened {
-        file: above_streams(file)?,
-        len,
-        folder: Some(folder),
-    })
+    above_streams(file)
 }
 
 fn open_folder(rt: &HostRuntime, path: &str) -> io::Result<File> {

@@ -12,6 +12,7 @@ mod stop_tests;
 #[cfg(test)]
 mod tests;
 mod trace;
+mod window;
 
 pub use calls::Call;
 pub use disk::{Desk, Disk, Failed};

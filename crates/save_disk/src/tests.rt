@@ -1,8 +1,9 @@
-ghost use Rattle.std.specs.Prelude.{◌≡◌, ◌<◌};
+ghost use Rattle.std.specs.Prelude.{◌≡◌, ◌<◌, ◌*◌};
 ghost use Rattle.save_disk.specs.State.{IsSteady};
 ghost use Rattle.save_disk.specs.MemDesks.{state_of};
+ghost use Rattle.save_disk.specs.FileDesks.{file_state};
 
-use crate::{Call, Desk, Disk, FileDesk, MemDesk, PlainSigner, Signer, ZeroSigner};
+use crate::{Call, Desk, Disk, Failed, FileDesk, MemDesk, PlainSigner, Signer, ZeroSigner};
 use std::fs;
 use std::test::Fail;
 
@@ -147,6 +148,70 @@ fn keeps_a_file(rt: HostRuntime) -> Result<(), Fail> {
     Ok(())
 }
 
+/// The first and the last byte of a sector.
+fn ends_of(desk: &mut FileDesk<'_>, sector: u64) -> Result<(u8, u8), Failed>
+    requires grain { (file_state desk.old).grain ≡ 512 }
+    requires inside { sector * 512 < (file_state desk.old).size }
+    ensures { IsSteady (file_state desk.old) (file_state desk.new) }
+{
+    let mut out = [9; 512];
+    match desk.read(sector, &mut out) {
+        Ok(()) => Ok((out[0], out[511])),
+        Err(failed) => Err(failed),
+    }
+}
+
+#[test]
+fn reads_what_was_written_last(rt: HostRuntime) -> Result<(), Fail> {
+    let path = "save_disk_window.image";
+    let _ = fs::remove_file(&rt, path);
+    let mut desk = FileDesk::new(&rt, path, Some(8195), 512);
+    let len = desk.len()?;
+    assert_eq!(rt; len, 8195);
+    let ends = ends_of(&mut desk, 7)?;
+    assert_eq!(rt; ends, (0, 0));
+    desk.write(7, &[7; 512])?;
+    let ends = (ends_of(&mut desk, 7)?, ends_of(&mut desk, 6)?);
+    assert_eq!(rt; ends, ((7, 7), (0, 0)));
+    desk.write(8, &[8; 512])?;
+    let ends = (ends_of(&mut desk, 8)?, ends_of(&mut desk, 7)?);
+    assert_eq!(rt; ends, ((8, 8), (7, 7)));
+    let ends = ends_of(&mut desk, 16)?;
+    assert_eq!(rt; ends, (0, 0));
+    desk.write(16, &[16; 512])?;
+    let ends = (ends_of(&mut desk, 16)?, ends_of(&mut desk, 9)?);
+    assert_eq!(rt; ends, ((16, 0), (0, 0)));
+    assert_eq!(rt; fs::read(&rt, path)?.len(), 8195);
+    fs::remove_file(&rt, path)?;
+    Ok(())
+}
+
+#[test]
+fn writes_nothing_where_it_reads_alone(rt: HostRuntime) -> Result<(), Fail> {
+    let path = "save_disk_reading.image";
+    let _ = fs::remove_file(&rt, path);
+    assert!(rt; FileDesk::reading(&rt, path, 512).len().is_err());
+    fs::write(&rt, path, [5; 600])?;
+    let mut desk = FileDesk::reading(&rt, path, 512);
+    let len = desk.len()?;
+    assert_eq!(rt; len, 600);
+    assert!(rt; desk.write(0, &[7; 512]).is_err());
+    let mut out = [9; 512];
+    desk.read(0, &mut out)?;
+    assert_eq!(rt; out, [5; 512]);
+    assert_eq!(rt; fs::read(&rt, path)?.as_slice(), [5; 600].as_slice());
+    fs::remove_file(&rt, path)?;
+    Ok(())
+}
+
+#[test]
+fn leaves_no_file_that_has_not_its_length(rt: HostRuntime) {
+    let path = "save_disk_too_long.image";
+    let _ = fs::remove_file(&rt, path);
+    assert!(rt; FileDesk::new(&rt, path, Some(u64::MAX), 512).len().is_err());
+    assert!(rt; fs::metadata(&rt, path).is_err());
+}
+
 #[test]
 fn fails_every_call_without_a_file(rt: HostRuntime) {
     let mut folder = FileDesk::new(&rt, ".", Some(512), 512);
@@ -154,4 +219,6 @@ fn fails_every_call_without_a_file(rt: HostRuntime) {
     let mut none = FileDesk::none(&rt);
     assert!(rt; none.len().is_err() && none.sync().is_err());
     assert!(rt; none.hear(&mut [0]).is_err() && none.say(b"a").is_err());
+    let mut read = FileDesk::reading(&rt, ".", 512);
+    assert!(rt; read.len().is_err() && read.sync().is_err());
 }
