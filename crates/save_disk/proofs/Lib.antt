@@ -8,4 +8,5 @@ pub mod Told
 pub mod Growth
 pub mod Kept
 pub mod Commits
+pub mod Going
 pub mod Rows

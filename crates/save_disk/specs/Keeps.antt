@@ -1,6 +1,6 @@
 -- What a stop leaves of some places of an image: of each byte that must not be lost.
-use Rattle.std.specs.Prelude.{ℕ, ◌+◌, ◌-◌, ◌*◌, ◌<◌, ◌≤◌, ◌≡◌, Bool, IsTrue, List, [], ◌∷◌, ◌++◌, length, slice_index}
-use Rattle.save_disk.specs.Trace.{Event, Write, Sync, image_after}
+use Rattle.std.specs.Prelude.{ℕ, ◌+◌, ◌-◌, ◌*◌, ◌<◌, ◌≤◌, ◌≡◌, Bool, IsTrue, List, [], ◌∷◌, ◌++◌, length, take, slice_index}
+use Rattle.save_disk.specs.Trace.{Event, Write, Sync, Told, image_after}
 use Rattle.save_disk.specs.Stops.{synced, unsynced, EachWrite, Fits, CrashMayLeave, AtEachMoment}
 
 -- where the write covers the place, it holds this byte there
@@ -26,6 +26,14 @@ pub record Keeps (places : ℕ → Bool) (image : List ℕ) (grain : ℕ) (start
 abbrev pub EachStop : (List ℕ → Type 0) → ℕ → List ℕ → List Event → List Event → Type 0
 EachStop P grain start events added =
     AtEachMoment (λ front. EachWrite (Fits grain (length start)) (events ++ front) → (left : List ℕ) → CrashMayLeave grain start (events ++ front) left → P left) added
+
+-- the same of a trace, where each write fits
+abbrev pub StopsLeave : (List ℕ → Type 0) → Told → List Event → Type 0
+StopsLeave P told added = AtEachMoment (λ front. (left : List ℕ) → CrashMayLeave told.grain told.start (told.events ++ front) left → P left) added
+
+-- the first of these events, and perhaps all
+abbrev pub IsFront : List Event → List Event → Type 0
+IsFront all events = (n : ℕ) × (events ≡ take n all)
 
 -- what a commit adds behind its other writes: a sync, one write, and a sync
 abbrev pub committing : List Event → ℕ → List ℕ → List Event
