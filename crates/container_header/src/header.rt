@@ -81,7 +81,7 @@ pub struct Header {
 
 impl Header {
     ghost use Rattle.container_header.specs.Fields.{bytes_at};
-    ghost use Rattle.container_header.specs.Conditions.{first_bytes, reading, layout_faults, first_failing};
+    ghost use Rattle.container_header.specs.Conditions.{first_bytes, reading, reading_of, layout_faults, first_failing};
     ghost use Rattle.container_header.specs.Sound.{active_at, inactive_at, IsSound};
     ghost use Rattle.container_header.specs.Raw.{IsOfRaw, flipped};
 
@@ -91,6 +91,8 @@ impl Header {
     /// The fault is the first in the order of `HeaderFault`: no image of a known kind, an unknown
     /// version, and then the conditions of the layout by their numbers.
     pub fn read(sector: &[u8; 512], len: u64) -> Result<Header, HeaderFault>
+        // By these bytes and the length, whether or not an image of that length begins with them.
+        ensures of_sector { result ≡ reading_of sector.now len }
         ensures exact { (image : List ℕ) → length image ≡ len → sector.now ≡ first_bytes image → result ≡ reading image }
         ensures of_raw { IfOk result IsOfRaw }
         ensures sound { IfOk result (λ header. IsSound header len) }

@@ -283,6 +283,17 @@ fn kind_and_version_come_first(rt: HostRuntime) {
         Header::read(&[0; 512], LEN).err(),
         Some(HeaderFault::NotImage)
     );
+    // No image of so few bytes has one here; the bytes are read as they are.
+    let mut sector = disa;
+    sector[511] = 1;
+    assert_eq!(rt;
+        Header::read(&sector, 511).err(),
+        Some(HeaderFault::NotImage)
+    );
+    assert_eq!(rt;
+        Header::read(&sector, 300).err(),
+        Some(HeaderFault::NotImage)
+    );
     // At 512 bytes it is an image, whose tables do not fit.
     assert_eq!(rt; Header::read(&disa, 512).err(), layout(5));
     for version in [0x40001, 0x30000, 0] {
