@@ -6,7 +6,7 @@ use Rattle.std.proofs.Math.Nat.{mul-le-mul_right, suc-mul}
 use Rattle.std.proofs.Math.Seq.{take-append-add}
 use Rattle.save_disk.specs.Trace.{Event, Write, Sync, sector_cut, with_sector, image_after}
 use Rattle.save_disk.specs.Stops.{synced, unsynced, HasWrite, HasNoWrite, EachWrite, Fits, CrashMayLeave}
-use Rattle.save_disk.specs.Keeps.{HoldsAll, Agree, Keeps, EachStop, committing, image_committed}
+use Rattle.save_disk.specs.Keeps.{HoldsAll, Agree, Keeps, EachStop, IsOldOrNew, committing, image_committed}
 use Rattle.save_disk.proofs.SectorBytes.{length-with_sector, sector_cut-byte, with_sector-before, with_sector-behind, with_sector-inside}
 use Rattle.save_disk.proofs.Sectors.{same_from_sectors}
 use Rattle.save_disk.proofs.Moments.{has_write-right, each_write-front, each_write-take, each_write-append, image_after-append, length-image_after, synced-open, unsynced-open, synced-sync, unsynced-sync, synced-unsynced, moments_join}
@@ -33,7 +33,9 @@ module _ (grain : ℕ) (image : List ℕ) (sector : ℕ) (bytes : List ℕ) (beg
       ∙ sym (get_or-take (length image - sector * grain) bytes k 0 (omega arith)))
 
   -- another sector
-  pub cut_other : (other : ℕ) → other ≢ sector → sector_cut grain (with_sector grain image sector bytes) other ≡ sector_cut grain image other
+  pub cut_other :
+      (other : ℕ) → other ≢ sector
+      → sector_cut grain (with_sector grain image sector bytes) other ≡ sector_cut grain image other
   cut_other other apart =
       ext_get_or 0 (sector_cut grain (with_sector grain image sector bytes) other) (sector_cut grain image other)
       (length_cut (with_sector grain image sector bytes) other ∙ ap (λ (n : ℕ). min grain (n - other * grain)) long ∙ sym (length_cut image other))
@@ -56,7 +58,10 @@ module _ (grain : ℕ) (image : List ℕ) (sector : ℕ) (bytes : List ℕ) (beg
 -- where one write came since the last sync, a stop leaves the image before it or the one behind it
 module _ (grain : ℕ) (start : List ℕ) (events : List Event) (sector : ℕ) (bytes : List ℕ) (left : List ℕ) (some : 1 ≤ grain) (fits : EachWrite (Fits grain (length start)) (events ++ Write sector bytes ∷ [])) (kept : unsynced events ≡ []) (leaves : CrashMayLeave grain start (events ++ Write sector bytes ∷ []) left) where
   -- one of the two versions of the sector that is written
-  old_or_new : (image : List ℕ) → image ≡ image_after grain start events → length image ≡ length start → (n : ℕ) → n * grain < length start → (sector_cut grain left n ≡ sector_cut grain image n) ⊎ ((n ≡ sector) × (sector_cut grain left n ≡ take (length image - n * grain) bytes))
+  old_or_new :
+      (image : List ℕ) → image ≡ image_after grain start events → length image ≡ length start → (n : ℕ)
+      → n * grain < length start
+      → (sector_cut grain left n ≡ sector_cut grain image n) ⊎ ((n ≡ sector) × (sector_cut grain left n ≡ take (length image - n * grain) bytes))
   old_or_new image is same n below =
       let all : synced (events ++ Write sector bytes ∷ []) ≡ events = synced-open (Write sector bytes ∷ []) refl events ∙ sym (append-nil (synced events)) ∙ ap (λ (l : List Event). synced events ++ l) (sym kept) ∙ synced-unsynced events in
       let one : unsynced (events ++ Write sector bytes ∷ []) ≡ Write sector bytes ∷ [] = unsynced-open (Write sector bytes ∷ []) refl events ∙ ap (λ (l : List Event). l ++ Write sector bytes ∷ []) kept in
@@ -72,7 +77,9 @@ module _ (grain : ℕ) (start : List ℕ) (events : List Event) (sector : ℕ) (
       (subst (λ (l : List Event). HasWrite l n new.0) one new.1))
       (leaves.sectors n below)
 
-  whole_write : (image : List ℕ) → image ≡ image_after grain start events → length image ≡ length start → (left ≡ image) ⊎ (left ≡ with_sector grain image sector bytes)
+  whole_write :
+      (image : List ℕ) → image ≡ image_after grain start events → length image ≡ length start
+      → (left ≡ image) ⊎ (left ≡ with_sector grain image sector bytes)
   whole_write image is same =
       let fit = fits sector bytes (has_write-right events (Write sector bytes ∷ []) sector bytes (inl refl)) in
       let begins : sector * grain < length image = omega (arith, fit.1) in
@@ -127,16 +134,15 @@ module _ (grain : ℕ) (start : List ℕ) (events writes : List Event) (sector :
   image_kept = ap (image_after grain start) (all_kept events writes sector bytes) ∙ image_after-append grain start (events ++ (writes ++ Sync ∷ Write sector bytes ∷ [])) (Sync ∷ []) ∙ image_synced
 
   -- behind a commit any places of the new image are kept
-  pub commit_keeps : (places : ℕ → Bool) → EachWrite (Fits grain (length start)) (events ++ committing writes sector bytes) → Keeps places (image_committed grain start events writes sector bytes) grain start (events ++ committing writes sector bytes)
+  pub commit_keeps :
+      (places : ℕ → Bool) → EachWrite (Fits grain (length start)) (events ++ committing writes sector bytes)
+      → Keeps places (image_committed grain start events writes sector bytes) grain start (events ++ committing writes sector bytes)
   commit_keeps places fits = subst (λ (l : List ℕ). Keeps places l grain start (events ++ committing writes sector bytes)) image_kept (synced_keeps places grain start (events ++ committing writes sector bytes) fits (none_since events writes sector bytes))
 
 module _ (places : ℕ → Bool) (image : List ℕ) (grain : ℕ) (start : List ℕ) (events writes : List Event) (sector : ℕ) (bytes : List ℕ) (some : 1 ≤ grain) (keeps : Keeps places image grain start events) (holds : EachWrite (HoldsAll places grain image) writes) where
-  abbrev pub IsOldOrNew : List ℕ → Type 0
-  IsOldOrNew left = Agree places image left ⊎ (left ≡ image_committed grain start events writes sector bytes)
-
   -- a front of the commit's events
   abbrev pub IsSafe : List Event → Type 0
-  IsSafe front = EachWrite (Fits grain (length start)) (events ++ front) → (left : List ℕ) → CrashMayLeave grain start (events ++ front) left → IsOldOrNew left
+  IsSafe front = EachWrite (Fits grain (length start)) (events ++ front) → (left : List ℕ) → CrashMayLeave grain start (events ++ front) left → IsOldOrNew places image grain start events writes sector bytes left
 
   -- while it has no write but those that hold the places
   safe_held : (front : List Event) → EachWrite (HoldsAll places grain image) front → IsSafe front
@@ -177,7 +183,7 @@ module _ (places : ℕ → Bool) (image : List ℕ) (grain : ℕ) (start : List 
   safe_tail (suc (suc (suc k))) = rw (take_empty k) safe_synced
 
   -- at each moment of a commit a stop leaves the places as they were, or the new image
-  pub commit_leaves : EachStop IsOldOrNew grain start events (committing writes sector bytes)
+  pub commit_leaves : EachStop (IsOldOrNew places image grain start events writes sector bytes) grain start events (committing writes sector bytes)
   commit_leaves moment =
       ⊎_elim
       (λ (early : moment < length writes). subst IsSafe (sym (take-append-le moment writes (Sync ∷ Write sector bytes ∷ Sync ∷ []) (omega arith))) (safe_held (take moment writes) (each_write-take (HoldsAll places grain image) moment writes holds)))
@@ -188,15 +194,24 @@ module _ (places : ℕ → Bool) (image : List ℕ) (grain : ℕ) (start : List 
       (cases_lt moment (length writes))
 
 -- the same where there is no such write
-pub held_leaves : (places : ℕ → Bool) (image : List ℕ) (grain : ℕ) (start : List ℕ) (events added : List Event) → 1 ≤ grain → Keeps places image grain start events → EachWrite (HoldsAll places grain image) added → EachStop (Agree places image) grain start events added
+pub held_leaves :
+    (places : ℕ → Bool) (image : List ℕ) (grain : ℕ) (start : List ℕ) (events added : List Event) → 1 ≤ grain
+    → Keeps places image grain start events → EachWrite (HoldsAll places grain image) added
+    → EachStop (Agree places image) grain start events added
 held_leaves places image grain start events added some keeps holds moment fits left leaves =
     kept_leaves places image grain start (events ++ take moment added) some (keeps_more places image grain start events (take moment added) fits (each_write-take (HoldsAll places grain image) moment added holds) keeps) left leaves
 
 -- stops while events come, and while more come behind them
-pub stops-append : (P : List ℕ → Type 0) (grain : ℕ) (start : List ℕ) (events xs ys : List Event) → EachStop P grain start events xs → EachStop P grain start (events ++ xs) ys → EachStop P grain start events (xs ++ ys)
+pub stops-append :
+    (P : List ℕ → Type 0) (grain : ℕ) (start : List ℕ) (events xs ys : List Event)
+    → EachStop P grain start events xs → EachStop P grain start (events ++ xs) ys
+    → EachStop P grain start events (xs ++ ys)
 stops-append P grain start events xs ys first second =
     moments_join (λ front. EachWrite (Fits grain (length start)) (events ++ front) → (left : List ℕ) → CrashMayLeave grain start (events ++ front) left → P left) xs ys first
     (λ moment. subst (λ (l : List Event). EachWrite (Fits grain (length start)) l → (left : List ℕ) → CrashMayLeave grain start l left → P left) (append_assoc events xs (take moment ys)) (second moment))
 
-pub stops-map : (P Q : List ℕ → Type 0) (grain : ℕ) (start : List ℕ) (events added : List Event) → ((left : List ℕ) → P left → Q left) → EachStop P grain start events added → EachStop Q grain start events added
+pub stops-map :
+    (P Q : List ℕ → Type 0) (grain : ℕ) (start : List ℕ) (events added : List Event)
+    → ((left : List ℕ) → P left → Q left) → EachStop P grain start events added
+    → EachStop Q grain start events added
 stops-map P Q grain start events added f stops moment fits left leaves = f left (stops moment fits left leaves)

@@ -1,12 +1,12 @@
 -- A commit on a disk that tells its trace.
-use Rattle.std.proofs.Common.{◌≡◌, ◌⊎◌, ⊎_elim, ℕ, ◌<◌, ◌≤◌, Bool, List, ◌++◌, length, take, drop, Some, sym, subst, ◌∙◌, ap, arith, append_assoc}
+use Rattle.std.proofs.Common.{◌≡◌, ⊎_elim, ℕ, ◌<◌, ◌≤◌, Bool, List, ◌++◌, length, take, drop, Some, sym, subst, ◌∙◌, ap, arith, append_assoc}
 use Rattle.std.proofs.lemmas.List.{take-take, take_all, take-append-drop, length-take}
 use Rattle.std.proofs.lemmas.Bool.{cases_lt}
 use Rattle.save_disk.specs.Trace.{Event, Told}
 use Rattle.save_disk.specs.State.{State, IsSound, Goes}
 use Rattle.save_disk.specs.Stops.{EachWrite, Fits}
 use Rattle.save_disk.specs.Writes.{GrewBy}
-use Rattle.save_disk.specs.Keeps.{HoldsAll, Agree, Keeps, EachStop, StopsLeave, IsFront, committing, image_committed}
+use Rattle.save_disk.specs.Keeps.{HoldsAll, Keeps, EachStop, StopsLeave, IsMomentOf, IsOldOrNew, committing}
 use Rattle.save_disk.proofs.Moments.{each_write-front}
 use Rattle.save_disk.proofs.Told.{told_grain, told_writes}
 use Rattle.save_disk.proofs.Commits.{commit_leaves}
@@ -20,7 +20,10 @@ front_of_front moment n all =
     (cases_lt moment n)
 
 -- where each write fits, what holds at each moment of a list holds at each of its fronts
-front_stops : (P : List ℕ → Type 0) (told : Told) (all added : List Event) → IsFront all added → EachWrite (Fits told.grain (length told.start)) (told.events ++ added) → EachStop P told.grain told.start told.events all → StopsLeave P told added
+front_stops :
+    (P : List ℕ → Type 0) (told : Told) (all added : List Event) → IsMomentOf all added
+    → EachWrite (Fits told.grain (length told.start)) (told.events ++ added)
+    → EachStop P told.grain told.start told.events all → StopsLeave P told added
 front_stops P told all added (n, is) fits stops moment left leaves =
     let found = front_of_front moment n all in
     let same : take moment added ≡ take found.0 all = ap (take moment) is ∙ found.1 in
@@ -28,15 +31,41 @@ front_stops P told all added (n, is) fits stops moment left leaves =
     let fit : EachWrite (Fits told.grain (length told.start)) (told.events ++ take moment added) = each_write-front (Fits told.grain (length told.start)) (told.events ++ take moment added) (drop moment added) (subst (EachWrite (Fits told.grain (length told.start))) (sym whole) fits) in
     (rw (← same) at (stops found.0)) fit left leaves
 
-pub commit_on_disk : (places : ℕ → Bool) (image : List ℕ) (before after : State) (told : Told) (writes : List Event) (sector : ℕ) (bytes : List ℕ) → before.told ≡ Some told → IsSound before → IsSound after → Keeps places image told.grain told.start told.events → EachWrite (HoldsAll places told.grain image) writes → Goes (GrewBy (IsFront (committing writes sector bytes))) before after → Goes (GrewBy (StopsLeave (λ left. Agree places image left ⊎ (left ≡ image_committed told.grain told.start told.events writes sector bytes)) told)) before after
-commit_on_disk places image before after told writes sector bytes begins first sound keeps holds goes now is =
-    let same : told ≡ now = cc in
-    let went = goes now is in
-    let next = went.0 in
-    let grew : GrewBy (IsFront (committing writes sector bytes)) told went.0 = subst (λ (t : Told). GrewBy (IsFront (committing writes sector bytes)) t went.0) (sym same) went.2 in
-    let fits : EachWrite (Fits told.grain (length told.start)) (told.events ++ grew.added) = rw (grew.grain, grew.start, grew.events) at (told_writes after went.0 sound went.1) in
-    let some : 1 ≤ told.grain = let grain = told_grain before told first begins in ⊎_elim (λ (narrow : before.grain ≡ 512). omega arith) (λ (wide : before.grain ≡ 4096). omega arith) first.grain in
-    let stops = commit_leaves places image told.grain told.start told.events writes sector bytes some keeps holds in
-    let safe : StopsLeave (λ left. Agree places image left ⊎ (left ≡ image_committed told.grain told.start told.events writes sector bytes)) told grew.added = front_stops (λ left. Agree places image left ⊎ (left ≡ image_committed told.grain told.start told.events writes sector bytes)) told (committing writes sector bytes) grew.added grew.such fits stops in
-    let leaves : GrewBy (StopsLeave (λ left. Agree places image left ⊎ (left ≡ image_committed told.grain told.start told.events writes sector bytes)) told) told went.0 = record { start = grew.start; grain = grew.grain; left = grew.left; added = grew.added; events = grew.events; such = safe } in
-    (went.0, went.1, subst (λ (t : Told). GrewBy (StopsLeave (λ left. Agree places image left ⊎ (left ≡ image_committed told.grain told.start told.events writes sector bytes)) told) t went.0) same leaves)
+module _ (places : ℕ → Bool) (image : List ℕ) (before after : State) (told : Told) (writes : List Event) (sector : ℕ) (bytes : List ℕ) where
+  abbrev pub IsSafe : List ℕ → Type 0
+  IsSafe = IsOldOrNew places image told.grain told.start told.events writes sector bytes
+
+  abbrev pub Commits : Told → Told → Type 0
+  Commits = GrewBy (IsMomentOf (committing writes sector bytes))
+
+  some_grain : before.told ≡ Some told → IsSound before → 1 ≤ told.grain
+  some_grain begins first =
+      let grain = told_grain before told first begins in
+      ⊎_elim (λ (narrow : before.grain ≡ 512). omega arith) (λ (wide : before.grain ≡ 4096). omega arith) first.grain
+
+  grown : (next : Told) → after.told ≡ Some next → 1 ≤ told.grain → IsSound after
+      → Keeps places image told.grain told.start told.events → EachWrite (HoldsAll places told.grain image) writes
+      → Commits told next → GrewBy (StopsLeave IsSafe told) told next
+  grown next is some sound keeps holds grew =
+      let fits : EachWrite (Fits told.grain (length told.start)) (told.events ++ grew.added) =
+      rw (grew.grain, grew.start, grew.events) at (told_writes after next sound is) in
+      let stops = commit_leaves places image told.grain told.start told.events writes sector bytes some keeps holds in
+      record {
+        start = grew.start;
+        grain = grew.grain;
+        left = grew.left;
+        added = grew.added;
+        events = grew.events;
+        such = front_stops IsSafe told (committing writes sector bytes) grew.added grew.such fits stops;
+      }
+
+  -- while a call adds a commit's events, or the first of them, a stop leaves what was or the new image
+  pub commit_on_disk : before.told ≡ Some told → IsSound before → IsSound after
+      → Keeps places image told.grain told.start told.events → EachWrite (HoldsAll places told.grain image) writes
+      → Goes Commits before after → Goes (GrewBy (StopsLeave IsSafe told)) before after
+  commit_on_disk begins first sound keeps holds goes now is =
+      let same : told ≡ now = cc in
+      let went = goes now is in
+      let grew : Commits told went.0 = subst (λ (t : Told). Commits t went.0) (sym same) went.2 in
+      let leaves = grown went.0 went.1 (some_grain begins first) sound keeps holds grew in
+      (went.0, went.1, subst (λ (t : Told). GrewBy (StopsLeave IsSafe told) t went.0) same leaves)

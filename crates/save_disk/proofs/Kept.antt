@@ -11,7 +11,10 @@ use Rattle.save_disk.proofs.Sectors.{same_from_sectors, in_synced, in_unsynced}
 use Rattle.save_disk.proofs.Moments.{each_write-front, each_write-append, image_after-append, length-image_after, synced-open, unsynced-open, synced-sync, unsynced-sync, synced-unsynced}
 
 -- a write that holds the places leaves an image that agrees on them
-agree_written : (places : ℕ → Bool) (image other : List ℕ) (grain sector : ℕ) (bytes : List ℕ) → length other ≡ length image → Fits grain (length image) sector bytes → HoldsAll places grain image sector bytes → Agree places image other → Agree places image (with_sector grain other sector bytes)
+agree_written :
+    (places : ℕ → Bool) (image other : List ℕ) (grain sector : ℕ) (bytes : List ℕ) → length other ≡ length image
+    → Fits grain (length image) sector bytes → HoldsAll places grain image sector bytes → Agree places image other
+    → Agree places image (with_sector grain other sector bytes)
 agree_written places image other grain sector bytes long fits holds agree x inside live =
     let begins : sector * grain < length other = omega (arith, fits.1) in
     ⊎_elim
@@ -27,7 +30,10 @@ agree_written places image other grain sector bytes long fits holds agree x insi
     (cases_lt x (sector * grain + grain)))
     (cases_lt x (sector * grain))
 
-agree_after : (places : ℕ → Bool) (image other : List ℕ) (grain : ℕ) (events : List Event) → length other ≡ length image → EachWrite (Fits grain (length image)) events → EachWrite (HoldsAll places grain image) events → Agree places image other → Agree places image (image_after grain other events)
+agree_after :
+    (places : ℕ → Bool) (image other : List ℕ) (grain : ℕ) (events : List Event) → length other ≡ length image
+    → EachWrite (Fits grain (length image)) events → EachWrite (HoldsAll places grain image) events
+    → Agree places image other → Agree places image (image_after grain other events)
 agree_after places image other grain [] long fits holds agree = agree
 agree_after places image other grain (Write sector bytes ∷ events) long fits holds agree =
     let fit = fits sector bytes (inl refl) in
@@ -53,7 +59,10 @@ module _ (grain : ℕ) (start : List ℕ) (events : List Event) (fits : EachWrit
 
 module _ (places : ℕ → Bool) (image : List ℕ) (grain : ℕ) (start : List ℕ) where
   -- an event that is no sync
-  keeps_open : (events : List Event) (event : Event) → has_sync (event ∷ []) ≡ false → EachWrite (HoldsAll places grain image) (event ∷ []) → Keeps places image grain start events → Keeps places image grain start (events ++ event ∷ [])
+  keeps_open :
+      (events : List Event) (event : Event) → has_sync (event ∷ []) ≡ false
+      → EachWrite (HoldsAll places grain image) (event ∷ []) → Keeps places image grain start events
+      → Keeps places image grain start (events ++ event ∷ [])
   keeps_open events event none holds keeps = record {
     size = keeps.size;
     synced = subst (λ (l : List Event). Agree places image (image_after grain start l)) (sym (synced-open (event ∷ []) none events)) keeps.synced;
@@ -61,26 +70,36 @@ module _ (places : ℕ → Bool) (image : List ℕ) (grain : ℕ) (start : List 
   }
 
   -- with all writes the places have their bytes
-  pub keeps_now : (events : List Event) → EachWrite (Fits grain (length start)) events → Keeps places image grain start events → Agree places image (image_after grain start events)
+  pub keeps_now :
+      (events : List Event) → EachWrite (Fits grain (length start)) events → Keeps places image grain start events
+      → Agree places image (image_after grain start events)
   keeps_now events fits keeps =
       let fit : EachWrite (Fits grain (length image)) (unsynced events) = rw keeps.size (fits_unsynced grain start events fits) in
       rw (image_unsynced grain start events fits)
       (agree_after places image (image_after grain start (synced events)) grain (unsynced events) (length-synced grain start events fits ∙ sym keeps.size) fit keeps.since keeps.synced)
 
-  keeps_sync : (events : List Event) → EachWrite (Fits grain (length start)) events → Keeps places image grain start events → Keeps places image grain start (events ++ Sync ∷ [])
+  keeps_sync :
+      (events : List Event) → EachWrite (Fits grain (length start)) events → Keeps places image grain start events
+      → Keeps places image grain start (events ++ Sync ∷ [])
   keeps_sync events fits keeps = record {
     size = keeps.size;
     synced = subst (λ (l : List Event). Agree places image (image_after grain start l)) (sym (synced-sync events)) (subst (Agree places image) (sym (image_after-append grain start events (Sync ∷ []))) (keeps_now events fits keeps));
     since = subst (EachWrite (HoldsAll places grain image)) (sym (unsynced-sync events)) (λ sector bytes has. absurd has);
   }
 
-  keeps_event : (events : List Event) (event : Event) → EachWrite (Fits grain (length start)) events → EachWrite (HoldsAll places grain image) (event ∷ []) → Keeps places image grain start events → Keeps places image grain start (events ++ event ∷ [])
+  keeps_event :
+      (events : List Event) (event : Event) → EachWrite (Fits grain (length start)) events
+      → EachWrite (HoldsAll places grain image) (event ∷ []) → Keeps places image grain start events
+      → Keeps places image grain start (events ++ event ∷ [])
   keeps_event events (Write sector bytes) fits holds keeps = keeps_open events (Write sector bytes) refl holds keeps
   keeps_event events Sync fits holds keeps = keeps_sync events fits keeps
   keeps_event events (Said bytes) fits holds keeps = keeps_open events (Said bytes) refl holds keeps
 
   -- more events keep the places, where each write among them holds them
-  pub keeps_more : (events added : List Event) → EachWrite (Fits grain (length start)) (events ++ added) → EachWrite (HoldsAll places grain image) added → Keeps places image grain start events → Keeps places image grain start (events ++ added)
+  pub keeps_more :
+      (events added : List Event) → EachWrite (Fits grain (length start)) (events ++ added)
+      → EachWrite (HoldsAll places grain image) added → Keeps places image grain start events
+      → Keeps places image grain start (events ++ added)
   keeps_more events [] fits holds keeps = subst (Keeps places image grain start) (sym (append-nil events)) keeps
   keeps_more events (event ∷ added) fits holds keeps =
       let whole : (events ++ event ∷ []) ++ added ≡ events ++ event ∷ added = append_assoc events (event ∷ []) added in
@@ -90,7 +109,9 @@ module _ (places : ℕ → Bool) (image : List ℕ) (grain : ℕ) (start : List 
       (keeps_more (events ++ event ∷ []) added (subst (EachWrite (Fits grain (length start))) (sym whole) fits) (λ s b has. holds s b (inr has)) next)
 
   -- each image that a stop may leave has the places' bytes
-  pub kept_leaves : (events : List Event) → 1 ≤ grain → Keeps places image grain start events → (left : List ℕ) → CrashMayLeave grain start events left → Agree places image left
+  pub kept_leaves :
+      (events : List Event) → 1 ≤ grain → Keeps places image grain start events → (left : List ℕ)
+      → CrashMayLeave grain start events left → Agree places image left
   kept_leaves events some keeps left leaves x inside live =
       let n = x / grain in
       let k = x % grain in
@@ -110,7 +131,10 @@ module _ (places : ℕ → Bool) (image : List ℕ) (grain : ℕ) (start : List 
       (leaves.sectors (x / grain) (omega (arith, keeps.size)))
 
 -- where nothing was written since the last sync, any places of the image as it is are kept
-pub synced_keeps : (places : ℕ → Bool) (grain : ℕ) (start : List ℕ) (events : List Event) → EachWrite (Fits grain (length start)) events → HasNoWrite (unsynced events) → Keeps places (image_after grain start (synced events)) grain start events
+pub synced_keeps :
+    (places : ℕ → Bool) (grain : ℕ) (start : List ℕ) (events : List Event)
+    → EachWrite (Fits grain (length start)) events → HasNoWrite (unsynced events)
+    → Keeps places (image_after grain start (synced events)) grain start events
 synced_keeps places grain start events fits none = record {
   size = length-synced grain start events fits;
   synced = λ x inside live. refl;
@@ -118,7 +142,10 @@ synced_keeps places grain start events fits none = record {
 }
 
 -- and a stop leaves that image and no other
-pub synced_leaves : (grain : ℕ) (start : List ℕ) (events : List Event) (left : List ℕ) → 1 ≤ grain → EachWrite (Fits grain (length start)) events → HasNoWrite (unsynced events) → CrashMayLeave grain start events left ↔ (left ≡ image_after grain start (synced events))
+pub synced_leaves :
+    (grain : ℕ) (start : List ℕ) (events : List Event) (left : List ℕ) → 1 ≤ grain
+    → EachWrite (Fits grain (length start)) events → HasNoWrite (unsynced events)
+    → CrashMayLeave grain start events left ↔ (left ≡ image_after grain start (synced events))
 synced_leaves grain start events left some fits none =
     let long = length-synced grain start events fits in (
       λ leaves.

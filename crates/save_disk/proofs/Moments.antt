@@ -7,15 +7,19 @@ use Rattle.save_disk.specs.Writes.{OnlyWrites}
 use Rattle.save_disk.proofs.SectorBytes.{length-with_sector}
 
 -- a write among events behind events is among the first or among the second
-pub has_write-left : (xs ys : List Event) (sector : ℕ) (bytes : List ℕ) → HasWrite xs sector bytes → HasWrite (xs ++ ys) sector bytes
+pub has_write-left :
+    (xs ys : List Event) (sector : ℕ) (bytes : List ℕ) → HasWrite xs sector bytes → HasWrite (xs ++ ys) sector bytes
 has_write-left [] ys sector bytes has = absurd has
 has_write-left (event ∷ xs) ys sector bytes has = ⊎_elim (λ here. inl here) (λ later. inr (has_write-left xs ys sector bytes later)) has
 
-pub has_write-right : (xs ys : List Event) (sector : ℕ) (bytes : List ℕ) → HasWrite ys sector bytes → HasWrite (xs ++ ys) sector bytes
+pub has_write-right :
+    (xs ys : List Event) (sector : ℕ) (bytes : List ℕ) → HasWrite ys sector bytes → HasWrite (xs ++ ys) sector bytes
 has_write-right [] ys sector bytes has = has
 has_write-right (event ∷ xs) ys sector bytes has = inr (has_write-right xs ys sector bytes has)
 
-has_write-cases : (xs ys : List Event) (sector : ℕ) (bytes : List ℕ) → HasWrite (xs ++ ys) sector bytes → HasWrite xs sector bytes ⊎ HasWrite ys sector bytes
+has_write-cases :
+    (xs ys : List Event) (sector : ℕ) (bytes : List ℕ) → HasWrite (xs ++ ys) sector bytes
+    → HasWrite xs sector bytes ⊎ HasWrite ys sector bytes
 has_write-cases [] ys sector bytes has = inr has
 has_write-cases (event ∷ xs) ys sector bytes has =
     ⊎_elim (λ here. inl (inl here)) (λ later. ⊎_elim (λ h. inl (inr h)) (λ h. inr h) (has_write-cases xs ys sector bytes later)) has
@@ -23,9 +27,6 @@ has_write-cases (event ∷ xs) ys sector bytes has =
 module _ (Q : ℕ → List ℕ → Type 0) where
   pub each_write-front : (xs ys : List Event) → EachWrite Q (xs ++ ys) → EachWrite Q xs
   each_write-front xs ys each = λ sector bytes has. each sector bytes (has_write-left xs ys sector bytes has)
-
-  pub each_write-rest : (xs ys : List Event) → EachWrite Q (xs ++ ys) → EachWrite Q ys
-  each_write-rest xs ys each = λ sector bytes has. each sector bytes (has_write-right xs ys sector bytes has)
 
   pub each_write-append : (xs ys : List Event) → EachWrite Q xs → EachWrite Q ys → EachWrite Q (xs ++ ys)
   each_write-append xs ys first second = λ sector bytes has. ⊎_elim (first sector bytes) (second sector bytes) (has_write-cases xs ys sector bytes has)
@@ -48,14 +49,18 @@ module _ (Q : ℕ → List ℕ → Type 0) where
   only_writes-each (Said said ∷ events) only = absurd only
 
 -- the images of events behind events
-pub image_after-append : (grain : ℕ) (image : List ℕ) (xs ys : List Event) → image_after grain image (xs ++ ys) ≡ image_after grain (image_after grain image xs) ys
+pub image_after-append :
+    (grain : ℕ) (image : List ℕ) (xs ys : List Event)
+    → image_after grain image (xs ++ ys) ≡ image_after grain (image_after grain image xs) ys
 image_after-append grain image [] ys = refl
 image_after-append grain image (Write sector bytes ∷ xs) ys = image_after-append grain (with_sector grain image sector bytes) xs ys
 image_after-append grain image (Sync ∷ xs) ys = image_after-append grain image xs ys
 image_after-append grain image (Said bytes ∷ xs) ys = image_after-append grain image xs ys
 
 -- writes of whole sectors that begin inside keep the length
-pub length-image_after : (grain : ℕ) (image : List ℕ) (events : List Event) → EachWrite (Fits grain (length image)) events → length (image_after grain image events) ≡ length image
+pub length-image_after :
+    (grain : ℕ) (image : List ℕ) (events : List Event) → EachWrite (Fits grain (length image)) events
+    → length (image_after grain image events) ≡ length image
 length-image_after grain image [] fits = refl
 length-image_after grain image (Write sector bytes ∷ events) fits =
     let fit = fits sector bytes (inl refl) in
@@ -125,12 +130,16 @@ pub synced-unsynced : (events : List Event) → synced events ++ unsynced events
 synced-unsynced [] = refl
 synced-unsynced (event ∷ events) = both (has_sync (event ∷ events)) (synced-unsynced events)
   where
-    both : (b : Bool) → synced events ++ unsynced events ≡ events → cond b (event ∷ synced events) [] ++ cond b (unsynced events) (event ∷ events) ≡ event ∷ events
+    both :
+        (b : Bool) → synced events ++ unsynced events ≡ events
+        → cond b (event ∷ synced events) [] ++ cond b (unsynced events) (event ∷ events) ≡ event ∷ events
     both true so_far = ap (λ (l : List Event). event ∷ l) so_far
     both false so_far = refl
 
 -- a law at each moment of events, and behind them at each of others, holds at each of all
-pub moments_join : (P : List Event → Type 0) (xs ys : List Event) → AtEachMoment P xs → AtEachMoment (λ front. P (xs ++ front)) ys → AtEachMoment P (xs ++ ys)
+pub moments_join :
+    (P : List Event → Type 0) (xs ys : List Event) → AtEachMoment P xs → AtEachMoment (λ front. P (xs ++ front)) ys
+    → AtEachMoment P (xs ++ ys)
 moments_join P [] ys first second = second
 moments_join P (event ∷ xs) ys first second = at (moments_join (λ front. P (event ∷ front)) xs ys (λ m. first (suc m)) second)
   where
@@ -139,7 +148,8 @@ moments_join P (event ∷ xs) ys first second = at (moments_join (λ front. P (e
     at later (suc moment) = later moment
 
 -- later events don't move an earlier sync
-pub until_sync-more : (events more : List Event) (n : ℕ) → n ≤ syncs events → until_sync (events ++ more) n ≡ until_sync events n
+pub until_sync-more :
+    (events more : List Event) (n : ℕ) → n ≤ syncs events → until_sync (events ++ more) n ≡ until_sync events n
 until_sync-more [] more n few = let none : n ≡ 0 = omega arith in rw none (first more)
   where
     first : (events : List Event) → until_sync events 0 ≡ []
@@ -162,18 +172,20 @@ some_counted (Write sector bytes ∷ events) has = omega (arith, some_counted ev
 some_counted (Sync ∷ events) has = omega arith
 some_counted (Said bytes ∷ events) has = omega (arith, some_counted events has)
 
-until_zero : (events : List Event) → until_sync events 0 ≡ []
-until_zero [] = refl
-until_zero (event ∷ events) = refl
-
-until_open : (event : Event) (events : List Event) (n : ℕ) → is_sync event ≡ false → 1 ≤ n → until_sync (event ∷ events) n ≡ event ∷ until_sync events n
+until_open :
+    (event : Event) (events : List Event) (n : ℕ) → is_sync event ≡ false → 1 ≤ n
+    → until_sync (event ∷ events) n ≡ event ∷ until_sync events n
 until_open event events zero free some = absurd (omega arith)
 until_open event events (suc n) free some = ap (λ (b : Bool). event ∷ until_sync events (cond b n (suc n))) free
 
-opened : (event : Event) (events : List Event) → is_sync event ≡ false → synced events ≡ until_sync events (syncs events) → cond (has_sync events) (event ∷ synced events) [] ≡ until_sync (event ∷ events) (0 + syncs events)
+opened :
+    (event : Event) (events : List Event) → is_sync event ≡ false → synced events ≡ until_sync events (syncs events)
+    → cond (has_sync events) (event ∷ synced events) [] ≡ until_sync (event ∷ events) (0 + syncs events)
 opened event events free so_far = both (has_sync events) refl
   where
-    both : (b : Bool) → has_sync events ≡ b → cond (has_sync events) (event ∷ synced events) [] ≡ until_sync (event ∷ events) (0 + syncs events)
+    both :
+        (b : Bool) → has_sync events ≡ b
+        → cond (has_sync events) (event ∷ synced events) [] ≡ until_sync (event ∷ events) (0 + syncs events)
     both true has = rw (has, zero-add (syncs events), until_open event events (syncs events) free (some_counted events has)) (ap (λ (l : List Event). event ∷ l) so_far)
     both false none = rw (none, zero-add (syncs events), none_counted events none) refl
 

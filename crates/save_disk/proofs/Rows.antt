@@ -1,10 +1,10 @@
 -- Small traces worked out: one sector, a short last one, live and dead bytes in one, and two commits.
-use Rattle.std.proofs.Common.{◌≡◌, ◌⊎◌, ◌↔◌, ⊎_elim, inl, inr, ℕ, zero, suc, ◌+◌, ◌-◌, ◌*◌, ◌<◌, ◌≤◌, nat_lt, Bool, true, false, IsTrue, List, [], ◌∷◌, ◌++◌, length, take, drop, get_or, replicate, refl, sym, ◌∙◌, ap, subst, arith}
+use Rattle.std.proofs.Common.{◌≡◌, ◌⊎◌, ⊎_elim, inl, inr, ℕ, zero, suc, ◌+◌, ◌-◌, ◌*◌, ◌<◌, ◌≤◌, Bool, List, [], ◌∷◌, ◌++◌, length, take, drop, get_or, replicate, refl, sym, ◌∙◌, ap, subst, arith}
 use Rattle.std.proofs.lemmas.List.{take_all, length-replicate, get_or-replicate, take-replicate, drop-replicate, append-nil}
 use Rattle.std.proofs.Math.Nat.{zero-mul, one-mul, suc-mul}
 use borrow.Author.Tests.{ltb-true}
-use Rattle.save_disk.specs.Trace.{Event, Write, Sync, sector_cut, with_sector, image_after}
-use Rattle.save_disk.specs.Stops.{HasWrite, EachWrite, Fits, IsVersion, CrashMayLeave}
+use Rattle.save_disk.specs.Trace.{Event, Write, Sync, sector_cut, with_sector}
+use Rattle.save_disk.specs.Stops.{EachWrite, Fits, IsVersion, CrashMayLeave}
 use Rattle.save_disk.specs.Keeps.{HoldsAll, Agree, Keeps, EachStop, committing, image_committed}
 use Rattle.save_disk.specs.StopRows.{LeavesEitherWrite, LeavesSyncedOrLater, LeavesShortSector, HoldsLiveBytes, LosesALiveByte, is_live}
 use Rattle.save_disk.proofs.Moments.{each_write-append}
@@ -34,7 +34,9 @@ module _ (grain : ℕ) (start : List ℕ) (events : List Event) (left : List ℕ
       first_of_one (suc n) below = absurd (omega (arith, suc-mul n grain))
 
 -- bytes of a whole sector, cut to an image of one
-whole_piece : (grain value other : ℕ) → take (length (replicate grain other) - 0 * grain) (replicate grain value) ≡ replicate grain value
+whole_piece :
+    (grain value other : ℕ)
+    → take (length (replicate grain other) - 0 * grain) (replicate grain value) ≡ replicate grain value
 whole_piece grain value other = take_all (length (replicate grain other) - 0 * grain) (replicate grain value) (omega (arith, zero-mul grain, length-replicate grain value, length-replicate grain other))
 
 first_piece : (grain value : ℕ) → sector_cut grain (replicate grain value) 0 ≡ replicate grain value
@@ -46,7 +48,9 @@ either_write grain some left = (there, back)
     zeros : List ℕ
     zeros = replicate grain 0
 
-    there : CrashMayLeave grain (replicate grain 0) (Write 0 (replicate grain 1) ∷ Write 0 (replicate grain 2) ∷ []) left → (left ≡ replicate grain 0) ⊎ ((left ≡ replicate grain 1) ⊎ (left ≡ replicate grain 2))
+    there :
+        CrashMayLeave grain (replicate grain 0) (Write 0 (replicate grain 1) ∷ Write 0 (replicate grain 2) ∷ []) left
+        → (left ≡ replicate grain 0) ⊎ ((left ≡ replicate grain 1) ⊎ (left ≡ replicate grain 2))
     there leaves =
         ⊎_elim
         (λ (old : left ≡ sector_cut grain (replicate grain 0) 0). inl (old ∙ first_piece grain 0))
@@ -60,7 +64,9 @@ either_write grain some left = (there, back)
         new.1)
         (one_sector grain (replicate grain 0) (Write 0 (replicate grain 1) ∷ Write 0 (replicate grain 2) ∷ []) left some (length-replicate grain 0) leaves).1
 
-    back : (left ≡ replicate grain 0) ⊎ ((left ≡ replicate grain 1) ⊎ (left ≡ replicate grain 2)) → CrashMayLeave grain (replicate grain 0) (Write 0 (replicate grain 1) ∷ Write 0 (replicate grain 2) ∷ []) left
+    back :
+        (left ≡ replicate grain 0) ⊎ ((left ≡ replicate grain 1) ⊎ (left ≡ replicate grain 2))
+        → CrashMayLeave grain (replicate grain 0) (Write 0 (replicate grain 1) ∷ Write 0 (replicate grain 2) ∷ []) left
     back =
         ⊎_elim
         (λ (old : left ≡ replicate grain 0). of_one_sector grain (replicate grain 0) (Write 0 (replicate grain 1) ∷ Write 0 (replicate grain 2) ∷ []) left some (length-replicate grain 0) (ap length old ∙ length-replicate grain 0) (inl (old ∙ sym (first_piece grain 0))))
@@ -74,7 +80,9 @@ synced_or_later grain some left = (there, back)
     kept : sector_cut grain (with_sector grain (replicate grain 0) 0 (replicate grain 1)) 0 ≡ replicate grain 1
     kept = cut_own grain (replicate grain 0) 0 (replicate grain 1) (omega (arith, zero-mul grain, length-replicate {A = ℕ} grain 0)) (length-replicate grain 1) ∙ whole_piece grain 1 0
 
-    there : CrashMayLeave grain (replicate grain 0) (Write 0 (replicate grain 1) ∷ Sync ∷ Write 0 (replicate grain 2) ∷ []) left → (left ≡ replicate grain 1) ⊎ (left ≡ replicate grain 2)
+    there :
+        CrashMayLeave grain (replicate grain 0) (Write 0 (replicate grain 1) ∷ Sync ∷ Write 0 (replicate grain 2) ∷ []) left
+        → (left ≡ replicate grain 1) ⊎ (left ≡ replicate grain 2)
     there leaves =
         ⊎_elim
         (λ (old : left ≡ sector_cut grain (with_sector grain (replicate grain 0) 0 (replicate grain 1)) 0). inl (old ∙ kept))
@@ -84,14 +92,18 @@ synced_or_later grain some left = (there, back)
         (λ none. absurd none) new.1)
         (one_sector grain (replicate grain 0) (Write 0 (replicate grain 1) ∷ Sync ∷ Write 0 (replicate grain 2) ∷ []) left some (length-replicate grain 0) leaves).1
 
-    back : (left ≡ replicate grain 1) ⊎ (left ≡ replicate grain 2) → CrashMayLeave grain (replicate grain 0) (Write 0 (replicate grain 1) ∷ Sync ∷ Write 0 (replicate grain 2) ∷ []) left
+    back :
+        (left ≡ replicate grain 1) ⊎ (left ≡ replicate grain 2)
+        → CrashMayLeave grain (replicate grain 0) (Write 0 (replicate grain 1) ∷ Sync ∷ Write 0 (replicate grain 2) ∷ []) left
     back =
         ⊎_elim
         (λ (first : left ≡ replicate grain 1). of_one_sector grain (replicate grain 0) (Write 0 (replicate grain 1) ∷ Sync ∷ Write 0 (replicate grain 2) ∷ []) left some (length-replicate grain 0) (ap length first ∙ length-replicate grain 1) (inl (first ∙ sym kept)))
         (λ (second : left ≡ replicate grain 2). of_one_sector grain (replicate grain 0) (Write 0 (replicate grain 1) ∷ Sync ∷ Write 0 (replicate grain 2) ∷ []) left some (length-replicate grain 0) (ap length second ∙ length-replicate grain 2) (inr (replicate grain 2, inl refl, second ∙ sym (whole_piece grain 2 0))))
 
 -- the image with the short sector written
-short_written : (grain : ℕ) → 3 ≤ grain → with_sector grain (replicate (grain + 3) 0) 1 (replicate grain 7) ≡ replicate grain 0 ++ replicate 3 7
+short_written :
+    (grain : ℕ) → 3 ≤ grain
+    → with_sector grain (replicate (grain + 3) 0) 1 (replicate grain 7) ≡ replicate grain 0 ++ replicate 3 7
 unfolding with_sector
 short_written grain some =
     let long = length-replicate {A = ℕ} (grain + 3) 0 in
@@ -145,7 +157,12 @@ loses_a_live_byte grain some holds =
     absurd (omega (arith, wrong))
 
 -- two commits, of which the second holds what the first made
-pub two_commits : (grain : ℕ) (start : List ℕ) (kept next : ℕ → Bool) (one two : List Event) (sector other : ℕ) (bytes more : List ℕ) → 1 ≤ grain → EachWrite (Fits grain (length start)) (committing one sector bytes) → EachWrite (HoldsAll kept grain start) one → EachWrite (HoldsAll next grain (image_committed grain start [] one sector bytes)) two → EachStop (λ left. Agree kept start left ⊎ (Agree next (image_committed grain start [] one sector bytes) left ⊎ (left ≡ image_committed grain start (committing one sector bytes) two other more))) grain start [] (committing one sector bytes ++ committing two other more)
+pub two_commits :
+    (grain : ℕ) (start : List ℕ) (kept next : ℕ → Bool) (one two : List Event) (sector other : ℕ) (bytes more : List ℕ)
+    → 1 ≤ grain → EachWrite (Fits grain (length start)) (committing one sector bytes)
+    → EachWrite (HoldsAll kept grain start) one
+    → EachWrite (HoldsAll next grain (image_committed grain start [] one sector bytes)) two
+    → EachStop (λ left. Agree kept start left ⊎ (Agree next (image_committed grain start [] one sector bytes) left ⊎ (left ≡ image_committed grain start (committing one sector bytes) two other more))) grain start [] (committing one sector bytes ++ committing two other more)
 two_commits grain start kept next one two sector other bytes more some fits holds holds_next =
     let middle = image_committed grain start [] one sector bytes in
     let last = image_committed grain start (committing one sector bytes) two other more in

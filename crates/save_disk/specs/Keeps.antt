@@ -1,5 +1,5 @@
 -- What a stop leaves of some places of an image: of each byte that must not be lost.
-use Rattle.std.specs.Prelude.{ℕ, ◌+◌, ◌-◌, ◌*◌, ◌<◌, ◌≤◌, ◌≡◌, Bool, IsTrue, List, [], ◌∷◌, ◌++◌, length, take, slice_index}
+use Rattle.std.specs.Prelude.{ℕ, ◌+◌, ◌-◌, ◌*◌, ◌<◌, ◌≤◌, ◌≡◌, ◌⊎◌, Bool, IsTrue, List, [], ◌∷◌, ◌++◌, length, take, slice_index}
 use Rattle.save_disk.specs.Trace.{Event, Write, Sync, Told, image_after}
 use Rattle.save_disk.specs.Stops.{synced, unsynced, EachWrite, Fits, CrashMayLeave, AtEachMoment}
 
@@ -31,9 +31,9 @@ EachStop P grain start events added =
 abbrev pub StopsLeave : (List ℕ → Type 0) → Told → List Event → Type 0
 StopsLeave P told added = AtEachMoment (λ front. (left : List ℕ) → CrashMayLeave told.grain told.start (told.events ++ front) left → P left) added
 
--- the first of these events, and perhaps all
-abbrev pub IsFront : List Event → List Event → Type 0
-IsFront all events = (n : ℕ) × (events ≡ take n all)
+-- the events up to a moment of these
+abbrev pub IsMomentOf : List Event → List Event → Type 0
+IsMomentOf all events = (n : ℕ) × (events ≡ take n all)
 
 -- what a commit adds behind its other writes: a sync, one write, and a sync
 abbrev pub committing : List Event → ℕ → List ℕ → List Event
@@ -42,3 +42,8 @@ committing writes sector bytes = writes ++ Sync ∷ Write sector bytes ∷ Sync 
 -- the image once a commit's one write is done
 abbrev pub image_committed : ℕ → List ℕ → List Event → List Event → ℕ → List ℕ → List ℕ
 image_committed grain start events writes sector bytes = image_after grain start (events ++ (writes ++ Write sector bytes ∷ []))
+
+-- the places are as they were, or it is the image that the commit makes
+abbrev pub IsOldOrNew : (ℕ → Bool) → List ℕ → ℕ → List ℕ → List Event → List Event → ℕ → List ℕ → List ℕ → Type 0
+IsOldOrNew places image grain start events writes sector bytes left =
+    Agree places image left ⊎ (left ≡ image_committed grain start events writes sector bytes)

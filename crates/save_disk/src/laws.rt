@@ -5,7 +5,7 @@ ghost use Rattle.save_disk.specs.Trace.{Event, Write, Told, image_after};
 ghost use Rattle.save_disk.specs.State.{State, IsSound, Goes};
 ghost use Rattle.save_disk.specs.Writes.{GrewBy};
 ghost use Rattle.save_disk.specs.Stops.{CrashMayLeave, HasNoWrite, EachWrite, Fits, AtEachMoment, synced, unsynced, syncs, until_sync};
-ghost use Rattle.save_disk.specs.Keeps.{HoldsAll, Agree, Keeps, EachStop, StopsLeave, IsFront, committing, image_committed};
+ghost use Rattle.save_disk.specs.Keeps.{HoldsAll, Agree, Keeps, EachStop, StopsLeave, IsMomentOf, IsOldOrNew, committing, image_committed};
 
 /// Where a trace has no write, a stop leaves the image of its start and no other.
 pub fn leaves_start()
@@ -69,7 +69,7 @@ pub fn writes_that_hold_are_safe()
 pub fn a_commit_leaves_old_or_new()
     ensures { (places : ℕ → Bool) (image : List ℕ) (grain : ℕ) (start : List ℕ) (events writes : List Event) (sector : ℕ) (bytes : List ℕ)
         → 1 ≤ grain → Keeps places image grain start events → EachWrite (HoldsAll places grain image) writes
-        → EachStop (λ left. Agree places image left ⊎ (left ≡ image_committed grain start events writes sector bytes))
+        → EachStop (IsOldOrNew places image grain start events writes sector bytes)
         grain start events (committing writes sector bytes) }
 {}
 
@@ -78,8 +78,8 @@ pub fn a_commit_on_a_disk_leaves_old_or_new()
     ensures { (places : ℕ → Bool) (image : List ℕ) (before after : State) (told : Told) (writes : List Event) (sector : ℕ) (bytes : List ℕ)
         → before.told ≡ Some told → IsSound before → IsSound after
         → Keeps places image told.grain told.start told.events → EachWrite (HoldsAll places told.grain image) writes
-        → Goes (GrewBy (IsFront (committing writes sector bytes))) before after
-        → Goes (GrewBy (StopsLeave (λ left. Agree places image left ⊎ (left ≡ image_committed told.grain told.start told.events writes sector bytes)) told)) before after }
+        → Goes (GrewBy (IsMomentOf (committing writes sector bytes))) before after
+        → Goes (GrewBy (StopsLeave (IsOldOrNew places image told.grain told.start told.events writes sector bytes) told)) before after }
 {}
 
 /// Behind a commit any places of the new image are kept.
