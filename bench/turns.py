@@ -15,7 +15,7 @@ sys.path.insert(0, os.path.join(TOP, 'checks'))
 
 def build() -> None:
     """Builds the program where it is not built yet."""
-    subprocess.run([os.path.join(TOP, 'save')], stdout=subprocess.DEVNULL, stderr=subprocess.DEVNULL)
+    subprocess.run([os.path.join(TOP, 'save'), '--build'], stdout=subprocess.DEVNULL, stderr=subprocess.DEVNULL)
 
 
 def said(words: list) -> str:
