@@ -47,4 +47,4 @@ def ratio(middle: dict, one: str, other: str) -> None:
 def ratio_beyond(middle: dict, one: str, other: str) -> None:
     """The ratio of what two commands take beyond starting a process."""
     own, others = (middle[name] - middle['true'] for name in (one, other))
-    print(f'{one} beyond true / {other} beyond true {own / others:.2f}')
+    print(f'{one} beyond true / {other} beyond true {own / others:7.2f}')
