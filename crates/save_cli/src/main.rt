@@ -37,7 +37,7 @@ fn desk_for<'a>(rt: &'a HostRuntime, words: &Words) -> FileDesk<'a>
         return FileDesk::none(rt);
     }
     match str::from_utf8(words.get(0)) {
-        Ok(path) => FileDesk::new(rt, path, None, GRAIN),
+        Ok(path) => FileDesk::reading(rt, path, GRAIN),
         Err(_) => FileDesk::none(rt),
     }
 }
