@@ -71,9 +71,10 @@ module _ {D : Type 0} (states : D → disks.State) (s t : Store D) (refusal : Op
   }
 
   same_spot : (spot : Spot) → ContainerSpot spot s.container.now t.container.now
-  same_spot (Mark part level block) = rw kept.parts
-      (PartSpot-same (Mark part level block) s.container.now.parts.first,
-      second_same (PartSpot (Mark part level block)) (PartSpot-same (Mark part level block)) s.container.now.parts.second)
+  same_spot (Mark part level block) = rw kept.parts (
+    PartSpot-same (Mark part level block) s.container.now.parts.first,
+    second_same (PartSpot (Mark part level block)) (PartSpot-same (Mark part level block)) s.container.now.parts.second,
+  )
   same_spot Frame = kept
   same_spot spot = tt
 

@@ -56,7 +56,7 @@ store_fits base first None table fits sound =
     let view = first_view base first table None sound in
     let small = fits view.contents.sound in
     omega (arith, four_fits base first table small view, small)
-store_fits base first (Some part) table fits sound = 
+store_fits base first (Some part) table fits sound =
     ltb-true _ _ (and_parts (part_state base part table).shape.sound _
     (and_parts (part_state base first table).shape.sound _ (and_parts (not (first.number == part.number)) _ sound).1).1).1
 

@@ -125,5 +125,5 @@ pub view_cells : (base new : State) (part_at : ℕ) (difi : Difi) (state : DpfsS
 view_cells base new part_at difi state tree same = λ x inside.
     (let marked = is_marked state.touched.items in
     let there = place_by-same base.shape part_at difi state.selector tree (bytes_of base.cells) (bytes_of new.cells)
-        (λ y h. rw (same y h) refl) marked x in
+    (λ y h. rw (same y h) refl) marked x in
     rw there (same _ (place_by-inside base.shape part_at difi state.selector tree marked (bytes_of base.cells) x inside)))

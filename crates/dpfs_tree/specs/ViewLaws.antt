@@ -221,7 +221,7 @@ module _ {S : Type 0} (states : S → State) (s t : DpfsView S) (same : SameCont
       let old = bytes_of (states s.base.now).cells in
       let new = bytes_of (states t.base.now).cells in
       let there : LandsAsBefore (view_size s.difi.now) (contents_land states lands s)
-          (ContentsLand new s.part_at s.difi.now s.state.now.selector (lands t.base.now)) =
+      (ContentsLand new s.part_at s.difi.now s.state.now.selector (lands t.base.now)) =
       lands_as_before (states s.base.now).shape s.part_at s.difi.now s.state.now.selector tree old new (λ y h. rw (cells y h) refl)
       (lands s.base.now) (lands t.base.now) as_before in
       rw (same.same_place, same.same_difi, same.selector) there

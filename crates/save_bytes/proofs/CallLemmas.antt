@@ -57,7 +57,7 @@ module _ {A : Type 0} (states : A → State) (keeps : Spot → A → A → Type 
     reach-join s t u refusal shape first =
         let size : (states t).shape.size ≡ (states s).shape.size = ap (λ (shape : Shape). shape.size) shape in
         UnlessDisk-map refusal (λ (later : LandsAsBefore (states t).shape.size (lands t) (lands u)). λ x below spot lands_u.
-            first x below spot (later x (omega arith) spot lands_u))
+        first x below spot (later x (omega arith) spot lands_u))
 
     -- a call behind a call
     pub Reads-join : (s t u : A) (refusal : Option Bad) → Reads states keeps lands s t None → Reads states keeps lands t u refusal

@@ -24,7 +24,7 @@ CanPut-part s at n done m fits can =
       told = can.told;
       apart = λ j k in_j in_k same.
           (let there = can.apart (done + j) (done + k) (omega (arith, in_j)) (omega (arith, in_k))
-              (sym (ap s.bottom (place j)) ∙ same ∙ ap s.bottom (place k)) in
+          (sym (ap s.bottom (place j)) ∙ same ∙ ap s.bottom (place k)) in
           omega (arith, there));
       free = λ k less. ap s.is_fixed (place k) ∙ can.free (done + k) (omega (arith, less));
     }
@@ -88,7 +88,7 @@ module _ (s t u : State) (at : ℕ) (xs ys : List ℕ) (fits : at + length xs + 
   ranges_apart can j k in_j in_k same =
       let place : at + length xs + k ≡ at + (length xs + k) = omega arith in
       let there = can.apart j (length xs + k) (omega (arith, in_j, length-append xs ys)) (omega (arith, in_k, length-append xs ys))
-          (same ∙ ap s.bottom place) in
+      (same ∙ ap s.bottom place) in
       omega (arith, there, in_j)
 
   -- a put behind a put; where the second is refused for no damaged cell
@@ -286,7 +286,7 @@ module _ {A : Type 0} (states : A → State) (keeps : Spot → A → A → Type 
       let space = h.stays.space in
       let size : (states b).shape.size ≡ (states a).shape.size = ap (λ (shape : Shape). shape.size) space.shape in
       let can_b : CanPut (states a) at n → CanPut (states b) at n =
-          λ can. CanPut-later (states a) (states b) at n fits (space.told can.told) (space.twins can.told) can in
+      λ can. CanPut-later (states a) (states b) at n fits (space.told can.told) (space.twins can.told) can in
       record {
         hold = join Hold a b c (hold h.frame) k.hold;
         spots = λ can spot misses. join spot a b c (h.spots can.told spot)

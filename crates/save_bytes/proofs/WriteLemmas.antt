@@ -63,7 +63,7 @@ module _ {A : Type 0} (states : A → State) (keeps : Spot → A → A → Type 
         spots = λ told spot misses. join spot s t u (h.spots told spot misses)
             (k.spots (h.space.told told) spot
             (λ x below site lands_t. (let inside : x < (states s).shape.size = omega arith in
-                misses x inside site (h.reach told x inside spot lands_t))));
+            misses x inside site (h.reach told x inside spot lands_t))));
         reach = λ told. UnlessDisk-map refusal
             (λ (later : LandsAsBefore (states t).shape.size (lands t) (lands u)). λ x below spot lands_u.
             h.reach told x below spot (later x (omega arith) spot lands_u)) (k.reach (h.space.told told));

@@ -10,7 +10,7 @@ returns-clause-found g c =
     let states = g.S.Space.state in
     let size : difi.place + difi.master.at + difi.master.size - (difi.place + difi.master.at) ≡ difi.master.size = omega arith in
     let found = found_part (states c.args.base.now) (states c.find_in.new.contents.base.now) c.args.part.now c.args.table.now c.args.at c.args.most c.find_in.result
-        (rw (holds.base_now, holds.same_place, holds.same_difi, holds.state_now, size) at c.find_in.ensures.found) in
+    (rw (holds.base_now, holds.same_place, holds.same_difi, holds.state_now, size) at c.find_in.ensures.found) in
     search rules
 
 pub returns-clause-reads : goal.returns-clause-reads
@@ -20,7 +20,7 @@ returns-clause-reads g c =
     let holds = c.new-contents.ensures.holds in
     let contents = c.requires.view.contents in
     let reads = base_reads space.state space.keeps space.lands laws.keeps_hold laws.keeps_shape laws.keeps_cells laws.keeps_lands
-        c.new-contents.result c.find_in.new.contents (result_err c.find_in.result)
-        (rw holds.base_now contents.sound) (rw holds.base_now contents.single) c.find_in.ensures.reads in
+    c.new-contents.result c.find_in.new.contents (result_err c.find_in.result)
+    (rw holds.base_now contents.sound) (rw holds.base_now contents.single) c.find_in.ensures.reads in
     let same = rw holds.base_now at reads in
     search rules

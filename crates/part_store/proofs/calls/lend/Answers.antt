@@ -21,7 +21,7 @@ returns g c =
         refl,
         λ _. tt,
         Reads-join space.state space.keeps space.lands g.met.S.Space.keeps_join c.args.base.now c.find.new.base last (result_err c.piece.result)
-        found.reads c.piece.follows.holds-at-none,
+            found.reads c.piece.follows.holds-at-none,
       ),
       record {
         piece = found_piece _ (space.state c.find.new.base) c.args.at c.args.most c.in-Ok.run'.0 c.in-Ok.run'.1

@@ -17,5 +17,5 @@ returns-clause-zero g c = λ told.
     let floor = g.met.F.Floor in
     let can = can_put old _ _ (g.met.F.Space.no_twins c.args.space.now (floor.ground c.args.space.now).single) told in
     let zero : new.cells c.args.at ≡ Byte 0 =
-        HasPut-cleared old c.args.at new.cells (floor.blocks c.args.space.now c.requires.sound) (omega arith) (puts.done can) c.args.at (omega arith) refl in
+    HasPut-cleared old c.args.at new.cells (floor.blocks c.args.space.now c.requires.sound) (omega arith) (puts.done can) c.args.at (omega arith) refl in
     read_zero c.read_one.result (new.cells c.args.at) zero (c.read_one.ensures.byte (puts.space.told can))

@@ -15,7 +15,7 @@ returns-clause-quiet g c = λ clean.
     let states = g.D.Disk.state in
     let holds = c.store-store.ensures.holds in
     let quiet = store_quiet states (store_lands states) c.store-store.result c.copy.new.self (result_err c.copy.result)
-        (rw holds.container_now clean) c.copy.ensures.reads in
+    (rw holds.container_now clean) c.copy.ensures.reads in
     let still = rw holds.disk_now at quiet in
     search rules
 

@@ -19,7 +19,7 @@ pub returns-in_err-done-clause-reads : goal.returns-in_err-done-clause-reads
 returns-in_err-done-clause-reads g c =
     let states = g.D.Disk.state in
     let reads = Reads-join (shown states) (StoreKeeps states) (store_lands states) (StoreKeeps-join states) c.args.self.now c.loop-done.self
-        c.copy_piece.new.self (Some c.in_err-done.field-0.0) c.loop-done.invariant.reads c.in_err-done.ensures.reads in
+    c.copy_piece.new.self (Some c.in_err-done.field-0.0) c.loop-done.invariant.reads c.in_err-done.ensures.reads in
     search rules
 
 pub loop-done-preserved : goal.loop-done-preserved

@@ -31,21 +31,20 @@ returns g c =
     let same = first.reads.frame.0 in
     let run = c.in-Ok.run' in
     let reads = Reads-join space.state space.keeps space.lands g.met.S.Space.keeps_join view.base.now mid.base.now last refusal first.base
-        c.piece.follows.holds-at-none in
-    (
+    c.piece.follows.holds-at-none in (
       (
         refl,
         λ _. tt,
         contents_read space.state space.keeps space.lands view _ refusal
-        (record {
-          same_base = same.same_base;
-          same_place = same.same_place;
-          same_difi = same.same_difi;
-          same_state = same.same_state;
-          marks = same.marks;
-          selector = same.selector;
-        })
-        first.reads.frame.1 tree reads,
+            (record {
+              same_base = same.same_base;
+              same_place = same.same_place;
+              same_difi = same.same_difi;
+              same_state = same.same_state;
+              marks = same.marks;
+              selector = same.selector;
+            })
+            first.reads.frame.1 tree reads,
       ),
       record {
         piece = view_piece base view.part_at view.difi.now view.state.now c.args.at (space.state mid.base.now) c.args.most

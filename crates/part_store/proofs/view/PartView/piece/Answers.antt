@@ -27,15 +27,14 @@ returns g c =
     let can = true-can_view (space.state first).shape view.part.now (length view.table.now) c.requires.inside.sound in
     let small = g.met.S.Space.size_fits first can.contents.sound in
     let reads = Reads-join space.state space.keeps space.lands g.met.S.Space.keeps_join first mid last refusal before.base
-        c.piece.follows.holds-at-none in
-    let plain = subst (λ (shape : Shape). IsTrue shape.plain) (sym before.base.stays.space.shape) can.contents.plain in
-    (
+    c.piece.follows.holds-at-none in
+    let plain = subst (λ (shape : Shape). IsTrue shape.plain) (sym before.base.stays.space.shape) can.contents.plain in (
       (
         refl,
         λ _. tt,
         (
           rw (same.part_now, same.table_now)
-          (part_from_base (space.state first) (space.state last) view.part.now view.table.now refusal small can reads.stays),
+              (part_from_base (space.state first) (space.state last) view.part.now view.table.now refusal small can reads.stays),
           reads,
           record { same_base = same.same_base; same_part = same.same_part; part_now = same.part_now; same_table = same.same_table; table_now = same.table_now },
         ),
