@@ -1,6 +1,6 @@
 -- Which words ask for the signer's tag.
 use Rattle.std.specs.Prelude.{Option, Some, None, IsTrue}
-use Rattle.save_top.specs.declared.order.Order.{Order}
+use Rattle.save_top.specs.declared.form.Order.{Order}
 
 abbrev pub AsksForTag : Option Order → Type 0
 AsksForTag None = ⊥

@@ -9,7 +9,7 @@ ghost use Rattle.save_cli.specs.Signing.{AsksForTag};
 
 use save_bytes::Words;
 use save_disk::{FileDesk, PlainSigner, ZeroSigner};
-use save_top::{DISK_FAULT, NO_MEMORY, Order, SINK_FAULT, SOURCE_FAULT, USAGE, run};
+use save_top::{DISK_FAULT, NO_MEMORY, SINK_FAULT, SOURCE_FAULT, USAGE, order, run};
 use std::alloc::AllocError;
 use std::process::ExitCode;
 use std::{env, str};
@@ -33,7 +33,7 @@ fn words_of(rt: &HostRuntime) -> Result<Words, AllocError> {
 fn desk_for<'a>(rt: &'a HostRuntime, words: &Words) -> FileDesk<'a>
     ensures { order_of words.now ≡ None → IsClosed result }
 {
-    if Order::read(words).is_none() || words.count() == 0 {
+    if order(words).is_none() || words.count() == 0 {
         return FileDesk::none(rt);
     }
     match str::from_utf8(words.get(0)) {
@@ -46,7 +46,7 @@ fn desk_for<'a>(rt: &'a HostRuntime, words: &Words) -> FileDesk<'a>
 fn is_sealed(words: &Words) -> bool
     ensures { IsTrue result ↔ AsksForTag (order_of words.now) }
 {
-    match Order::read(words) {
+    match order(words) {
         Some(order) => order.sealed,
         None => false,
     }

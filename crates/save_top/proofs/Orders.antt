@@ -4,7 +4,7 @@ use Rattle.std.proofs.lemmas.List.{drop_more, drop_all, length-drop}
 use Rattle.std.proofs.lemmas.Option.{slice_get_within, slice_get-get_or, get_or_from_slice_get}
 use Rattle.std.specs.List.{slice_get}
 use Rattle.std.specs.Str.{bytes_eq}
-use Rattle.save_top.specs.declared.order.Act.TheVariants.{Peek}
+use Rattle.save_top.specs.declared.form.Act.TheVariants.{Peek}
 use Rattle.save_top.specs.Words.{number_of, info_of, peek_at, peek_of, act_of}
 
 -- a word, and those after it

@@ -10,12 +10,12 @@ use Rattle.save_top.specs.declared.failure.Failure.TheVariants.{Memory as NoMemo
 use Rattle.container.specs.declared.fault.OpenFault.{OpenFault}
 use Rattle.container.specs.declared.fault.OpenFault.TheVariants.{Memory, Disk, Header, Tag, TableHash, Difi}
 use Rattle.container.specs.Openings.{IsCaused}
-use Rattle.save_top.specs.declared.order.Act.{Act}
+use Rattle.save_top.specs.declared.form.Act.{Act}
 use Rattle.save_top.specs.Output.{SaysFront, SaysAll, Says, IsEnd}
 use Rattle.container_header.specs.declared.header.Header.{Header as Fields}
 use Rattle.container_header.specs.declared.fault.HeaderFault.{HeaderFault}
 use Rattle.container.specs.declared.open.Container.{Container}
-use Rattle.save_top.specs.declared.order.Order.{Order}
+use Rattle.save_top.specs.declared.form.Order.{Order}
 use Rattle.save_top.specs.Peeks.{Holds}
 use Rattle.save_top.specs.Replies.{Reply, refused, act_reply, reply_by, reply_to}
 use Rattle.save_top.specs.Failures.{IsFaultBy, IsFailureBy}

@@ -12,9 +12,9 @@ use Rattle.ivfc_tree.specs.Levels.{block_bytes}
 use Rattle.container.specs.declared.fault.OpenFault.{OpenFault}
 use Rattle.container.specs.Openings.{active_table, part_reading, fault_of}
 use Rattle.container.specs.ImageCells.{contents_in, path_in}
-use Rattle.save_top.specs.declared.order.Order.{Order}
-use Rattle.save_top.specs.declared.order.Act.{Act}
-use Rattle.save_top.specs.declared.order.Act.TheVariants.{Info, Peek}
+use Rattle.save_top.specs.declared.form.Order.{Order}
+use Rattle.save_top.specs.declared.form.Act.{Act}
+use Rattle.save_top.specs.declared.form.Act.TheVariants.{Info, Peek}
 use Rattle.save_top.specs.Texts.{info_text, fault_line, difi_line, open_fault_line, no_part_line, no_block_line, damaged_line, block_text}
 
 -- a status, and all that is said

@@ -2,9 +2,9 @@
 use Rattle.std.specs.Prelude.{ℕ, ◌^◌, Bool, true, false, nat_lt, ◌==◌, ◌&&◌, bytes_eq, List, [], ◌∷◌, length, Option, Some, None, codes, if◌then◌else◌}
 use Rattle.std.specs.Fmt.{decimal}
 use Rattle.std.specs.Str.Parse.{digits_value}
-use Rattle.save_top.specs.declared.order.Order.{Order}
-use Rattle.save_top.specs.declared.order.Act.{Act}
-use Rattle.save_top.specs.declared.order.Act.TheVariants.{Info, Peek}
+use Rattle.save_top.specs.declared.form.Order.{Order}
+use Rattle.save_top.specs.declared.form.Act.{Act}
+use Rattle.save_top.specs.declared.form.Act.TheVariants.{Info, Peek}
 
 -- a number is the word that it is printed as, and is below 2 ^ 64
 unfoldable pub number_of : List ℕ → Option ℕ

@@ -3,8 +3,8 @@
 
 mod block;
 mod failure;
+mod form;
 mod laws;
-mod order;
 mod peek;
 #[cfg(test)]
 mod tests;
@@ -13,7 +13,9 @@ mod text;
 mod text_tests;
 mod top;
 mod voice;
+mod words;
 
+pub use form::{Act, Order};
 pub use laws::numbers_are_as_printed;
-pub use order::{Act, Order};
 pub use top::{DISK_FAULT, DONE, NO_MEMORY, REFUSED, SINK_FAULT, SOURCE_FAULT, USAGE, run};
+pub use words::order;

@@ -1,8 +1,9 @@
 //! The words of a call, and the lines on a fault and on a block.
 
 use crate::block::block_text;
-use crate::order::{Act, Order};
+use crate::form::{Act, Order};
 use crate::text::{ROOM, put_damaged, put_no_block, put_no_part, put_open_fault};
+use crate::words::order;
 use arrayvec::ArrayVec;
 use container::OpenFault;
 use container_header::HeaderFault;
@@ -16,7 +17,7 @@ fn read(alloc: Global, all: &[&str]) -> Result<Option<Order>, AllocError> {
     for word in all {
         words.push(word)?;
     }
-    Ok(Order::read(&words))
+    Ok(order(&words))
 }
 
 #[test]

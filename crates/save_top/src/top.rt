@@ -9,8 +9,8 @@ ghost use Rattle.page_image.specs.Images.{IsDiskOf};
 ghost use Rattle.page_image.specs.WriteOuts.{IsClean};
 ghost use Rattle.container.specs.Openings.{fault_of};
 ghost use Rattle.container.specs.Containers.{IsWholeContainer};
-ghost use Rattle.save_top.specs.declared.order.Order.{Order};
-ghost use Rattle.save_top.specs.declared.order.Act.{Act};
+ghost use Rattle.save_top.specs.declared.form.Order.{Order};
+ghost use Rattle.save_top.specs.declared.form.Act.{Act};
 ghost use Rattle.save_top.specs.Words.{order_of};
 ghost use Rattle.save_top.specs.Texts.{info_text};
 ghost use Rattle.save_top.specs.Output.{SaysFront, SaysAll, Says, IsEnd};
@@ -19,10 +19,11 @@ ghost use Rattle.save_top.specs.Failures.{IsFailureBy};
 ghost use Rattle.save_top.specs.Peeks.{Holds};
 
 use crate::failure::{Failure, of_fault, of_miss};
-use crate::order::{Act, Order};
+use crate::form::{Act, Order};
 use crate::peek::show;
 use crate::text::put_info;
 use crate::voice::say_all;
+use crate::words::order;
 use arrayvec::ArrayVec;
 use container::Container;
 use container_header::Header;
@@ -180,7 +181,7 @@ pub fn run<D: Desk, G: Signer>(alloc: Global, words: &Words, desk: &mut D, signe
     ensures known { result ≤ 6 }
     ensures steady { IsSteady (D.state desk.old) (D.state desk.new) }
 {
-    let Some(order) = Order::read(words) else {
+    let Some(order) = order(words) else {
         return USAGE;
     };
     obey(alloc, order, desk, signer)

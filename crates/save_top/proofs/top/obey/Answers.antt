@@ -2,7 +2,7 @@ use Rattle.std.proofs.Common.{◌∙◌, sym, ap}
 use Rattle.container_header.specs.declared.header.Header.{Header}
 use Rattle.container.proofs.ReadLemmas.{tells_same}
 use Rattle.save_disk.proofs.Told.{fresh_tells}
-use Rattle.save_top.specs.declared.order.Act.TheVariants.{Info, Peek}
+use Rattle.save_top.specs.declared.form.Act.TheVariants.{Info, Peek}
 use Rattle.save_top.specs.Texts.{info_text}
 use Rattle.save_top.specs.Replies.{done, peek_reply, reply_to}
 use Rattle.save_top.proofs.RunLemmas.{says_before, says_as, end_done, opened_reply, silent_says, silent_after, reply_of}

@@ -1,5 +1,5 @@
 use Rattle.std.proofs.Common.{◌≡◌, Some, sym, ◌∙◌}
-use Rattle.save_top.specs.declared.order.Order.{Order}
+use Rattle.save_top.specs.declared.form.Order.{Order}
 use Rattle.save_top.specs.Replies.{reply_to}
 use Rattle.save_top.proofs.RunLemmas.{end_is_not_2, at_moments, at_end, ended}
 use Rattle.save_top.proofs.top.run.Goals as goal

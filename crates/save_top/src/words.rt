@@ -1,44 +1,24 @@
 //! The words of a call.
 
 ghost use Rattle.std.specs.Prelude.{◌≡◌, ◌≤◌, ◌↔◌, IsTrue, slice_get, drop, length, codes};
-ghost use Rattle.save_top.specs.Words.{number_of, info_of, peek_of, act_of};
+ghost use Rattle.save_top.specs.Words.{number_of, info_of, peek_of, act_of, order_of};
 
+use crate::form::{Act, Order};
 use itoa::Buffer;
 use save_bytes::Words;
 use std::str;
 
-/// What a command asks for.
-#[derive(Clone, Copy, Debug, PartialEq, Eq)]
-pub enum Act {
-    /// What the header and the active table show.
-    Info,
-    /// The bytes of a block of a part, both counted from 0: the part's number, then the block's.
-    Peek(u64, u64),
-}
-
-/// The words of a call, read.
-#[derive(Clone, Copy, Debug, PartialEq, Eq)]
-pub struct Order {
-    /// Whether the image has to carry its signer's tag.
-    pub sealed: bool,
-    pub act: Act,
-}
-
-impl Order {
-    ghost use Rattle.save_top.specs.Words.{order_of};
-
-    /// Reads the words after the program's name: FILE, which is not empty, then `sealed` or not, then
-    /// `info` or `peek PART BLOCK`, whose two numbers stand as they are printed. Nothing else is a form.
-    pub fn read(words: &Words) -> Option<Order>
-        ensures { result ≡ order_of words.now }
-    {
-        if words.count() == 0 || words.get(0).is_empty() {
-            return None;
-        }
-        let sealed = is_sealed(words);
-        let act = read_act(words, if sealed { 2 } else { 1 })?;
-        Some(Order { sealed, act })
+/// Reads the words after the program's name: FILE, which is not empty, then `sealed` or not, then
+/// `info` or `peek PART BLOCK`, whose two numbers stand as they are printed. Nothing else is a form.
+pub fn order(words: &Words) -> Option<Order>
+    ensures { result ≡ order_of words.now }
+{
+    if words.count() == 0 || words.get(0).is_empty() {
+        return None;
     }
+    let sealed = is_sealed(words);
+    let act = read_act(words, if sealed { 2 } else { 1 })?;
+    Some(Order { sealed, act })
 }
 
 // Whether the word after FILE is `sealed`.

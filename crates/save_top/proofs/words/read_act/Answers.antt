@@ -1,7 +1,7 @@
 use Rattle.std.proofs.Common.{◌≡◌, true, false, ◌∙◌, rules, codes}
 use Rattle.std.specs.Str.{bytes_eq}
 use Rattle.save_top.proofs.Orders.{act_of-info, act_of-peek, act_of-other}
-use Rattle.save_top.proofs.order.read_act.Goals as goal
+use Rattle.save_top.proofs.words.read_act.Goals as goal
 
 pub returns-then-eq : goal.returns-then-eq
 returns-then-eq c =

@@ -1,6 +1,6 @@
 use Rattle.std.proofs.Common.{◌∙◌, arith}
 use Rattle.save_top.proofs.Orders.{peek_of-none, peek_of-no_part, peek_of-no_block, peek_of-numbers}
-use Rattle.save_top.proofs.order.read_peek.Goals as goal
+use Rattle.save_top.proofs.words.read_peek.Goals as goal
 
 pub returns-then-count-at-ne2 : goal.returns-then-count-at-ne2
 returns-then-count-at-ne2 c = peek_of-none c.args.words.now c.args.at (λ two. c.if-count-at-ne2.true (omega arith))

@@ -3,7 +3,7 @@ use Rattle.std.proofs.lemmas.Fmt.{parse-decimal, IsAscii-decimal}
 use Rattle.std.proofs.lemmas.Str.{IsUtf8-from_ascii}
 use Rattle.std.specs.Fmt.{decimal}
 use Rattle.save_top.proofs.Numbers.{number_of-none, number_of-decimal, same_text, other_text}
-use Rattle.save_top.proofs.order.read_number.Goals as goal
+use Rattle.save_top.proofs.words.read_number.Goals as goal
 
 pub returns-in_default : goal.returns-in_default
 returns-in_default c = number_of-none c.args.word.now (λ n small is. c.in_default.ensures.cases.0 (rw is (IsUtf8-from_ascii (decimal n) (IsAscii-decimal n small))))
