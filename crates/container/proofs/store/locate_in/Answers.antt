@@ -1,5 +1,4 @@
-use Rattle.std.specs.Result.{result_err}
-use Rattle.container.proofs.HeldLemmas.{disk_of_store, view_reads}
+use Rattle.container.proofs.HeldLemmas.{disk_of_store}
 use Rattle.container.proofs.store.locate_in.Goals as goal
 
 pub view-view-requires : goal.view-view-requires

@@ -1,6 +1,5 @@
 use Rattle.std.proofs.Common.{◌≡◌, ◌-◌, ◌≤◌, None, Some, length, arith, rules}
 use Rattle.std.proofs.lemmas.List.{places}
-use Rattle.std.specs.Result.{result_err}
 use Rattle.save_bytes.proofs.CellLemmas.{copy_more}
 use Rattle.save_bytes.proofs.CallLemmas.{Reads-join}
 use Rattle.container.specs.StoreHeld.{shown, StoreKeeps, store_lands}
