@@ -28,8 +28,8 @@ use save_disk::Disk;
 /// The level fours of an image's parts, one after the other, each byte lent only where it has a hash path.
 #[derive(Drop)]
 pub struct Store<'a, D: Disk> {
-    container: &'a mut Container,
-    disk: &'a mut D,
+    pub(crate) container: &'a mut Container,
+    pub(crate) disk: &'a mut D,
 }
 
 impl Container {

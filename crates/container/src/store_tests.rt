@@ -1,13 +1,23 @@
 //! The stores of sample images, whole and spoilt, over desks in memory.
 
-ghost use Rattle.std.specs.Prelude.{◌≡◌, ◌+◌, ◌≤◌, length};
+ghost use Rattle.std.specs.Prelude.{◌≡◌, ℕ, ◌+◌, ◌<◌, ◌≤◌, length, slice_index, IsTrue, OnOk};
+ghost use Rattle.save_bytes.specs.Cells.{AreBytesAt};
+ghost use Rattle.save_bytes.specs.State.{IsInside};
+ghost use Rattle.save_bytes.specs.Spots.{Spot, Sector, Hold};
 ghost use Rattle.ivfc_tree.specs.Levels.{HasBlock};
+ghost use Rattle.part_store.specs.Spots.{SamePart};
+ghost use Rattle.page_image.specs.Images.{IsDiskOf};
+ghost use Rattle.page_image.specs.Spots.{Leaves};
+ghost use Rattle.container.specs.Containers.{IsWholeContainer};
+ghost use Rattle.container.specs.StoreHeld.{store_of, IsKept};
 
 use super::*;
 use difi::{Difi, LevelPlace};
 use ivfc_tree::Status;
-use save_bytes::{Bad, set_u32, set_u64};
-use save_disk::{Call, MemDesk, ZeroSigner};
+use page_image::ImageState;
+use part_store::Part;
+use save_bytes::{Bad, Space, set_u32, set_u64};
+use save_disk::{Call, Disk, MemDesk, ZeroSigner};
 use save_samples::{Sample, sample};
 use sha2::{Digest, Sha256};
 use std::alloc::Global;
@@ -77,6 +87,101 @@ fn copied(
         Ok(()) => Ok(Ok(out)),
         Err(bad) => Ok(Err(bad)),
     }
+}
+
+// Copies by one store, and then by another: the container and the disk are known between and behind.
+fn copy_twice<D: Disk>(
+    container: &mut Container,
+    disk: &mut D,
+    at: u64,
+    first: &mut [u8],
+    last: &mut [u8],
+) -> Result<(), Bad>
+    requires disk { IsDiskOf (D.state disk.old) container.old.image }
+    requires first { IsInside (store_of (D.state disk.old) container.old).shape at (length first.old) }
+    requires last { IsInside (store_of (D.state disk.old) container.old).shape at (length last.old) }
+    ensures first { IsTrue (store_of (D.state disk.old) container.old).told → OnOk result (AreBytesAt (store_of (D.state disk.old) container.old).cells at first.new) }
+    ensures last { IsTrue (store_of (D.state disk.old) container.old).told → OnOk result (AreBytesAt (store_of (D.state disk.old) container.old).cells at last.new) }
+    ensures kept { IsKept container.old container.new }
+    ensures disk { IsDiskOf (D.state disk.new) container.new.image }
+    ensures sectors { (number : ℕ) → Leaves (Sector number) (D.state disk.old) container.old.image (D.state disk.new) container.new.image }
+    ensures spots { IsTrue (store_of (D.state disk.old) container.old).told → (spot : Spot)
+        → Leaves spot (D.state disk.old) container.old.image (D.state disk.new) container.new.image }
+{
+    container.store(disk).copy(at, first)?;
+    container.store(disk).copy(at, last)
+}
+
+// Changes marks of a part, as far as its contract says.
+fn mark(part: &mut Part)
+    ensures { SamePart part.old part.new }
+{
+    let _ = part;
+}
+
+// Puts a byte of the image.
+fn put_byte<D: Disk>(image: &mut ImageState, disk: &mut D, at: u64, byte: u8) -> Result<(), Bad>
+    requires disk { IsDiskOf (D.state disk.old) image.old }
+    requires behind_header { 512 ≤ at }
+    requires inside { at < image.old.len }
+    ensures { Leaves Hold (D.state disk.old) image.old (D.state disk.new) image.new }
+{
+    let mut view = image.view(disk);
+    view.put(at, &[byte])
+}
+
+// Changes the image, a part and the table, as a put through a store does.
+fn change_in<D: Disk>(container: &mut Container, disk: &mut D, at: u64, byte: u8) -> Result<(), Bad>
+    requires disk { IsDiskOf (D.state disk.old) container.old.image }
+    requires behind_header { 512 ≤ at }
+    requires inside { at < container.old.image.len }
+    requires table { 1 ≤ length container.old.table.items }
+    ensures header { container.new.header ≡ container.old.header }
+    ensures part { SamePart container.old.parts.first container.new.parts.first }
+    ensures table { slice_index container.new.table.items 0 ≡ byte }
+    ensures hold { Leaves Hold (D.state disk.old) container.old.image (D.state disk.new) container.new.image }
+{
+    mark(&mut container.parts.first);
+    container.table[0] = byte;
+    put_byte(&mut container.image, disk, at, byte)
+}
+
+// Changes them through a store.
+fn change<D: Disk>(store: &mut Store<'_, D>, at: u64, byte: u8) -> Result<(), Bad>
+    requires disk { IsDiskOf (D.state store.old.disk.now) store.old.container.now.image }
+    requires behind_header { 512 ≤ at }
+    requires inside { at < store.old.container.now.image.len }
+    requires table { 1 ≤ length store.old.container.now.table.items }
+    ensures container { store.new.container.ghost_name ≡ store.old.container.ghost_name }
+    ensures disk { store.new.disk.ghost_name ≡ store.old.disk.ghost_name }
+    ensures header { store.new.container.now.header ≡ store.old.container.now.header }
+    ensures part { SamePart store.old.container.now.parts.first store.new.container.now.parts.first }
+    ensures table { slice_index store.new.container.now.table.items 0 ≡ byte }
+    ensures hold { Leaves Hold (D.state store.old.disk.now) store.old.container.now.image (D.state store.new.disk.now) store.new.container.now.image }
+{
+    let container = &mut *store.container;
+    let disk = &mut *store.disk;
+    change_in(container, disk, at, byte)
+}
+
+// Changes them through one store, and reads through another: behind the loans each is known.
+fn change_and_read<D: Disk>(
+    container: &mut Container,
+    disk: &mut D,
+    at: u64,
+    byte: u8,
+) -> Result<u64, Bad>
+    requires disk { IsDiskOf (D.state disk.old) container.old.image }
+    requires behind_header { 512 ≤ at }
+    requires inside { at < container.old.image.len }
+    requires table { 1 ≤ length container.old.table.items }
+    ensures header { container.new.header ≡ container.old.header }
+    ensures part { SamePart container.old.parts.first container.new.parts.first }
+    ensures table { slice_index container.new.table.items 0 ≡ byte }
+    ensures hold { Leaves Hold (D.state disk.old) container.old.image (D.state disk.new) container.new.image }
+{
+    change(&mut container.store(disk), at, byte)?;
+    Ok(container.store(disk).len())
 }
 
 /// A level of the hash tree.
@@ -248,5 +353,36 @@ fn store_makes_no_call(rt: HostRuntime) -> Result<(), Fail> {
     assert_eq!(rt; out, HEAD);
     assert_eq!(rt; desk.call(29), Some(Call::Read));
     assert_eq!(rt; desk.call(30), None);
+    Ok(())
+}
+
+/// Reads by two stores of a container, and writes through a third.
+fn follow<D: Disk>(
+    rt: &impl Abort,
+    container: &mut Container,
+    disk: &mut D,
+) -> Result<([[u8; 32]; 2], u64), Bad>
+    requires disk { IsDiskOf (D.state disk.old) container.old.image }
+    requires whole { IsWholeContainer container.old }
+{
+    let (mut first, mut last) = ([0; 32], [0; 32]);
+    assert!(rt; container.store(disk).len() >= 32);
+    copy_twice(container, disk, 0, &mut first, &mut last)?;
+    let size = disk.len().map_err(|_| Bad::Disk)?;
+    assert!(rt; size > 1000 && !container.table.is_empty());
+    let len = change_and_read(container, disk, 1000, 7)?;
+    Ok(([first, last], len))
+}
+
+#[test]
+fn stores_follow_each_other(rt: HostRuntime) -> Result<(), Fail> {
+    let alloc = rt.alloc();
+    let image = sample(alloc, Sample::Single)?;
+    let mut desk = MemDesk::new(alloc, &image, &[])?;
+    let mut container = Container::open(alloc, &mut desk, &ZeroSigner)?;
+    assert_eq!(rt;
+        follow(&rt, &mut container, &mut desk),
+        Ok(([HEAD, HEAD], 34_816))
+    );
     Ok(())
 }
