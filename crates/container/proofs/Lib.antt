@@ -4,3 +4,4 @@ pub mod PartLemmas
 pub mod StoreLemmas
 pub mod ImageLemmas
 pub mod HeldLemmas
+pub mod OpensLemmas

@@ -1,16 +1,17 @@
 -- What an open container holds.
-use Rattle.std.specs.Prelude.{◌≡◌, ℕ, Bool, List, None, Some, Ok}
+use Rattle.std.specs.Prelude.{◌≡◌, ℕ, Bool, List, Some, Ok}
 use Rattle.container_header.specs.Conditions.{reading as header_reading}
 use Rattle.difi.specs.declared.descriptor.Difi.{Difi}
 use Rattle.part_store.specs.declared.part.Part.{Part}
 use Rattle.container.specs.declared.open.Container.{Container}
-use Rattle.container.specs.Openings.{active_table, fault_of}
+use Rattle.container.specs.Openings.{active_table}
+use Rattle.container.specs.Opens.{Opens}
 use Rattle.container.specs.Parts.{part_at, AreRead, IsWhole}
 
--- What a container holds that was opened over a disk which tells its trace: the image's header and active table, on which
--- no fault was found, and the parts by the descriptors in that table, of which nothing was changed.
+-- What a container holds that was opened over a disk which tells its trace: the header and the active table of the image,
+-- which opens, and the parts by the descriptors in that table, of which nothing was changed.
 pub record IsOpenOf (tag_of : List ℕ → List ℕ) (demands : Bool) (image : List ℕ) (container : Container) : Type 0 where
-  pub no_fault : fault_of tag_of demands image ≡ None
+  pub opens : Opens tag_of demands image
   pub header : header_reading image ≡ Ok container.header
   pub table : container.table.items ≡ active_table image container.header
   pub parts : AreRead container.table.items container.header container.parts

@@ -1,4 +1,5 @@
 pub mod Openings
+pub mod Opens
 pub mod Parts
 pub mod Levels
 pub mod Containers

@@ -5,6 +5,7 @@ mod copying;
 mod facts;
 mod fault;
 mod front;
+mod laws;
 mod open;
 mod parts;
 mod reading;
@@ -13,9 +14,12 @@ mod table;
 mod within;
 
 pub use fault::OpenFault;
+pub use laws::opens_exactly_where_no_fault_is_found;
 pub use open::Container;
 pub use store::Store;
 
+#[cfg(test)]
+mod opens_tests;
 #[cfg(test)]
 mod store_tests;
 #[cfg(test)]

@@ -10,6 +10,7 @@ use Rattle.save_top.specs.declared.failure.Failure.TheVariants.{Memory as NoMemo
 use Rattle.container.specs.declared.fault.OpenFault.{OpenFault}
 use Rattle.container.specs.declared.fault.OpenFault.TheVariants.{Memory, Disk, Header, Tag, TableHash, Difi}
 use Rattle.container.specs.Openings.{IsCaused}
+use Rattle.container.proofs.OpensLemmas.{no_fault}
 use Rattle.save_top.specs.declared.form.Act.{Act}
 use Rattle.save_top.specs.Output.{SaysFront, SaysAll, Says, IsEnd}
 use Rattle.container_header.specs.declared.header.Header.{Header as Fields}
@@ -88,6 +89,6 @@ module _ (old new : State) (reply : Reply) (result : ℕ) (says : Says reply.sta
 -- what an order answers on an image that opens
 pub opened_reply : (tag_of : List ℕ → List ℕ) (demands : Bool) (image : List ℕ) (container : Container) (order : Order) (act : Act) → Holds tag_of demands image container → order.act ≡ act → reply_to tag_of demands order image ≡ act_reply act image (Ok container.header)
 opened_reply tag_of demands image container order act holds is =
-    ap (λ (o : Option OpenFault). reply_by o order.act image) holds.opened.no_fault
+    ap (λ (o : Option OpenFault). reply_by o order.act image) (no_fault tag_of demands image holds.opened.opens)
     ∙ ap (λ (r : Result Fields HeaderFault). act_reply order.act image r) holds.opened.header
     ∙ ap (λ (a : Act). act_reply a image (Ok container.header)) is

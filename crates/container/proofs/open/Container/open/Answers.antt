@@ -8,6 +8,7 @@ use Rattle.container.specs.Openings.{active_table, digest_fault, parts_fault, Is
 use Rattle.container.proofs.ReadLemmas.{shown_before}
 use Rattle.container.proofs.PartLemmas.{second_of}
 use Rattle.container.proofs.FaultLemmas.{caused_by, caused_none, caused_first, caused_second, none_of_both, table_next}
+use Rattle.container.proofs.OpensLemmas.{opens_without_fault}
 use Rattle.container.proofs.open.Container.open.Goals as goal
 
 pub returns-in_err-check_table-clause-caused : goal.returns-in_err-check_table-clause-caused
@@ -70,7 +71,7 @@ returns-clause-opened g c = λ sure.
     let digest : digest_fault table header ≡ None = ap (λ (l : List ℕ). digest_fault l header) (sym c.deref.ensures.value) ∙ c.in_ok-check_table.ensures.none in
     let parts : parts_fault table header ≡ None = ap (λ (l : List ℕ). parts_fault l header) (sym c.deref-2.ensures.value) ∙ c.in_ok-parts.ensures.none in
     record {
-      no_fault = at ∙ none_of_both (digest_fault table header) (parts_fault table header) digest parts;
+      opens = opens_without_fault tag_of demands image (at ∙ none_of_both (digest_fault table header) (parts_fault table header) digest parts);
       header = start.header sure;
       table = same;
       parts = rw (← c.deref-2.ensures.value) c.in_ok-parts.ensures.parts;
