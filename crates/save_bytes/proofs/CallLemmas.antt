@@ -1,14 +1,12 @@
 -- Calls of a space one after another that only read, and calls that write some cells.
-use Rattle.std.proofs.Common.{◌≡◌, ℕ, ◌+◌, ◌<◌, ◌≤◌, IsTrue, Option, Some, None, Result, Ok, Err, IfOk, ◌∙◌, ap, arith}
+use Rattle.std.proofs.Common.{◌≡◌, ℕ, Option, Some, None, Result, Ok, Err, IfOk, ap, arith}
 use Rattle.save_bytes.specs.declared.space.Bad.{Bad}
-use Rattle.save_bytes.specs.declared.space.Bad.TheVariants.{Disk, Damaged}
+use Rattle.save_bytes.specs.declared.space.Bad.TheVariants.{Damaged}
 use Rattle.save_bytes.specs.State.{Shape, State}
-use Rattle.save_bytes.specs.Refusals.{UnlessDisk, NeverDamaged}
-use Rattle.save_bytes.specs.Stays.{SameCells, Stays}
-use Rattle.save_bytes.specs.Spots.{Spot, Sector, Frame, Hold, LandsAsBefore}
+use Rattle.save_bytes.specs.Refusals.{UnlessDisk}
+use Rattle.save_bytes.specs.Spots.{Spot, Sector, Frame, LandsAsBefore}
 use Rattle.save_bytes.specs.Reads.{Reads}
-use Rattle.save_bytes.specs.Writes.{Writes}
-use Rattle.save_bytes.proofs.SpaceLemmas.{UnlessDisk-map, UnlessDisk-both, Stays-same, Stays-join, SameSpace-join}
+use Rattle.save_bytes.proofs.SpaceLemmas.{UnlessDisk-map, Stays-same, Stays-join}
 
 module _ {A : Type 0} (states : A → State) (keeps : Spot → A → A → Type 0) (lands : A → ℕ → Spot → Type 0) where
   -- before the first call
@@ -69,6 +67,12 @@ module _ {A : Type 0} (states : A → State) (keeps : Spot → A → A → Type 
       spots = λ told spot. join spot s t u (h.spots told spot) (k.spots (h.stays.space.told told) spot);
       reach = λ told. reach-join s t u refusal h.stays.space.shape (h.reach told) (k.reach (h.stays.space.told told));
     }
+
+-- the same, where the spaces and their relations are found in both
+pub reads_then : {A : Type 0} {states : A → State} {keeps : Spot → A → A → Type 0}
+    {lands : A → ℕ → Spot → Type 0} {s t u : A} {refusal : Option Bad} → ((spot : Spot) (s t u : A) → keeps spot s t → keeps spot t u → keeps spot s u)
+    → Reads states keeps lands s t None → Reads states keeps lands t u refusal → Reads states keeps lands s u refusal
+reads_then join h k = Reads-join _ _ _ join _ _ _ _ h k
 
 -- facts of a result
 pub IfOk-map : {A E : Type 0} {P Q : A → Type 0} (r : Result A E) → ((value : A) → P value → Q value) → IfOk r P → IfOk r Q

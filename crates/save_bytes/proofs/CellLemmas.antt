@@ -1,5 +1,6 @@
 -- Cells that are bytes, and the numbers in them.
-use Rattle.std.proofs.Common.{◌≡◌, ℕ, zero, suc, ◌+◌, ◌-◌, ◌<◌, ◌≤◌, List, [], ◌∷◌, ◌++◌, length, take, drop, refl, sym, ◌∙◌, ap, arith, rules, ⊎_elim, add-zero, length-append}
+use Rattle.std.proofs.Common.{◌≡◌, ℕ, zero, suc, ◌+◌, ◌-◌, ◌<◌, ◌≤◌, List, [], ◌∷◌, ◌++◌, length, take, drop, refl}
+use Rattle.std.proofs.Common.{sym, ◌∙◌, ap, arith, rules, ⊎_elim, add-zero, length-append}
 use Rattle.std.proofs.Math.Nat.{add-suc, suc-add, zero-add}
 use Rattle.std.proofs.Math.Seq.{take-append_seam, drop-append_seam}
 use Rattle.std.proofs.lemmas.List.{get_or_append_left, get_or-append_right, length-take-le, places, same_lists}
@@ -10,7 +11,8 @@ use Rattle.save_bytes.specs.Cells.{Cell, Byte, AreBytesAt}
 use Rattle.save_bytes.specs.CellNumbers.{value_of, bytes_in, number_in}
 
 -- bytes behind bytes
-pub AreBytesAt-append : (cells : ℕ → Cell) (at : ℕ) (xs ys : List ℕ) → AreBytesAt cells at xs → AreBytesAt cells (at + length xs) ys → AreBytesAt cells at (xs ++ ys)
+pub AreBytesAt-append : (cells : ℕ → Cell) (at : ℕ) (xs ys : List ℕ) → AreBytesAt cells at xs
+    → AreBytesAt cells (at + length xs) ys → AreBytesAt cells at (xs ++ ys)
 AreBytesAt-append cells at xs ys front back k within =
     let in_back : length xs ≤ k → k - length xs < length ys = λ behind. omega (arith, length-append xs ys) in
     ⊎_elim
@@ -21,15 +23,20 @@ AreBytesAt-append cells at xs ys front back k within =
     rw (get_or-append_right xs ys (length xs) k 0 refl behind, place) there)
     (cases_lt k (length xs))
 
-take-put_mid_more : (done n : ℕ) (out part : List ℕ) → done ≤ length out → length part ≡ length out - done → n ≤ length part → take (done + n) (put_mid done (length out - done) out part) ≡ take done out ++ take n part
+take-put_mid_more : (done n : ℕ) (out part : List ℕ) → done ≤ length out → length part ≡ length out - done
+    → n ≤ length part → take (done + n) (put_mid done (length out - done) out part) ≡ take done out ++ take n part
 take-put_mid_more done n out part inside long fits = same_lists _ _ (search (rules, places)) (λ k d h. grind (arith, places))
 
 -- a copy of the next n bytes, after which the cells are as before
-pub copy_more : (old mid : ℕ → Cell) (size at done n : ℕ) (out part : List ℕ) → at + length out ≤ size → ((x : ℕ) → x < size → mid x ≡ old x) → length part ≡ length out - done → done ≤ length out → n ≤ length part → AreBytesAt old at (take done out) → AreBytesAt mid (at + done) (take n part) → AreBytesAt old at (take (done + n) (put_mid done (length out - done) out part))
+pub copy_more : (old mid : ℕ → Cell) (size at done n : ℕ) (out part : List ℕ) → at + length out ≤ size
+    → ((x : ℕ) → x < size → mid x ≡ old x) → length part ≡ length out - done → done ≤ length out → n ≤ length part
+    → AreBytesAt old at (take done out) → AreBytesAt mid (at + done) (take n part)
+    → AreBytesAt old at (take (done + n) (put_mid done (length out - done) out part))
 copy_more old mid size at done n out part fits same long inside some front next =
     let shorter : length (take done out) ≡ done = length-take-le done out inside in
     let in_part : (k : ℕ) → k < length (take n part) → k < length part = λ k h. omega (arith, length-take-le n part some) in
-    let back : AreBytesAt old (at + length (take done out)) (take n part) = λ k within. rw shorter (sym (same (at + done + k) (omega (arith, in_part k within))) ∙ next k within) in
+    let back : AreBytesAt old (at + length (take done out)) (take n part) =
+        λ k within. rw shorter (sym (same (at + done + k) (omega (arith, in_part k within))) ∙ next k within) in
     rw (take-put_mid_more done n out part inside long some) (AreBytesAt-append old at (take done out) (take n part) front back)
 
 -- the values of cells that are bytes
@@ -42,7 +49,8 @@ bytes_in-is cells at (x ∷ xs) are =
     rw (first, rest) refl
 
 -- the number in cells that are bytes
-pub number_in-is : (n : ℕ) (cells : ℕ → Cell) (at : ℕ) (bytes : List ℕ) → length bytes ≡ n → AreBytesAt cells at bytes → number_at n bytes 0 ≡ number_in n cells at
+pub number_in-is : (n : ℕ) (cells : ℕ → Cell) (at : ℕ) (bytes : List ℕ) → length bytes ≡ n → AreBytesAt cells at bytes
+    → number_at n bytes 0 ≡ number_in n cells at
 number_in-is n cells at bytes long are = ap (λ (l : List ℕ). number_at n l 0) (sym (bytes_in-is cells at bytes are) ∙ ap (bytes_in cells at) long)
 
 -- the values of n cells are n
@@ -63,7 +71,9 @@ bytes_in-same one other i j (suc n) same =
 pub bytes_in-append : (cells : ℕ → Cell) (at m n : ℕ) → bytes_in cells at (m + n) ≡ bytes_in cells at m ++ bytes_in cells (at + m) n
 unfolding bytes_in
 bytes_in-append cells at zero n = rw (add-zero at, zero-add n) refl
-bytes_in-append cells at (suc m) n = rw (suc-add m n, add-suc at m) (ap (λ (l : List ℕ). value_of (cells at) ∷ l) (rw (suc-add at m) at (bytes_in-append cells (suc at) m n)))
+bytes_in-append cells at (suc m) n =
+    rw (suc-add m n, add-suc at m)
+    (ap (λ (l : List ℕ). value_of (cells at) ∷ l) (rw (suc-add at m) at (bytes_in-append cells (suc at) m n)))
 
 drop_front : (xs ys : List ℕ) (n : ℕ) → length xs ≡ n → drop n (xs ++ ys) ≡ ys
 drop_front xs ys n long = ap (λ (k : ℕ). drop k (xs ++ ys)) (sym long) ∙ drop-append_seam xs ys
@@ -77,7 +87,9 @@ bytes_in-part cells at size from n fits =
     let parts : size ≡ from + (n + (size - (from + n))) = omega (arith, fits) in
     let rest : List ℕ = bytes_in cells (at + from + n) (size - (from + n)) in
     let split : bytes_in cells at size ≡ bytes_in cells at from ++ (bytes_in cells (at + from) n ++ rest) =
-    ap (bytes_in cells at) parts ∙ bytes_in-append cells at from (n + (size - (from + n))) ∙ ap (λ (l : List ℕ). bytes_in cells at from ++ l) (bytes_in-append cells (at + from) n (size - (from + n))) in
+    ap (bytes_in cells at) parts ∙ bytes_in-append cells at from (n + (size - (from + n)))
+        ∙ ap (λ (l : List ℕ). bytes_in cells at from ++ l) (bytes_in-append cells (at + from) n (size - (from + n)))
+        in
     ap (λ (l : List ℕ). take n (drop from l)) split
     ∙ ap (λ (l : List ℕ). take n l) (drop_front _ _ from (length-bytes_in cells at from))
     ∙ take_front _ _ n (length-bytes_in cells (at + from) n)

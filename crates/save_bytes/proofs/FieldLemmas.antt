@@ -1,5 +1,7 @@
 -- Laws of the numbers at places of a list of bytes.
-use Rattle.std.proofs.Common.{◌≡◌, ℕ, zero, suc, ◌+◌, ◌^◌, ◌<◌, ◌≤◌, List, ◌++◌, length, get_or, take, drop, refl, ◌∙◌, ap, arith, append_assoc, add-zero, zero-add, [], ◌-◌, get_or-take, get_or-drop, length-take-le}
+use Rattle.std.proofs.Common.{◌≡◌, ℕ, zero, suc, ◌+◌, ◌^◌, ◌<◌, ◌≤◌, List, ◌++◌, length, get_or, take, drop, refl}
+use Rattle.std.proofs.Common.{◌∙◌, ap, arith, append_assoc, add-zero, zero-add, [], ◌-◌, get_or-take, get_or-drop}
+use Rattle.std.proofs.Common.{length-take-le}
 use Rattle.std.proofs.Math.Nat.{add-suc, suc-add}
 use Rattle.std.proofs.lemmas.List.{append-nil, drop-drop, drop_all, length-take, get_or_append_left, get_or-append-add, take_rest}
 use Rattle.byteorder.specs.Endian.{little_from, little_bytes}
@@ -12,7 +14,8 @@ little_from-same : (n i j : ℕ) (xs ys : List ℕ) → ((k : ℕ) → k < n →
 little_from-same zero i j xs ys same = refl
 little_from-same (suc n) i j xs ys same =
     let first : get_or xs i 0 ≡ get_or ys j 0 = simp add-zero at (same 0 (omega arith)) in
-    let rest : little_from (suc i) n xs ≡ little_from (suc j) n ys = little_from-same n (suc i) (suc j) xs ys (λ k h. simp (add-suc, ← suc-add) at (same (suc k) (omega arith))) in
+    let rest : little_from (suc i) n xs ≡ little_from (suc j) n ys =
+        little_from-same n (suc i) (suc j) xs ys (λ k h. simp (add-suc, ← suc-add) at (same (suc k) (omega arith))) in
     cc
 
 behind : (xs ys : List ℕ) (n k : ℕ) → length xs ≡ n → get_or (xs ++ ys) (n + k) 0 ≡ get_or ys k 0
@@ -45,7 +48,9 @@ number_at-put n x xs at fits small =
     let piece = little_bytes n x in
     let rest = drop (at + length piece) xs in
     let moved : little_from at n (with_bytes xs at piece) ≡ little_from 0 n (piece ++ rest) =
-    little_from-same n at 0 (with_bytes xs at piece) (piece ++ rest) (λ k h. rw (append_assoc (take at xs) piece rest, zero-add) (behind (take at xs) (piece ++ rest) at k long)) in
+    little_from-same n at 0 (with_bytes xs at piece) (piece ++ rest)
+        (λ k h. rw (append_assoc (take at xs) piece rest, zero-add) (behind (take at xs) (piece ++ rest) at k long))
+        in
     moved ∙ little_number-reads_back n x rest small
 
 -- what a field's read gives of the rest of the list
@@ -54,9 +59,12 @@ unfolding number_at
 field_read n xs at = rw take_rest (number_at-drop n xs at)
 
 -- what a field's write leaves in the whole
-pub field_put : (at n : ℕ) (xs piece part : List ℕ) → length piece ≡ n → at + n ≤ length xs → part ≡ piece ++ drop n (take (at + n - at) (drop at xs)) → put_mid at (at + n - at) xs part ≡ with_bytes xs at piece
+pub field_put : (at n : ℕ) (xs piece part : List ℕ) → length piece ≡ n → at + n ≤ length xs
+    → part ≡ piece ++ drop n (take (at + n - at) (drop at xs))
+    → put_mid at (at + n - at) xs part ≡ with_bytes xs at piece
 field_put at n xs piece part long fits is =
     let k : at + n - at ≡ n = omega arith in
-    let none : drop n (take (at + n - at) (drop at xs)) ≡ [] = drop_all n (take (at + n - at) (drop at xs)) (omega (arith, length-take (at + n - at) (drop at xs))) in
+    let none : drop n (take (at + n - at) (drop at xs)) ≡ [] =
+        drop_all n (take (at + n - at) (drop at xs)) (omega (arith, length-take (at + n - at) (drop at xs))) in
     let whole : part ≡ piece = is ∙ ap (λ (l : List ℕ). piece ++ l) none ∙ append-nil piece in
     rw (k, whole, long, drop-drop, append_assoc) refl

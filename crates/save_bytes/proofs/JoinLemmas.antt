@@ -1,5 +1,6 @@
 -- Calls of a space one after another, where one of them puts.
-use Rattle.std.proofs.Common.{◌≡◌, ◌≢◌, ℕ, ◌+◌, ◌-◌, ◌<◌, ◌≤◌, List, [], ◌++◌, length, take, drop, IsTrue, Option, Some, None, sym, ◌∙◌, ap, subst, arith, inl, ⊎_elim, add-zero, length-append}
+use Rattle.std.proofs.Common.{◌≡◌, ◌≢◌, ℕ, ◌+◌, ◌-◌, ◌<◌, ◌≤◌, List, [], ◌++◌, length, take, drop, IsTrue, Option}
+use Rattle.std.proofs.Common.{Some, None, sym, ◌∙◌, ap, subst, arith, inl, ⊎_elim, add-zero, length-append}
 use Rattle.std.proofs.lemmas.Bool.{cases_lt}
 use Rattle.std.proofs.lemmas.List.{length-take-le, take_rest}
 use Rattle.std.proofs.Math.Seq.{take-add}
@@ -8,8 +9,8 @@ use Rattle.save_bytes.specs.declared.space.Bad.TheVariants.{Disk, Damaged}
 use Rattle.save_bytes.specs.Cells.{Cell, Byte, Blank, Spoilt, IsUnspoilt}
 use Rattle.save_bytes.specs.State.{State, Shape, IsWritable, CanPut}
 use Rattle.save_bytes.specs.Answers.{IsReady}
-use Rattle.save_bytes.specs.Refusals.{UnlessDisk, NeverDamaged, IfDamaged}
-use Rattle.save_bytes.specs.Stays.{SameTwins, SameSpace, SameCells, Stays}
+use Rattle.save_bytes.specs.Refusals.{NeverDamaged, IfDamaged}
+use Rattle.save_bytes.specs.Stays.{SameTwins, SameCells, Stays}
 use Rattle.save_bytes.specs.Puts.{SoftensFrom, HasPut, Puts}
 use Rattle.save_bytes.specs.Spots.{Spot, Frame, Hold, Misses, LandsAsBefore, MovesOnly}
 use Rattle.save_bytes.specs.Reads.{Reads}

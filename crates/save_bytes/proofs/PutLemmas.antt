@@ -1,5 +1,7 @@
 -- What a put leaves, and one put behind another.
-use Rattle.std.proofs.Common.{◌≡◌, ◌≢◌, ◌⊎◌, ℕ, zero, suc, ◌+◌, ◌-◌, ◌<◌, ◌≤◌, List, [], ◌++◌, length, get_or, replicate, IsTrue, Option, Some, None, refl, sym, ◌∙◌, ap, arith, inl, inr, ⊎_elim, length-append}
+use Rattle.std.proofs.Common.{◌≡◌, ◌≢◌, ◌⊎◌, ℕ, zero, suc, ◌+◌, ◌-◌, ◌<◌, ◌≤◌, List, ◌++◌, length, get_or}
+use Rattle.std.proofs.Common.{replicate, IsTrue, Option, Some, None, refl, sym, ◌∙◌, ap, arith, inl, inr, ⊎_elim}
+use Rattle.std.proofs.Common.{length-append}
 use Rattle.std.proofs.lemmas.List.{get_or_append_left, get_or-append_right, get_or-replicate, length-replicate}
 use Rattle.std.proofs.lemmas.Bool.{cases_lt, cases_eq}
 use Rattle.save_bytes.specs.declared.space.Bad.{Bad}
@@ -62,10 +64,13 @@ SoftensFrom-blank was at n x (Spoilt part level block) new soft blank = rw soft 
 
 module _ (was : State) (at : ℕ) (bytes : List ℕ) (new : ℕ → Cell) (put : HasPut was at bytes new) (x : ℕ) (inside : x < was.shape.size) where
   -- a place was written, or softened
-  pub HasPut-cases : ((k : ℕ) × (k < length bytes) × (was.bottom x ≡ was.bottom (at + k)) × (new x ≡ Byte (get_or bytes k 0))) ⊎ (((k : ℕ) → k < length bytes → was.bottom x ≢ was.bottom (at + k)) × Softens was at (length bytes) x (new x))
+  pub HasPut-cases : ((k : ℕ) × (k < length bytes) × (was.bottom x ≡ was.bottom (at + k))
+      × (new x ≡ Byte (get_or bytes k 0))) ⊎
+      (((k : ℕ) → k < length bytes → was.bottom x ≢ was.bottom (at + k)) × Softens was at (length bytes) x (new x))
   HasPut-cases =
       ⊎_elim
-      (λ (found : (k : ℕ) × (k < length bytes) × (was.bottom x ≡ was.bottom (at + k))). inl (found.0, found.1, found.2, put.written x found.0 inside found.1 found.2))
+      (λ (found : (k : ℕ) × (k < length bytes) × (was.bottom x ≡ was.bottom (at + k))). inl
+          (found.0, found.1, found.2, put.written x found.0 inside found.1 found.2))
       (λ (apart : (k : ℕ) → k < length bytes → was.bottom x ≢ was.bottom (at + k)). inr (apart, put.others x inside apart))
       (find_value (λ k. was.bottom (at + k)) (was.bottom x) (length bytes))
 
@@ -74,21 +79,27 @@ module _ (was : State) (at : ℕ) (bytes : List ℕ) (new : ℕ → Cell) (put :
   HasPut-unspoilt ok =
       ⊎_elim
       (λ (found : (k : ℕ) × (k < length bytes) × (was.bottom x ≡ was.bottom (at + k)) × (new x ≡ Byte (get_or bytes k 0))). rw found.3 tt)
-      (λ (softer : ((k : ℕ) → k < length bytes → was.bottom x ≢ was.bottom (at + k)) × Softens was at (length bytes) x (new x)). SoftensFrom-unspoilt was at (length bytes) x (was.cells x) (new x) softer.1 ok)
+      (λ (softer : ((k : ℕ) → k < length bytes → was.bottom x ≢ was.bottom (at + k))
+          × Softens was at (length bytes) x (new x)). SoftensFrom-unspoilt was at (length bytes) x (was.cells x)
+          (new x) softer.1 ok)
       HasPut-cases
 
   pub HasPut-clearable : IsClearable (was.cells x) → IsClearable (new x)
   HasPut-clearable ok =
       ⊎_elim
       (λ (found : (k : ℕ) × (k < length bytes) × (was.bottom x ≡ was.bottom (at + k)) × (new x ≡ Byte (get_or bytes k 0))). rw found.3 tt)
-      (λ (softer : ((k : ℕ) → k < length bytes → was.bottom x ≢ was.bottom (at + k)) × Softens was at (length bytes) x (new x)). SoftensFrom-clearable was at (length bytes) x (was.cells x) (new x) softer.1 ok)
+      (λ (softer : ((k : ℕ) → k < length bytes → was.bottom x ≢ was.bottom (at + k))
+          × Softens was at (length bytes) x (new x)). SoftensFrom-clearable was at (length bytes) x (was.cells x)
+          (new x) softer.1 ok)
       HasPut-cases
 
   HasPut-blank : IsBlank (new x) → IsBlank (was.cells x)
   HasPut-blank blank =
       ⊎_elim
       (λ (found : (k : ℕ) × (k < length bytes) × (was.bottom x ≡ was.bottom (at + k)) × (new x ≡ Byte (get_or bytes k 0))). absurd (rw found.3 at blank))
-      (λ (softer : ((k : ℕ) → k < length bytes → was.bottom x ≢ was.bottom (at + k)) × Softens was at (length bytes) x (new x)). SoftensFrom-blank was at (length bytes) x (was.cells x) (new x) softer.1 blank)
+      (λ (softer : ((k : ℕ) → k < length bytes → was.bottom x ≢ was.bottom (at + k))
+          × Softens was at (length bytes) x (new x)). SoftensFrom-blank was at (length bytes) x (was.cells x) (new x)
+          softer.1 blank)
       HasPut-cases
 
 -- no cell of the n from a place on is spoilt
@@ -113,15 +124,20 @@ IsReady-unspoilt s at n (Some (Damaged part level block)) ready told ok =
     rw first.spoilt at (ok first.k first.within)
 
 -- places whose blocks begin at one place have blocks of one length
-same_block_len : (shape : Shape) → HasBlocks shape → (x y : ℕ) → x < shape.size → y < shape.size → shape.block_start x ≡ shape.block_start y → shape.block_len x ≡ shape.block_len y
+same_block_len : (shape : Shape) → HasBlocks shape → (x y : ℕ) → x < shape.size → y < shape.size
+    → shape.block_start x ≡ shape.block_start y → shape.block_len x ≡ shape.block_len y
 same_block_len shape blocks x y in_x in_y same =
     ⊎_elim
     (λ (near : x < shape.block_start y + shape.block_len y). blocks.same_len y x in_y (omega (arith, blocks.starts x in_x)) near)
-    (λ (far : shape.block_start y + shape.block_len y ≤ x). sym (blocks.same_len x y in_x (omega (arith, blocks.starts y in_y)) (omega (arith, blocks.ends y in_y, blocks.ends x in_x))))
+    (λ (far : shape.block_start y + shape.block_len y ≤ x). sym
+        (blocks.same_len x y in_x (omega (arith, blocks.starts y in_y))
+        (omega (arith, blocks.ends y in_y, blocks.ends x in_x))))
     (cases_lt x (shape.block_start y + shape.block_len y))
 
 -- each cell of a block that was cleared is zero
-pub HasPut-cleared : (s : State) (at : ℕ) (new : ℕ → Cell) → HasBlocks s.shape → at < s.shape.size → HasPut s (s.shape.block_start at) (replicate (s.shape.block_len at) 0) new → (x : ℕ) → x < s.shape.size → s.shape.block_start x ≡ s.shape.block_start at → new x ≡ Byte 0
+pub HasPut-cleared : (s : State) (at : ℕ) (new : ℕ → Cell) → HasBlocks s.shape → at < s.shape.size
+    → HasPut s (s.shape.block_start at) (replicate (s.shape.block_len at) 0) new → (x : ℕ) → x < s.shape.size
+    → s.shape.block_start x ≡ s.shape.block_start at → new x ≡ Byte 0
 HasPut-cleared s at new blocks inside put x below same =
     let start = s.shape.block_start at in
     let len = same_block_len s.shape blocks x at below inside same in
@@ -132,7 +148,10 @@ HasPut-cleared s at new blocks inside put x below same =
     is ∙ ap Byte (get_or-replicate (s.shape.block_len at) (x - start) 0 0 within)
 
 -- two puts, the second behind the first at places that are no twins of the first's
-module _ (was mid : State) (at : ℕ) (xs ys : List ℕ) (new : ℕ → Cell) (shape : mid.shape ≡ was.shape) (twins : SameTwins was mid) (fits : at + length xs + length ys ≤ was.shape.size) (apart : (j k : ℕ) → j < length xs → k < length ys → was.bottom (at + j) ≢ was.bottom (at + length xs + k)) (first : HasPut was at xs mid.cells) (second : HasPut mid (at + length xs) ys new) where
+module _ (was mid : State) (at : ℕ) (xs ys : List ℕ) (new : ℕ → Cell) (shape : mid.shape ≡ was.shape)
+    (twins : SameTwins was mid) (fits : at + length xs + length ys ≤ was.shape.size)
+    (apart : (j k : ℕ) → j < length xs → k < length ys → was.bottom (at + j) ≢ was.bottom (at + length xs + k))
+    (first : HasPut was at xs mid.cells) (second : HasPut mid (at + length xs) ys new) where
   same_size : mid.shape.size ≡ was.shape.size
   same_size = ap (λ (s : Shape). s.size) shape
 
@@ -159,11 +178,15 @@ module _ (was mid : State) (at : ℕ) (xs ys : List ℕ) (new : ℕ → Cell) (s
       (λ (behind : length xs ≤ k).
       let place : at + k ≡ at + length xs + (k - length xs) = omega arith in
       let there : was.bottom x ≡ was.bottom (at + length xs + (k - length xs)) = rw place at same in
-      rw (get_or-append_right xs ys (length xs) k 0 refl behind) (second.written x (k - length xs) (omega (arith, same_size)) (back behind) (mid_twin x (k - length xs) below (back behind) there)))
+      rw (get_or-append_right xs ys (length xs) k 0 refl behind)
+          (second.written x (k - length xs) (omega (arith, same_size)) (back behind)
+          (mid_twin x (k - length xs) below (back behind) there)))
       (cases_lt k (length xs))
 
   -- a place that the second range meets in its own block, and one that it does not
-  mid_met : (x k : ℕ) → x < was.shape.size → k < length ys → was.shape.block_start (was.bottom x) ≡ was.shape.block_start (was.bottom (at + length xs + k)) → IsMet mid (at + length xs) (length ys) x
+  mid_met : (x k : ℕ) → x < was.shape.size → k < length ys
+      → was.shape.block_start (was.bottom x) ≡ was.shape.block_start (was.bottom (at + length xs + k))
+      → IsMet mid (at + length xs) (length ys) x
   mid_met x k below within same =
       (k, within, rw (shape, twins.bottom x below, twins.bottom (at + length xs + k) (omega arith)) same)
 
@@ -177,7 +200,9 @@ module _ (was mid : State) (at : ℕ) (xs ys : List ℕ) (new : ℕ → Cell) (s
   met_by_first : (x : ℕ) → IsMet was at (length xs) x → IsMet was at (length (xs ++ ys)) x
   met_by_first x (k, within, same) = (k, omega (arith, length-append xs ys), same)
 
-  blank_in_both : (x part level block : ℕ) → x < was.shape.size → mid.cells x ≡ Blank part level block → was.cells x ≡ Blank part level block → HasBlank mid (at + length xs) (length ys) part level block → HasBlank was at (length (xs ++ ys)) part level block
+  blank_in_both : (x part level block : ℕ) → x < was.shape.size → mid.cells x ≡ Blank part level block
+      → was.cells x ≡ Blank part level block → HasBlank mid (at + length xs) (length ys) part level block
+      → HasBlank was at (length (xs ++ ys)) part level block
   blank_in_both x part level block below mid_is was_is (k, within, is) =
       let place : at + (length xs + k) ≡ at + length xs + k = omega arith in
       let joined = first.joined (at + length xs + k) x (omega arith) below (rw is tt) (is ∙ sym mid_is) in
@@ -187,13 +212,17 @@ module _ (was mid : State) (at : ℕ) (xs ys : List ℕ) (new : ℕ → Cell) (s
   blank_by_first part level block (k, within, is) = (k, omega (arith, length-append xs ys), is)
 
   -- the met place lies in the second range
-  met_later : (x : ℕ) → x < was.shape.size → IsMet was at (length (xs ++ ys)) x → ((k : ℕ) → k < length xs → was.shape.block_start (was.bottom x) ≢ was.shape.block_start (was.bottom (at + k))) → IsMet mid (at + length xs) (length ys) x
+  met_later : (x : ℕ) → x < was.shape.size → IsMet was at (length (xs ++ ys)) x
+      → ((k : ℕ) → k < length xs → was.shape.block_start (was.bottom x) ≢ was.shape.block_start (was.bottom (at + k)))
+      → IsMet mid (at + length xs) (length ys) x
   met_later x below (k, within, same) missed =
       let behind : length xs ≤ k = ⊎_elim (λ (front : k < length xs). absurd (missed k front same)) (λ (h : length xs ≤ k). h) (cases_lt k (length xs)) in
       let place : at + k ≡ at + length xs + (k - length xs) = omega arith in
       mid_met x (k - length xs) below (omega (arith, length-append xs ys)) (rw place at same)
 
-  second_met : (x part level block : ℕ) → IsMet mid (at + length xs) (length ys) x → (cell : Cell) → (cell ≡ Blank part level block) ⊎ (HasBlank was at (length xs) part level block × IsDeeper part level cell) → SoftensFrom mid (at + length xs) (length ys) x cell (new x) → new x ≡ Byte 0
+  second_met : (x part level block : ℕ) → IsMet mid (at + length xs) (length ys) x → (cell : Cell)
+      → (cell ≡ Blank part level block) ⊎ (HasBlank was at (length xs) part level block × IsDeeper part level cell)
+      → SoftensFrom mid (at + length xs) (length ys) x cell (new x) → new x ≡ Byte 0
   second_met x part level block met cell (inl same) then_soft =
       let now : SoftensFrom mid (at + length xs) (length ys) x (Blank part level block) (new x) = rw same at then_soft in
       now.met met
@@ -202,32 +231,48 @@ module _ (was mid : State) (at : ℕ) (xs ys : List ℕ) (new : ℕ → Cell) (s
       now.met met
 
   -- a cell that was blank, after both
-  both_blank_met : (x part level block : ℕ) → x < was.shape.size → SoftensBlank was at (length xs) x part level block (mid.cells x) → SoftensFrom mid (at + length xs) (length ys) x (mid.cells x) (new x) → IsMet was at (length (xs ++ ys)) x → new x ≡ Byte 0
+  both_blank_met : (x part level block : ℕ) → x < was.shape.size
+      → SoftensBlank was at (length xs) x part level block (mid.cells x)
+      → SoftensFrom mid (at + length xs) (length ys) x (mid.cells x) (new x) → IsMet was at (length (xs ++ ys)) x
+      → new x ≡ Byte 0
   both_blank_met x part level block below soft then_soft met =
       ⊎_elim
       (λ (first_met : IsMet was at (length xs) x).
       let now : SoftensFrom mid (at + length xs) (length ys) x (Byte 0) (new x) = rw (soft.met first_met) at then_soft in
       now)
       (λ (missed : (k : ℕ) → k < length xs → was.shape.block_start (was.bottom x) ≢ was.shape.block_start (was.bottom (at + k))).
-      second_met x part level block (met_later x below met missed) (mid.cells x) (soft.unmet (λ first_met. missed first_met.0 first_met.1 first_met.2)) then_soft)
+      second_met x part level block (met_later x below met missed) (mid.cells x)
+          (soft.unmet (λ first_met. missed first_met.0 first_met.1 first_met.2)) then_soft)
       (find_value (λ k. was.shape.block_start (was.bottom (at + k))) (was.shape.block_start (was.bottom x)) (length xs))
 
-  both_blank_unmet : (x part level block : ℕ) → x < was.shape.size → was.cells x ≡ Blank part level block → SoftensBlank was at (length xs) x part level block (mid.cells x) → SoftensFrom mid (at + length xs) (length ys) x (mid.cells x) (new x) → ¬ IsMet was at (length (xs ++ ys)) x → (new x ≡ Blank part level block) ⊎ (HasBlank was at (length (xs ++ ys)) part level block × IsDeeper part level (new x))
+  both_blank_unmet : (x part level block : ℕ) → x < was.shape.size → was.cells x ≡ Blank part level block
+      → SoftensBlank was at (length xs) x part level block (mid.cells x)
+      → SoftensFrom mid (at + length xs) (length ys) x (mid.cells x) (new x) → ¬ IsMet was at (length (xs ++ ys)) x
+      → (new x ≡ Blank part level block) ⊎
+      (HasBlank was at (length (xs ++ ys)) part level block × IsDeeper part level (new x))
   both_blank_unmet x part level block below was_is soft then_soft unmet =
       let unmet_second : ¬ IsMet mid (at + length xs) (length ys) x = λ met. unmet (met_in_both x below met) in
       ⊎_elim
       (λ (same : mid.cells x ≡ Blank part level block).
       let now : SoftensFrom mid (at + length xs) (length ys) x (Blank part level block) (new x) = rw same at then_soft in
-      ⊎_elim inl (λ (later : HasBlank mid (at + length xs) (length ys) part level block × IsDeeper part level (new x)). inr (blank_in_both x part level block below same was_is later.0, later.1)) (now.unmet unmet_second))
+      ⊎_elim inl (λ (later : HasBlank mid (at + length xs) (length ys) part level block
+          × IsDeeper part level (new x)). inr (blank_in_both x part level block below same was_is later.0, later.1))
+          (now.unmet unmet_second))
       (λ (deeper : HasBlank was at (length xs) part level block × IsDeeper part level (mid.cells x)).
       let now : SoftensFrom mid (at + length xs) (length ys) x (Blank part deeper.1.0 deeper.1.1) (new x) = rw deeper.1.3 at then_soft in
       ⊎_elim
       (λ (stays : new x ≡ Blank part deeper.1.0 deeper.1.1). inr (blank_by_first part level block deeper.0, (deeper.1.0, deeper.1.1, deeper.1.2, stays)))
-      (λ (later : HasBlank mid (at + length xs) (length ys) part deeper.1.0 deeper.1.1 × IsDeeper part deeper.1.0 (new x)). inr (blank_by_first part level block deeper.0, (later.1.0, later.1.1, omega (arith, deeper.1.2, later.1.2), later.1.3)))
+      (λ (later : HasBlank mid (at + length xs) (length ys) part deeper.1.0 deeper.1.1
+          × IsDeeper part deeper.1.0 (new x)). inr
+          (blank_by_first part level block deeper.0,
+          (later.1.0, later.1.1, omega (arith, deeper.1.2, later.1.2), later.1.3)))
       (now.unmet unmet_second))
       (soft.unmet (λ met. unmet (met_by_first x met)))
 
-  both_soften : (x : ℕ) → x < was.shape.size → (old : Cell) → was.cells x ≡ old → SoftensFrom was at (length xs) x old (mid.cells x) → SoftensFrom mid (at + length xs) (length ys) x (mid.cells x) (new x) → SoftensFrom was at (length (xs ++ ys)) x old (new x)
+  both_soften : (x : ℕ) → x < was.shape.size → (old : Cell) → was.cells x ≡ old
+      → SoftensFrom was at (length xs) x old (mid.cells x)
+      → SoftensFrom mid (at + length xs) (length ys) x (mid.cells x) (new x)
+      → SoftensFrom was at (length (xs ++ ys)) x old (new x)
   both_soften x below (Byte value) was_is soft then_soft =
       let now : SoftensFrom mid (at + length xs) (length ys) x (Byte value) (new x) = rw soft at then_soft in
       now
@@ -239,11 +284,14 @@ module _ (was mid : State) (at : ℕ) (xs ys : List ℕ) (new : ℕ → Cell) (s
       let now : SoftensFrom mid (at + length xs) (length ys) x (Spoilt part level block) (new x) = rw soft at then_soft in
       now
 
-  both_others : (x : ℕ) → x < was.shape.size → ((k : ℕ) → k < length (xs ++ ys) → was.bottom x ≢ was.bottom (at + k)) → Softens was at (length (xs ++ ys)) x (new x)
+  both_others : (x : ℕ) → x < was.shape.size → ((k : ℕ) → k < length (xs ++ ys) → was.bottom x ≢ was.bottom (at + k))
+      → Softens was at (length (xs ++ ys)) x (new x)
   both_others x below missed =
       let missed_first : (k : ℕ) → k < length xs → was.bottom x ≢ was.bottom (at + k) = λ k h. missed k (omega (arith, length-append xs ys)) in
       let missed_second : (k : ℕ) → k < length ys → mid.bottom x ≢ mid.bottom (at + length xs + k) = λ k h e.
-      (let place : at + (length xs + k) ≡ at + length xs + k = omega arith in missed (length xs + k) (omega (arith, length-append xs ys)) (rw place (was_twin x k below h e))) in
+      (let place : at + (length xs + k) ≡ at + length xs + k =
+          omega arith in missed (length xs + k) (omega (arith, length-append xs ys))
+          (rw place (was_twin x k below h e))) in
       both_soften x below (was.cells x) refl (first.others x below missed_first) (second.others x (omega (arith, same_size)) missed_second)
 
   -- they put both pieces

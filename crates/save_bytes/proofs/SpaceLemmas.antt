@@ -1,9 +1,9 @@
 -- One call of a space after another.
-use Rattle.std.proofs.Common.{◌≡◌, ℕ, ◌+◌, ◌<◌, ◌≤◌, IsTrue, IsFalse, Option, Some, None, refl, ◌∙◌, ap, arith}
+use Rattle.std.proofs.Common.{◌≡◌, ℕ, ◌+◌, ◌≤◌, IsTrue, Option, Some, None, refl, ◌∙◌, ap, arith}
 use Rattle.save_bytes.specs.declared.space.Bad.{Bad}
 use Rattle.save_bytes.specs.declared.space.Bad.TheVariants.{Disk, Damaged}
 use Rattle.save_bytes.specs.State.{Shape, State, HasNoTwins, CanPut}
-use Rattle.save_bytes.specs.Refusals.{Rose, OnDisk, UnlessDisk, IfDamaged, NeverDamaged}
+use Rattle.save_bytes.specs.Refusals.{Rose, IfDone, OnDisk, UnlessDisk, IfDamaged, NeverDamaged}
 use Rattle.save_bytes.specs.Stays.{SameTwins, SameSpace, SameCells, Stays}
 use Rattle.save_bytes.specs.Spots.{Spot, Misses, LandsAsBefore}
 
@@ -28,6 +28,15 @@ pub OnDisk-map : (refusal : Option Bad) {P Q : Type 0} → (P → Q) → OnDisk 
 OnDisk-map None f p = tt
 OnDisk-map (Some Disk) f p = f p
 OnDisk-map (Some (Damaged part level block)) f p = tt
+
+-- facts of a call that was done
+pub IfDone-map : (refusal : Option Bad) {P Q : Type 0} → (P → Q) → IfDone refusal P → IfDone refusal Q
+IfDone-map None f p = f p
+IfDone-map (Some bad) f p = tt
+
+pub IfDone-both : (refusal : Option Bad) {P Q R : Type 0} → (P → Q → R) → IfDone refusal P → UnlessDisk refusal Q → IfDone refusal R
+IfDone-both None f p q = f p q
+IfDone-both (Some bad) f p q = tt
 
 -- facts of a damaged cell's numbers
 pub IfDamaged-map : (refusal : Option Bad) {P Q : ℕ → ℕ → ℕ → Type 0}

@@ -59,21 +59,32 @@ module _ (base view : State) (place : ℕ → ℕ) (shows : Shows base view plac
   shown_softens x below (Byte value) new soft = soft
   shown_softens x below (Blank part level block) new soft = record {
     met = λ met. soft.met (shown_met x below met);
-    unmet = λ unmet. ⊎_elim inl (λ (blank, deeper). inr ((blank.0, blank.1, run_cell blank.0 blank.1 ∙ blank.2), deeper)) (soft.unmet (λ met. unmet (base_met x below met)));
+    unmet = λ unmet. ⊎_elim inl (λ (blank, deeper). inr
+        ((blank.0, blank.1, run_cell blank.0 blank.1 ∙ blank.2), deeper))
+        (soft.unmet (λ met. unmet (base_met x below met)));
   }
   shown_softens x below (Spoilt part level block) new soft = soft
 
 -- what a put leaves in the base, it leaves in the view
-pub shown_put : (base view : State) (place : ℕ → ℕ) (at : ℕ) (bytes : List ℕ) (base_new view_new : ℕ → Cell) → Shows base view place → at + length bytes ≤ view.shape.size → IsRun place at (length bytes) → ((x : ℕ) → x < view.shape.size → view_new x ≡ base_new (place x)) → HasPut base (place at) bytes base_new → HasPut view at bytes view_new
+pub shown_put : (base view : State) (place : ℕ → ℕ) (at : ℕ) (bytes : List ℕ) (base_new view_new : ℕ → Cell)
+    → Shows base view place → at + length bytes ≤ view.shape.size → IsRun place at (length bytes)
+    → ((x : ℕ) → x < view.shape.size → view_new x ≡ base_new (place x)) → HasPut base (place at) bytes base_new
+    → HasPut view at bytes view_new
 shown_put base view place at bytes base_new view_new shows fits run new put = record {
   written = λ x k below within same.
       (let there = rw (shows.bottom x below, run_bottom base view place shows at (length bytes) fits run k within) at same in
       new x below ∙ put.written (place x) k (shows.inside x below) within there);
   others = λ x below apart.
-      (let missed : (k : ℕ) → k < length bytes → base.bottom (place x) ≢ base.bottom (place at + k) = λ k within same. apart k within (rw (shows.bottom x below, run_bottom base view place shows at (length bytes) fits run k within) same) in
+      (let missed : (k : ℕ) → k < length bytes
+          → base.bottom (place x) ≢ base.bottom (place at + k) =
+          λ k within same. apart k within
+          (rw (shows.bottom x below, run_bottom base view place shows at (length bytes) fits run k within) same) in
       let soft = put.others (place x) (shows.inside x below) missed in
-      rw (shows.cells x below, new x below) (shown_softens base view place shows at (length bytes) fits run x below (base.cells (place x)) (base_new (place x)) soft));
+      rw (shows.cells x below, new x below)
+          (shown_softens base view place shows at (length bytes) fits run x below (base.cells (place x))
+          (base_new (place x)) soft));
   joined = λ x y in_x in_y blank same.
-      (let there = put.joined (place x) (place y) (shows.inside x in_x) (shows.inside y in_y) (rw (new x in_x) at blank) (rw (new x in_x, new y in_y) at same) in
+      (let there = put.joined (place x) (place y) (shows.inside x in_x) (shows.inside y in_y)
+          (rw (new x in_x) at blank) (rw (new x in_x, new y in_y) at same) in
       rw (shows.cells x in_x, shows.cells y in_y) there);
 }

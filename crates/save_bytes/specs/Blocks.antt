@@ -14,7 +14,8 @@ pub record HasBlocks (shape : Shape) : Type 0 where
   pub starts : (x : ℕ) → x < shape.size → shape.block_start x ≤ x
   pub ends : (x : ℕ) → x < shape.size → x < shape.block_start x + shape.block_len x
   pub inside : (x : ℕ) → x < shape.size → shape.block_start x + shape.block_len x ≤ shape.size
-  pub same_start : (x y : ℕ) → x < shape.size → shape.block_start x ≤ y → y < shape.block_start x + shape.block_len x → shape.block_start y ≡ shape.block_start x
+  pub same_start : (x y : ℕ) → x < shape.size → shape.block_start x ≤ y → y < shape.block_start x + shape.block_len x
+      → shape.block_start y ≡ shape.block_start x
   pub same_len : (x y : ℕ) → x < shape.size → shape.block_start x ≤ y → y < shape.block_start x + shape.block_len x → shape.block_len y ≡ shape.block_len x
 
 -- the cells of one block are all bytes or all the same

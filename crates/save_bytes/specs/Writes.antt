@@ -1,10 +1,14 @@
 -- What a call of a space leaves that writes into cells of it, some of them many times.
-use Rattle.std.specs.Prelude.{◌≡◌, ℕ, ◌<◌, IsTrue, Option}
+use Rattle.std.specs.Prelude.{◌≡◌, ℕ, ◌+◌, ◌<◌, ◌≤◌, IsTrue, Option}
 use Rattle.save_bytes.specs.declared.space.Bad.{Bad}
 use Rattle.save_bytes.specs.State.{State}
 use Rattle.save_bytes.specs.Refusals.{UnlessDisk, NeverDamaged}
 use Rattle.save_bytes.specs.Stays.{SameSpace}
 use Rattle.save_bytes.specs.Spots.{Spot, Hold, LandsAsBefore}
+
+-- the n places from one on
+abbrev pub IsWithin : ℕ → ℕ → ℕ → Type 0
+IsWithin at n x = (at ≤ x) × (x < at + n)
 
 -- The cells of all places but some are as before, and each spot is left alone that no put into one of these touches.
 -- Which places they are is said of the space as the call began.
