@@ -1,6 +1,5 @@
 -- The bits that are read, as bits of the chosen levels.
 use Rattle.std.proofs.Common.{◌≡◌, ℕ, suc, ◌+◌, ◌-◌, ◌*◌, ◌/◌, ◌%◌, ◌^◌, ◌<◌, ◌≤◌, refl, ◌∙◌, ap, arith, add-zero}
-use Rattle.std.proofs.lemmas.Nat.{row_fits}
 use Rattle.save_bytes.specs.Fields.{number_at}
 use Rattle.save_bytes.specs.Cells.{Cell}
 use Rattle.save_bytes.specs.CellNumbers.{bytes_in, number_in}

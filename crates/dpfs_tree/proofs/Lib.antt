@@ -2,3 +2,10 @@ pub mod PickLemmas
 pub mod BitLemmas
 pub mod PieceLemmas
 pub mod SameLemmas
+pub mod CopyLemmas
+pub mod BlockLemmas
+pub mod PutLemmas
+pub mod StepLemmas
+pub mod ViewLemmas
+pub mod TurnLemmas
+pub mod SealLemmas

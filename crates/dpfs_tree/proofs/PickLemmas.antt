@@ -1,12 +1,11 @@
 -- Where chosen bytes lie.
-use Rattle.std.proofs.Common.{◌≡◌, ℕ, ◌+◌, ◌-◌, ◌*◌, ◌/◌, ◌%◌, ◌^◌, ◌<◌, ◌≤◌, min, Bool, true, false, List, replicate, cond, add-zero, ltb, refl, sym, ◌∙◌, ap, arith, ⊎_elim}
-use Rattle.std.specs.Int.{div_ceil}
+use Rattle.std.proofs.Common.{◌≡◌, ℕ, ◌+◌, ◌-◌, ◌*◌, ◌/◌, ◌%◌, ◌^◌, ◌<◌, ◌≤◌, min, Bool, true, false, List, replicate, cond, ltb, refl, sym, ◌∙◌, ap, arith, ⊎_elim}
 use Rattle.std.proofs.lemmas.Nat.{pow_pos, pow-add, div-add-mod', div-mul-add, mod_below}
 use Rattle.std.proofs.lemmas.List.{get_or-replicate, get_or_past, length-replicate}
 use Rattle.std.proofs.lemmas.Bool.{cases_lt, lt-ltb, le-ltb}
 use Rattle.difi.specs.declared.descriptor.Difi.{Difi}
 use Rattle.dpfs_tree.specs.declared.state.DpfsState.{DpfsState}
-use Rattle.dpfs_tree.specs.Picks.{word_of, bit_of, pick2, pick3, external_place, chosen}
+use Rattle.dpfs_tree.specs.Picks.{bit_of, pick2, pick3, external_place, chosen}
 use Rattle.difi.specs.Contents.{view_size}
 use Rattle.dpfs_tree.specs.Marks.{is_marked, copy_read, place_by, place_of, run_of}
 

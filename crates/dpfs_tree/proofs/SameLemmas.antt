@@ -1,18 +1,16 @@
 -- A view stays where its base does.
-use Rattle.std.proofs.Common.{◌≡◌, ℕ, ◌<◌, Option, refl, ap}
+use Rattle.std.proofs.Common.{◌≡◌, ℕ, Option, refl, ap}
 use Rattle.save_bytes.specs.declared.space.Bad.{Bad}
 use Rattle.save_bytes.specs.State.{State, Shape}
-use Rattle.save_bytes.specs.Stays.{SameCells, Stays}
-use Rattle.save_bytes.specs.Spots.{Spot, Mark, Frame, LandsAsBefore}
+use Rattle.save_bytes.specs.Stays.{Stays}
+use Rattle.save_bytes.specs.Spots.{Spot, Mark, Frame}
 use Rattle.save_bytes.specs.Reads.{Reads}
 use Rattle.save_bytes.proofs.SpaceLemmas.{UnlessDisk-map, UnlessDisk-both, UnlessDisk-always}
 use Rattle.difi.specs.declared.descriptor.Difi.{Difi}
-use Rattle.difi.specs.Contents.{view_size}
 use Rattle.dpfs_tree.specs.declared.state.DpfsState.{DpfsState}
 use Rattle.dpfs_tree.specs.declared.view.DpfsView.{DpfsView}
-use Rattle.dpfs_tree.specs.Picks.{bytes_of}
 use Rattle.dpfs_tree.specs.View.{contents_state, HasContents}
-use Rattle.dpfs_tree.specs.Held.{shown_contents, SameContents, SameState, ContentsKeep, ContentsLand, contents_land}
+use Rattle.dpfs_tree.specs.Held.{shown_contents, SameContents, SameState, ContentsKeep, contents_land}
 use Rattle.dpfs_tree.specs.SameLaws.{view_cells}
 use Rattle.dpfs_tree.specs.ViewLaws.{contents_lands}
 
@@ -31,7 +29,7 @@ view_stays base new part_at difi state refusal tree stays = record {
   cells = λ told. UnlessDisk-map refusal (view_cells base new part_at difi state tree) (stays.cells told);
 }
 
-same_state : (spot : Spot) (old new : DpfsState) → new ≡ old → SameState spot old new
+pub same_state : (spot : Spot) (old new : DpfsState) → new ≡ old → SameState spot old new
 same_state (Mark part level block) old new same = λ here. rw same refl
 same_state Frame old new same = same
 same_state spot old new same = tt

@@ -1,6 +1,10 @@
 pub mod Picks
 pub mod Marks
+pub mod Copies
 pub mod View
 pub mod Held
+pub mod Puts
+pub mod Turns
+pub mod Seals
 pub mod SameLaws
 pub mod ViewLaws

@@ -11,7 +11,7 @@ use Rattle.difi.specs.Places.{blocks_of}
 use Rattle.difi.specs.Contents.{view_size}
 use Rattle.difi.proofs.PlaceLemmas.{block_below}
 use Rattle.dpfs_tree.specs.declared.state.DpfsState.{DpfsState}
-use Rattle.dpfs_tree.specs.Picks.{bytes_of, word_of, bit_of, pick1, pick2}
+use Rattle.dpfs_tree.specs.Picks.{bytes_of, word_of, bit_of, copy_place, pick1, pick2}
 use Rattle.dpfs_tree.specs.Marks.{is_marked, copy_read, place_by, other_place}
 use Rattle.dpfs_tree.specs.View.{contents_state, HasContents}
 use Rattle.dpfs_tree.specs.Held.{IsBeside, MarksSpot, ContentsLand}
@@ -39,21 +39,27 @@ behind_level3 difi at behind inside = external_there difi difi.external refl at 
 pub in_copy : (start size copy x base : ℕ) → copy < 2 → x ≤ size → start + 2 * size ≤ base → start + copy * size + x ≤ base
 in_copy start size copy x base h inside fits = omega (arith, row_fits copy size 2 size h (omega arith))
 
-bit_of-lt : (bytes : ℕ → ℕ) (k : ℕ) → bit_of bytes k < 2
+pub bit_of-lt : (bytes : ℕ → ℕ) (k : ℕ) → bit_of bytes k < 2
 unfolding bit_of
 bit_of-lt bytes k = mod_below _ 2 (omega arith)
 
-copy_read-lt : (marked : Bool) (bit : ℕ) → bit < 2 → copy_read marked bit < 2
+pub copy_read-lt : (marked : Bool) (bit : ℕ) → bit < 2 → copy_read marked bit < 2
 copy_read-lt true bit h = omega arith
 copy_read-lt false bit h = h
 
+-- both copies of levels 1 and 2 have the same bytes
+pub record SameUpper (part_at : ℕ) (difi : Difi) (old new : ℕ → ℕ) : Type 0 where
+  pub level1 : (copy x : ℕ) → copy < 2 → x < difi.dpfs1.size
+      → new (copy_place part_at difi.dpfs1 copy x) ≡ old (copy_place part_at difi.dpfs1 copy x)
+  pub level2 : (copy x : ℕ) → copy < 2 → x < difi.dpfs2.size
+      → new (copy_place part_at difi.dpfs2 copy x) ≡ old (copy_place part_at difi.dpfs2 copy x)
+
 module _ (base : Shape) (part_at : ℕ) (difi : Difi) (selector : ℕ) (tree : HasContents base part_at difi selector) where
-  module _ (old new : ℕ → ℕ) (same : (x : ℕ) → x < base.size → new x ≡ old x) where
+  -- bases with the same bytes in levels 1 and 2
+  module _ (old new : ℕ → ℕ) (upper : SameUpper part_at difi old new) where
     pick1-same : (x : ℕ) → x < difi.dpfs1.size → pick1 new part_at difi selector x ≡ pick1 old part_at difi selector x
     unfolding pick1
-    pick1-same x h =
-        let start : ℕ = part_at + difi.dpfs1.at in
-        same _ (omega (arith, in_copy start difi.dpfs1.size selector (x + 1) base.size tree.one_of_two (omega (arith, h)) tree.level1))
+    pick1-same x h = upper.level1 selector x tree.one_of_two h
 
     bit1-same : (block : ℕ) → block < blocks_of difi.dpfs2
         → bit_of (pick1 new part_at difi selector) block ≡ bit_of (pick1 old part_at difi selector) block
@@ -66,9 +72,7 @@ module _ (base : Shape) (part_at : ℕ) (difi : Difi) (selector : ℕ) (tree : H
     pick2-same x h =
         let block = x / 2 ^ difi.dpfs2.log in
         let bits = pick1 old part_at difi selector in
-        let start : ℕ = part_at + difi.dpfs2.at in
-        let inside = in_copy start difi.dpfs2.size (bit_of bits block) (x + 1) base.size (bit_of-lt bits block) (omega (arith, h)) tree.level2 in
-        rw (bit1-same block (block_below x difi.dpfs2.size difi.dpfs2.log h)) (same _ (omega (arith, inside)))
+        rw (bit1-same block (block_below x difi.dpfs2.size difi.dpfs2.log h)) (upper.level2 (bit_of bits block) x (bit_of-lt bits block) h)
 
     bit2-same : (block : ℕ) → block < blocks_of difi.dpfs3
         → bit_of (pick2 new part_at difi selector) block ≡ bit_of (pick2 old part_at difi selector) block
@@ -76,16 +80,31 @@ module _ (base : Shape) (part_at : ℕ) (difi : Difi) (selector : ℕ) (tree : H
         bit_of-same _ _ block
         (λ i small. pick2-same (4 * (block / 32) + i) (omega (arith, word_inside block (blocks_of difi.dpfs3) h, tree.bits2, small)))
 
-    -- the same place where the bytes of the base are the same
-    pub place_by-same : (marked : ℕ → Bool) (x : ℕ) → place_by new part_at difi selector marked x ≡ place_by old part_at difi selector marked x
+    -- choose the same places
+    pub place_by-upper : (marked : ℕ → Bool) (x : ℕ) → place_by new part_at difi selector marked x ≡ place_by old part_at difi selector marked x
     unfolding place_by
-    place_by-same marked x =
+    place_by-upper marked x =
         ⊎_elim
         (λ (below : x < difi.dpfs3.size).
         let bit = bit2-same (x / 2 ^ difi.dpfs3.log) (block_below x difi.dpfs3.size difi.dpfs3.log below) in
         rw (lt-ltb x difi.dpfs3.size below, bit) refl)
         (λ (behind : difi.dpfs3.size ≤ x). rw (le-ltb x difi.dpfs3.size behind) refl)
         (cases_lt x difi.dpfs3.size)
+
+  -- so do bases with the same bytes
+  pub upper_same : (old new : ℕ → ℕ) → ((x : ℕ) → x < base.size → new x ≡ old x) → SameUpper part_at difi old new
+  upper_same old new same = record {
+    level1 = λ copy x one h.
+        (let there = in_copy (part_at + difi.dpfs1.at) difi.dpfs1.size copy (x + 1) base.size one (omega (arith, h)) tree.level1 in
+        same _ (omega (arith, there)));
+    level2 = λ copy x one h.
+        (let there = in_copy (part_at + difi.dpfs2.at) difi.dpfs2.size copy (x + 1) base.size one (omega (arith, h)) tree.level2 in
+        same _ (omega (arith, there)));
+  }
+
+  pub place_by-same : (old new : ℕ → ℕ) → ((x : ℕ) → x < base.size → new x ≡ old x) → (marked : ℕ → Bool) (x : ℕ)
+      → place_by new part_at difi selector marked x ≡ place_by old part_at difi selector marked x
+  place_by-same old new same = place_by-upper old new (upper_same old new same)
 
   -- and that place lies in the base
   pub place_by-inside : (marked : ℕ → Bool) (bytes : ℕ → ℕ) (x : ℕ) → x < view_size difi
@@ -106,17 +125,22 @@ module _ (base : Shape) (part_at : ℕ) (difi : Difi) (selector : ℕ) (tree : H
       (cases_lt x difi.dpfs3.size)
 
   -- a put into the view touches no spot that it would not have touched, where that is so of the base
-  pub lands_as_before : (old new : ℕ → ℕ) → ((x : ℕ) → x < base.size → new x ≡ old x) → (lands later : ℕ → Spot → Type 0)
+  pub lands_by-upper : (old new : ℕ → ℕ) → SameUpper part_at difi old new → (lands later : ℕ → Spot → Type 0)
       → LandsAsBefore base.size lands later
       → LandsAsBefore (view_size difi) (ContentsLand old part_at difi selector lands) (ContentsLand new part_at difi selector later)
-  lands_as_before old new same lands later as_before x below spot =
+  lands_by-upper old new upper lands later as_before x below spot =
       ⊎_elim
       (λ (found : (y : ℕ) × (y < view_size difi) × IsBeside difi x y × later (other_place new part_at difi selector y) spot).
       let there : other_place new part_at difi selector found.0 ≡ other_place old part_at difi selector found.0 =
-      place_by-same old new same (λ block. true) found.0 in
+      place_by-upper old new upper (λ block. true) found.0 in
       let lands_new : later (other_place old part_at difi selector found.0) spot = rw there at found.3 in
       inl (found.0, found.1, found.2, as_before _ (place_by-inside (λ block. true) old found.0 found.1) spot lands_new))
       (λ (mark : MarksSpot difi x spot). inr mark)
+
+  pub lands_as_before : (old new : ℕ → ℕ) → ((x : ℕ) → x < base.size → new x ≡ old x) → (lands later : ℕ → Spot → Type 0)
+      → LandsAsBefore base.size lands later
+      → LandsAsBefore (view_size difi) (ContentsLand old part_at difi selector lands) (ContentsLand new part_at difi selector later)
+  lands_as_before old new same = lands_by-upper old new (upper_same old new same)
 
 -- the same cells where the base's are the same
 pub view_cells : (base new : State) (part_at : ℕ) (difi : Difi) (state : DpfsState)

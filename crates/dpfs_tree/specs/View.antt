@@ -59,15 +59,15 @@ pub record HasContents (base : Shape) (part_at : ℕ) (difi : Difi) (selector : 
       × AreApart (external_extent difi) (copies_of difi.dpfs2) × AreApart (external_extent difi) (copies_of difi.dpfs3)
   pub view_fits : view_size difi ≤ base.size
 
--- The bytes of a view are those of its base at their places. It has neither twins nor fixed places, and no place that may
--- be written yet.
+-- The bytes of a view are those of its base at their places. It has neither twins nor fixed places, and each place may be
+-- written.
 abbrev pub contents_state : State → ℕ → Difi → DpfsState → State
 contents_state base part_at difi state = record {
   shape = record {
     size = view_size difi;
     sound = can_view_contents base.shape part_at difi state;
     plain = base.shape.plain;
-    first = view_size difi;
+    first = 0;
     doubled = false;
     block_start = λ x. x;
     block_len = λ x. 1;

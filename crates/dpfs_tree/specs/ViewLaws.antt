@@ -162,14 +162,19 @@ contents_tree base part_at difi state fits sound = let view = true-can_view_cont
 pub view_size_fits : (base : State) (part_at : ℕ) (difi : Difi) (state : DpfsState) → (IsTrue base.shape.sound → base.shape.size < 2 ^ 64) → IsTrue (contents_state base part_at difi state).shape.sound → view_size difi < 2 ^ 64
 view_size_fits base part_at difi state fits sound = let tree = contents_tree base.shape part_at difi state fits sound in omega (arith, tree.view_fits, tree.small)
 
+SameState-same : (spot : Spot) (state : DpfsState) → SameState spot state state
+SameState-same (Mark part level block) state = λ here. refl
+SameState-same Frame state = refl
+SameState-same spot state = tt
+
+pub SameState-join : (spot : Spot) (a b c : DpfsState) → SameState spot a b → SameState spot b c → SameState spot a c
+SameState-join (Mark part level block) a b c h k = λ here. k here ∙ h here
+SameState-join Frame a b c h k = k ∙ h
+SameState-join spot a b c h k = tt
+
 module _ {S : Type 0} (keeps : Spot → S → S → Type 0) where
   SameContents-same : (s : DpfsView S) → SameContents s s
   SameContents-same s = record { same_base = refl; same_place = refl; same_difi = refl; same_state = refl; marks = refl; selector = refl }
-
-  SameState-same : (spot : Spot) (state : DpfsState) → SameState spot state state
-  SameState-same (Mark part level block) state = λ here. refl
-  SameState-same Frame state = refl
-  SameState-same spot state = tt
 
   pub ContentsKeep-same : ((spot : Spot) (s : S) → keeps spot s s) → (spot : Spot) (s : DpfsView S) → ContentsKeep keeps spot s s
   ContentsKeep-same same spot s = (SameContents-same s, SameState-same spot s.state.now, same spot s.base.now)
@@ -183,11 +188,6 @@ module _ {S : Type 0} (keeps : Spot → S → S → Type 0) where
     marks = k.marks ∙ h.marks;
     selector = k.selector ∙ h.selector;
   }
-
-  SameState-join : (spot : Spot) (a b c : DpfsState) → SameState spot a b → SameState spot b c → SameState spot a c
-  SameState-join (Mark part level block) a b c h k = λ here. k here ∙ h here
-  SameState-join Frame a b c h k = k ∙ h
-  SameState-join spot a b c h k = tt
 
   pub ContentsKeep-join : ((spot : Spot) (s t u : S) → keeps spot s t → keeps spot t u → keeps spot s u) → (spot : Spot) (s t u : DpfsView S)
       → ContentsKeep keeps spot s t → ContentsKeep keeps spot t u → ContentsKeep keeps spot s u

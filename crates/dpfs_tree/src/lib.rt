@@ -2,9 +2,13 @@
 #![tactic(auto)]
 
 mod bits;
+mod blocks;
+mod copy;
 mod places;
 mod state;
+mod turns;
 mod view;
+mod write;
 
 pub use state::DpfsState;
 pub use view::DpfsView;

@@ -25,7 +25,7 @@ pub(crate) fn view_len(difi: &Difi) -> u64
 
 // How many bytes from a place of a view on lie in one copy of one block, or in external level four.
 #[tactic(auto, unfolding(crate::specs::Marks::run_of))]
-fn run_at(difi: &Difi, at: u64) -> u64
+pub(crate) fn run_at(difi: &Difi, at: u64) -> u64
     requires log { difi.now.dpfs3.log ≤ 16 }
     requires inside { at < view_size difi.now }
     requires small { view_size difi.now < 2 ^ 64 }

@@ -1,10 +1,12 @@
 //! What a double-copy tree keeps between its views.
 
-ghost use Rattle.std.specs.Prelude.{◌≡◌, ℕ, ◌<◌, IfOk};
+ghost use Rattle.std.specs.Prelude.{◌≡◌, ℕ, ◌<◌, length, IfOk};
 ghost use Rattle.difi.specs.Sound.{HasBlockSizes};
+ghost use Rattle.difi.specs.declared.descriptor.Difi.{Difi};
 ghost use Rattle.dpfs_tree.specs.Picks.{chosen};
 ghost use Rattle.difi.specs.Contents.{view_size};
 ghost use Rattle.dpfs_tree.specs.Marks.{is_marked, place_of, IsFreshContents};
+ghost use Rattle.dpfs_tree.specs.Puts.{IsMarked, IsSettled};
 
 use difi::Difi;
 use std::alloc::{AllocError, Global};
@@ -45,9 +47,42 @@ impl DpfsState {
         self.touched.get(block as usize).copied().unwrap_or(false)
     }
 
+    /// Takes the selector that a seal answered, and clears each mark: so the view has the bytes that it chooses.
+    pub fn settle(&mut self, selector: u8)
+        requires { selector < 2 }
+        ensures settled { IsSettled selector self.old self.new }
+        ensures chosen { (bytes : ℕ → ℕ) (part_at x : ℕ) (difi : Difi)
+            → bytes (place_of bytes part_at difi self.new x) ≡ chosen bytes part_at difi selector x }
+    {
+        self.clear(selector);
+    }
+
+    /// Clears each mark: so the view has the bytes that it had before the first put.
+    pub fn drop_changes(&mut self)
+        ensures settled { IsSettled self.old.selector self.old self.new }
+        ensures chosen { (bytes : ℕ → ℕ) (part_at x : ℕ) (difi : Difi)
+            → bytes (place_of bytes part_at difi self.new x) ≡ chosen bytes part_at difi self.old.selector x }
+    {
+        self.clear(self.selector);
+    }
+
+    fn clear(&mut self, selector: u8)
+        ensures { IsSettled selector self.old self.new }
+    {
+        self.selector = selector;
+        self.touched.fill(false);
+    }
+
     pub(crate) fn selector(&self) -> u8
         ensures { result ≡ self.now.selector }
     {
         self.selector
+    }
+
+    pub(crate) fn mark(&mut self, block: u64)
+        requires { block < length self.old.touched.items }
+        ensures { IsMarked block self.old self.new }
+    {
+        self.touched[block as usize] = true;
     }
 }

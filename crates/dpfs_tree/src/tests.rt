@@ -2,6 +2,7 @@ ghost use Rattle.std.specs.Prelude.{◌≡◌, ◌+◌, ◌<◌, ◌≤◌, leng
 ghost use Rattle.save_bytes.specs.Memory.{memory_shape};
 ghost use Rattle.difi.specs.Sound.{HasSoundLevels};
 ghost use Rattle.difi.specs.Contents.{view_size};
+ghost use Rattle.dpfs_tree.specs.Marks.{IsMadeForContents};
 ghost use Rattle.dpfs_tree.specs.View.{HasPartition};
 
 use super::*;
@@ -168,6 +169,33 @@ fn base_with(alloc: Global, written: &[(usize, u8)]) -> Result<Vec<u8>, AllocErr
     fill(&mut bytes, 132_368, 2);
     write(&mut bytes, written);
     Ok(bytes)
+}
+
+/// Puts bytes into a view, and says whether it was done.
+fn put_at(bytes: &mut [u8], difi: &Difi, state: &mut DpfsState, at: u64, new: &[u8]) -> bool
+    requires partition { HasPartition (memory_shape (length bytes.old) 4096) PART_AT difi.now }
+    requires made { IsMadeForContents difi.now state.old }
+    requires inside { at + length new.now ≤ view_size difi.now }
+    ensures { IsMadeForContents difi.now state.new }
+{
+    let mut space = MemSpace::new(bytes, 4096);
+    let mut view = DpfsView::new(&mut space, PART_AT, difi, state);
+    view.put(at, new).is_ok()
+}
+
+/// A byte of a view, or 0 where it is refused.
+fn shown_byte(bytes: &mut [u8], difi: &Difi, state: &mut DpfsState, at: u64) -> u8
+    requires partition { HasPartition (memory_shape (length bytes.old) 4096) PART_AT difi.now }
+    requires made { IsMadeForContents difi.now state.old }
+    requires inside { at < view_size difi.now }
+    ensures { IsMadeForContents difi.now state.new }
+{
+    let mut space = MemSpace::new(bytes, 4096);
+    let mut view = DpfsView::new(&mut space, PART_AT, difi, state);
+    match view.piece(at, 1) {
+        Ok(piece) => piece[0],
+        Err(_) => 0,
+    }
 }
 
 fn zeros(alloc: Global, len: usize) -> Result<Vec<u8>, AllocError>
@@ -339,5 +367,82 @@ fn no_block_of_a_new_state_is_touched(rt: HostRuntime) -> Result<(), Fail> {
     let mut space = MemSpace::new(&mut bytes, 4096);
     let view = DpfsView::new(&mut space, PART_AT, &difi, &mut state);
     assert_eq!(rt; view.len(), 1200);
+    Ok(())
+}
+
+#[test]
+fn a_put_goes_to_the_other_copies_of_its_blocks(rt: HostRuntime) -> Result<(), Fail> {
+    let difi = internal_tree(0);
+    let mut memory = base_with(rt.alloc(), &[])?;
+    let bytes = &mut memory[..];
+    let mut state = DpfsState::new(rt.alloc(), &difi)?;
+    // The last two bytes of block 5 and the first one of block 6.
+    assert!(rt; put_at(bytes, &difi, &mut state, 766, &[7, 8, 9]));
+    for (place, want) in [
+        (528 + 639, 1u8),
+        (528 + 766, 1),
+        (528 + 768, 1),
+        (132_368 + 639, 2),
+        (132_368 + 640, 1),
+        (132_368 + 765, 1),
+        (132_368 + 766, 7),
+        (132_368 + 767, 8),
+        (132_368 + 768, 9),
+        (132_368 + 769, 1),
+        (132_368 + 895, 1),
+        (132_368 + 896, 2),
+    ] {
+        assert_eq!(rt; bytes.get(place).copied(), Some(want));
+    }
+    for (block, want) in [(4u64, false), (5, true), (6, true), (7, false)] {
+        assert_eq!(rt; state.touched(block), want);
+    }
+    Ok(())
+}
+
+#[test]
+fn a_put_that_was_dropped_is_made_again(rt: HostRuntime) -> Result<(), Fail> {
+    let difi = internal_tree(0);
+    let mut memory = base_with(rt.alloc(), &[])?;
+    let bytes = &mut memory[..];
+    let mut state = DpfsState::new(rt.alloc(), &difi)?;
+    assert!(rt; put_at(bytes, &difi, &mut state, 640, &[7, 7, 7]));
+    assert_eq!(rt; shown_byte(bytes, &difi, &mut state, 642), 7);
+    state.drop_changes();
+    assert_eq!(rt; shown_byte(bytes, &difi, &mut state, 642), 1);
+    assert!(rt; put_at(bytes, &difi, &mut state, 641, &[9]));
+    assert_eq!(rt; shown_byte(bytes, &difi, &mut state, 640), 1);
+    assert_eq!(rt; shown_byte(bytes, &difi, &mut state, 641), 9);
+    assert_eq!(rt; shown_byte(bytes, &difi, &mut state, 642), 1);
+    state.settle(1);
+    assert!(rt; !state.touched(5));
+    Ok(())
+}
+
+#[test]
+fn external_bytes_are_put_in_place(rt: HostRuntime) -> Result<(), Fail> {
+    let difi = external_tree();
+    let mut memory = vec![in rt.alloc(); 0u8; 2040]?;
+    let bytes = &mut memory[..];
+    bytes[528..728].fill(1);
+    bytes[728..928].fill(2);
+    bytes[1040..2040].fill(8);
+    let mut state = DpfsState::new(rt.alloc(), &difi)?;
+    assert!(rt; put_at(bytes, &difi, &mut state, 199, &[5, 6, 7]));
+    for (place, want) in [
+        (727, 1u8),
+        (855, 2),
+        (856, 1),
+        (926, 1),
+        (927, 5),
+        (1040, 6),
+        (1041, 7),
+        (1042, 8),
+    ] {
+        assert_eq!(rt; bytes.get(place).copied(), Some(want));
+    }
+    for (block, want) in [(0u64, false), (1, true), (2, false)] {
+        assert_eq!(rt; state.touched(block), want);
+    }
     Ok(())
 }

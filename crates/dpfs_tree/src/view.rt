@@ -1,18 +1,23 @@
 //! A view through the double-copy tree.
 
-ghost use Rattle.std.specs.Prelude.{refl, ◌≤◌, IsTrue};
+ghost use Rattle.std.specs.Prelude.{refl, ◌≤◌, length, IsTrue};
 ghost use Rattle.std.specs.Result.{result_err};
-ghost use Rattle.save_bytes.specs.State.{IsInside};
+ghost use Rattle.save_bytes.specs.State.{IsInside, IsWritable, CanPut};
+ghost use Rattle.save_bytes.specs.Answers.{IsReady};
+ghost use Rattle.save_bytes.specs.Refusals.{NeverDamaged};
+ghost use Rattle.save_bytes.specs.Puts.{Puts};
 ghost use Rattle.save_bytes.specs.Reads.{Reads};
+ghost use Rattle.dpfs_tree.specs.Puts.{PutsInto};
 ghost use Rattle.dpfs_tree.specs.View.{CanViewContents, IsLocated};
 ghost use Rattle.dpfs_tree.specs.Picks.{bytes_of};
 ghost use Rattle.dpfs_tree.specs.Marks.{place_of};
 ghost use Rattle.dpfs_tree.specs.Held.{shown_contents, IsContentsOf, ContentsKeep, contents_land};
-ghost use Rattle.save_bytes.specs.Spots.{Frame};
+ghost use Rattle.save_bytes.specs.Spots.{Frame, MovesOnly};
 ghost use Rattle.dpfs_tree.specs.ViewLaws.{true-can_view_contents, contents_tree, view_size_fits, ContentsKeep-same, ContentsKeep-join, contents_shape, contents_cells, contents_lands};
 
 use crate::places::{locate, view_len};
 use crate::state::DpfsState;
+use crate::write::put_in;
 use difi::Difi;
 use save_bytes::{Bad, Space};
 
@@ -60,7 +65,7 @@ impl<'a, S: Space> DpfsView<'a, S> {
     }
 }
 
-// A view lends from its base and is not written to yet: its first place for writing is its end.
+// A view lends from its base, and writes to the copies of its base that are not chosen.
 impl<S: Space> Space for DpfsView<'_, S> {
     ghost state = { shown_contents S.state };
 
@@ -112,7 +117,21 @@ impl<S: Space> Space for DpfsView<'_, S> {
         Ok(())
     }
 
-    fn put(&mut self, _at: u64, _bytes: &[u8]) -> Result<(), Bad> {
-        Ok(())
+    /// Beside what each space promises: only blocks that the range meets are marked, and in the base only their copies that are
+    /// not chosen are written, and external level four.
+    fn put(&mut self, at: u64, bytes: &[u8]) -> Result<(), Bad>
+        requires { IsWritable (shown_contents S.state self.old).shape at (length bytes.now) }
+        ensures ready { CanPut (shown_contents S.state self.old) at (length bytes.now)
+            → IsReady (shown_contents S.state self.old) at (length bytes.now) (result_err result) }
+        ensures plain { IsTrue (shown_contents S.state self.old).shape.plain → NeverDamaged (result_err result) }
+        ensures puts { Puts (shown_contents S.state self.old) at bytes.now (shown_contents S.state self.new) (result_err result) }
+        ensures moves { MovesOnly (ContentsKeep S.keeps) (contents_land S.state S.lands) (shown_contents S.state self.old) self.old at
+            (length bytes.now) self.new (result_err result) }
+        ensures into { PutsInto S.state S.keeps S.lands self.old.part_at self.old.difi.now self.old.state.now self.new.state.now at
+            bytes.now self.old.base.now self.new.base.now (result_err result) }
+    {
+        let base = &mut *self.base;
+        let state = &mut *self.state;
+        put_in(base, self.part_at, self.difi, state, at, bytes)
     }
 }

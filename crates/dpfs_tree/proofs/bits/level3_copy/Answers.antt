@@ -1,4 +1,4 @@
-use Rattle.std.proofs.Common.{◌≡◌, ℕ, ◌+◌, ◌*◌, ◌/◌, IsTrue, IfOk, sym, ◌∙◌, subst, arith}
+use Rattle.std.proofs.Common.{◌≡◌, ℕ, ◌+◌, ◌*◌, ◌/◌, IfOk, ◌∙◌, subst, arith}
 use Rattle.std.specs.Result.{result_err}
 use Rattle.difi.specs.Places.{blocks_of}
 use Rattle.dpfs_tree.specs.Picks.{bytes_of}
