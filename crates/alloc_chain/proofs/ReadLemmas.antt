@@ -11,12 +11,6 @@ use Rattle.alloc_chain.specs.declared.fault.ChainFault.TheVariants.{Broken, Shor
 use Rattle.alloc_chain.specs.declared.fault.ChainFault.TheVariants.{Bad as Refused}
 use Rattle.alloc_chain.specs.Faults.{refusal_of}
 
--- a call behind a call, both of which only read
-pub reads_then : {A : Type 0} {states : A → State} {keeps : Spot → A → A → Type 0} {lands : A → ℕ → Spot → Type 0} {s t u : A}
-    {refusal : Option Bad} → ((spot : Spot) (s t u : A) → keeps spot s t → keeps spot t u → keeps spot s u)
-    → Reads states keeps lands s t None → Reads states keeps lands t u refusal → Reads states keeps lands s u refusal
-reads_then join h k = Reads-join _ _ _ join _ _ _ _ h k
-
 -- a call that failed for no fault of the disk has read
 pub reads_by_fault : {A : Type 0} (states : A → State) (keeps : Spot → A → A → Type 0) (lands : A → ℕ → Spot → Type 0) (s t : A)
     (fault : ChainFault) → ¬ (fault ≡ Refused Disk) → Reads states keeps lands s t (refusal_of (Some fault))

@@ -1,5 +1,6 @@
 -- Which fault an image has.
-use Rattle.std.proofs.Common.{◌≡◌, ℕ, List, Bool, ◌&&◌, not, bytes_eq, if◌then◌else◌, take, drop, Option, Some, None, Result, Ok, Err, lit≤, sym, ◌∙◌, ap, subst}
+use Rattle.std.proofs.Common.{◌≡◌, ℕ, List, Bool, ◌&&◌, not, bytes_eq, if◌then◌else◌, take, drop, Option, Some, None}
+use Rattle.std.proofs.Common.{Result, Ok, Err, lit≤, sym, ◌∙◌, ap, subst}
 use Rattle.std.proofs.lemmas.List.{take-take, drop-take}
 use Rattle.container_header.specs.declared.header.Header.{Header as Fields}
 use Rattle.container_header.specs.declared.fault.HeaderFault.{HeaderFault}
@@ -52,15 +53,22 @@ module _ (tag_of : List ℕ → List ℕ) (demands : Bool) (image : List ℕ) wh
   header_fault fault is = ap (λ (r : Result Fields HeaderFault). fault_by tag_of demands image r) is
 
   -- under a sound header the tag's fault is the image's, and else the table's
-  pub fault_under : (header : Fields) → reading image ≡ Ok header → fault_of tag_of demands image ≡ first_of (tag_fault tag_of demands image) (table_fault (active_table image header) header)
+  pub fault_under : (header : Fields) → reading image ≡ Ok header
+      → fault_of tag_of demands image ≡ first_of (tag_fault tag_of demands image)
+      (table_fault (active_table image header) header)
   unfolding fault_of
   fault_under header is = ap (λ (r : Result Fields HeaderFault). fault_by tag_of demands image r) is
 
-  pub tag_first : (header : Fields) (fault : OpenFault) → reading image ≡ Ok header → tag_fault tag_of demands image ≡ Some fault → IsCaused (fault_of tag_of demands image) fault
-  tag_first header fault is tag = caused_by _ fault (fault_under header is ∙ ap (λ (o : Option OpenFault). first_of o (table_fault (active_table image header) header)) tag)
+  pub tag_first : (header : Fields) (fault : OpenFault) → reading image ≡ Ok header
+      → tag_fault tag_of demands image ≡ Some fault → IsCaused (fault_of tag_of demands image) fault
+  tag_first header fault is tag =
+      caused_by _ fault (fault_under header is
+      ∙ ap (λ (o : Option OpenFault). first_of o (table_fault (active_table image header) header)) tag)
 
   -- under a sound header and its tag the active table has the fault, or none
-  pub table_next : (header : Fields) (table : List ℕ) → reading image ≡ Ok header → tag_fault tag_of demands image ≡ None → table ≡ active_table image header → fault_of tag_of demands image ≡ table_fault table header
+  pub table_next : (header : Fields) (table : List ℕ) → reading image ≡ Ok header
+      → tag_fault tag_of demands image ≡ None → table ≡ active_table image header
+      → fault_of tag_of demands image ≡ table_fault table header
   table_next header table is none same =
       fault_under header is
       ∙ ap (λ (o : Option OpenFault). first_of o (table_fault (active_table image header) header)) none
@@ -70,5 +78,7 @@ module _ (tag_of : List ℕ → List ℕ) (demands : Bool) (image : List ℕ) wh
   pub tag_of_front : tag_fault tag_of demands (take 512 image) ≡ tag_fault tag_of demands image
   tag_of_front =
       let tag : tag_in (take 512 image) ≡ tag_in image = take-take 16 512 image (lit≤ tt) in
-      let header : header_in (take 512 image) ≡ header_in image = ap (λ (l : List ℕ). take 256 l) (drop-take 256 256 image) ∙ take-take 256 256 (drop 256 image) (lit≤ tt) in
-      ap (λ (l : List ℕ). tag_between tag_of demands (tag_in (take 512 image)) l) header ∙ ap (λ (l : List ℕ). tag_between tag_of demands l (header_in image)) tag
+      let header : header_in (take 512 image) ≡ header_in image =
+          ap (λ (l : List ℕ). take 256 l) (drop-take 256 256 image) ∙ take-take 256 256 (drop 256 image) (lit≤ tt) in
+      ap (λ (l : List ℕ). tag_between tag_of demands (tag_in (take 512 image)) l) header
+          ∙ ap (λ (l : List ℕ). tag_between tag_of demands l (header_in image)) tag

@@ -28,7 +28,8 @@ use Rattle.container.specs.Stores.{state_of}
 use Rattle.container.specs.StoreHeld.{shown, SameStore, SameSecond, IsKept, ReadsImage, ContainerSpot, StoreKeeps, store_lands}
 use Rattle.container.proofs.StoreLemmas.{sound_base, store_told, store_fits, store_stays, store_lands_before}
 
-module _ (disk : disks.State) (image : ImageState) (first : Part) (second : Option Part) (table : List ℕ) (sound : IsTrue (state_of (image_state disk image) first second table).shape.sound) where
+module _ (disk : disks.State) (image : ImageState) (first : Part) (second : Option Part) (table : List ℕ)
+    (sound : IsTrue (state_of (image_state disk image) first second table).shape.sound) where
   -- a sound store's disk is that of its image
   pub disk_of_store : IsDiskOf disk image
   disk_of_store =
@@ -40,8 +41,13 @@ module _ (disk : disks.State) (image : ImageState) (first : Part) (second : Opti
   length_fits = store_fits (image_state disk image) first second table (λ base. image_size_fits disk image) sound
 
   -- what stays in the image stays in the store
-  pub image_stays : (disk_new : disks.State) (image_new : ImageState) (refusal : Option Bad) → Stays (image_state disk image) (image_state disk_new image_new) refusal → Stays (state_of (image_state disk image) first second table) (state_of (image_state disk_new image_new) first second table) refusal
-  image_stays disk_new image_new refusal stays = store_stays (image_state disk image) (image_state disk_new image_new) table refusal (image_size_fits disk image) stays first second sound
+  pub image_stays : (disk_new : disks.State) (image_new : ImageState) (refusal : Option Bad)
+      → Stays (image_state disk image) (image_state disk_new image_new) refusal
+      → Stays (state_of (image_state disk image) first second table)
+      (state_of (image_state disk_new image_new) first second table) refusal
+  image_stays disk_new image_new refusal stays =
+      store_stays (image_state disk image) (image_state disk_new image_new) table refusal (image_size_fits disk image)
+      stays first second sound
 
 -- bytes that are held where they were found are a piece of the store
 pub held_piece : (s : State) (disk : disks.State) (image : ImageState) (at most place m : ℕ) (piece : Bor (List ℕ))
@@ -147,13 +153,15 @@ module _ {D : Type 0} (states : D → disks.State) where
         table_len = k.table_len ∙ h.table_len;
       }
 
-  spot_join : (spot : Spot) (s t u : Store D) → SameStore s t → ContainerSpot spot s.container.now t.container.now → ContainerSpot spot t.container.now u.container.now
+  spot_join : (spot : Spot) (s t u : Store D) → SameStore s t → ContainerSpot spot s.container.now t.container.now
+      → ContainerSpot spot t.container.now u.container.now
       → ContainerSpot spot s.container.now u.container.now
   spot_join (Mark part level block) s t u same h k = (
     PartSpot-join (Mark part level block) s.container.now.parts.first t.container.now.parts.first u.container.now.parts.first same.first h.0 k.0,
     second_join (Mark part level block) s.container.now.parts.second t.container.now.parts.second u.container.now.parts.second same.second h.1 k.1,
   ) where
-    second_join : (spot : Spot) (x y z : Option Part) → SameSecond SamePart x y → SameSecond (PartSpot spot) x y → SameSecond (PartSpot spot) y z → SameSecond (PartSpot spot) x z
+    second_join : (spot : Spot) (x y z : Option Part) → SameSecond SamePart x y → SameSecond (PartSpot spot) x y
+        → SameSecond (PartSpot spot) y z → SameSecond (PartSpot spot) x z
     second_join spot None None None same h k = tt
     second_join spot (Some a) (Some b) (Some c) same h k = PartSpot-join spot a b c same h k
     second_join spot None None (Some c) same h k = k

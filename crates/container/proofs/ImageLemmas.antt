@@ -1,5 +1,6 @@
 -- The cells of an open image.
-use Rattle.std.proofs.Common.{◌≡◌, ◌≢◌, ℕ, ◌+◌, ◌-◌, ◌/◌, ◌^◌, ◌<◌, ◌≤◌, true, false, IsTrue, List, length, Option, Some, None, IfSome, slice_index, refl, sym, ◌∙◌, ap, subst, arith, ⊎_elim}
+use Rattle.std.proofs.Common.{◌≡◌, ◌≢◌, ℕ, ◌+◌, ◌-◌, ◌/◌, ◌^◌, ◌<◌, ◌≤◌, true, false, IsTrue, List, length, Option}
+use Rattle.std.proofs.Common.{Some, None, IfSome, slice_index, refl, sym, ◌∙◌, ap, subst, arith, ⊎_elim}
 use Rattle.std.proofs.lemmas.Bool.{cases_lt, cases_eq, lt-ltb, le-ltb, and_from, eq-eqb, ne_eqb}
 use Rattle.save_bytes.specs.Cells.{Cell, Byte}
 use Rattle.save_bytes.specs.Stays.{Stays}
@@ -35,14 +36,18 @@ use Rattle.container.proofs.PartLemmas.{sound_descriptors}
 use Rattle.container.proofs.StoreLemmas.{four_fits}
 
 -- the partition of each part of a sound header lies in the image
-pub partition_there : (header : Header) (image_len number : ℕ) → IsSound header image_len → number < header.parts → IsPartition (partition_of header number) image_len
+pub partition_there : (header : Header) (image_len number : ℕ) → IsSound header image_len → number < header.parts
+    → IsPartition (partition_of header number) image_len
 partition_there header image_len number sound there =
     ⊎_elim
     (λ (zeroth : number < 1). let is : number ≡ 0 = omega arith in rw is sound.partition_a)
-    (λ (later : 1 ≤ number). let is : number ≡ 1 = omega (arith, sound.two_parts, there) in let both : header.parts ≡ 2 = omega (arith, sound.two_parts, there) in rw is (sound.partition_b both))
+    (λ (later : 1 ≤ number). let is : number ≡ 1 =
+        omega (arith, sound.two_parts, there) in let both : header.parts ≡ 2 =
+        omega (arith, sound.two_parts, there) in rw is (sound.partition_b both))
     (cases_lt number 1)
 
-module _ (disk : disks.State) (image : ImageState) (header : Header) (table : List ℕ) (disk_of : IsDiskOf disk image) (sound : IsSound header image.len) (whole : length table ≡ header.table_size) where
+module _ (disk : disks.State) (image : ImageState) (header : Header) (table : List ℕ) (disk_of : IsDiskOf disk image)
+    (sound : IsSound header image.len) (whole : length table ≡ header.table_size) where
   -- a part of a whole container can be viewed
   pub part_view : (number : ℕ) (part : Part) → number < header.parts → IsPartOf header number part → CanView (image_state disk image).shape part (length table)
   part_view number part there is =
@@ -68,7 +73,8 @@ module _ (disk : disks.State) (image : ImageState) (header : Header) (table : Li
       }
 
   -- the store of a whole container is sound
-  pub store_sound : (first : Part) (second : Option Part) → part_count second ≡ header.parts → IsPartOf header 0 first → IfSome second (IsPartOf header 1) → IsTrue (state_of (image_state disk image) first second table).shape.sound
+  pub store_sound : (first : Part) (second : Option Part) → part_count second ≡ header.parts → IsPartOf header 0 first
+      → IfSome second (IsPartOf header 1) → IsTrue (state_of (image_state disk image) first second table).shape.sound
   store_sound first None count one other = can_view-true (image_state disk image).shape first (length table) (part_view 0 first (omega (arith, count)) one)
   store_sound first (Some part) count one other =
       let view = part_view 0 first (omega (arith, count)) one in
@@ -76,7 +82,8 @@ module _ (disk : disks.State) (image : ImageState) (header : Header) (table : Li
       and_from _ _ (rw (one.number_is, other.number_is) refl)
       (and_from _ _ (can_view-true (image_state disk image).shape first (length table) view)
       (and_from _ _ (can_view-true (image_state disk image).shape part (length table) next)
-      (lt-ltb _ _ (omega (arith, four_fits (image_state disk image) first table (image_size_fits disk image) view, four_fits (image_state disk image) part table (image_size_fits disk image) next, image.layout.most)))))
+      (lt-ltb _ _ (omega (arith, four_fits (image_state disk image) first table (image_size_fits disk image) view,
+          four_fits (image_state disk image) part table (image_size_fits disk image) next, image.layout.most)))))
 
 -- a part of a number is the first or the second
 pub data IsOne (parts : Parts) (number : ℕ) (part : Part) : Type 0 where
@@ -102,18 +109,26 @@ count_two : (second : Option Part) (part : Part) → second ≡ Some part → pa
 count_two second part is = ap part_count is
 
 -- each part is the one that was read
-pub read_one : (table : List ℕ) (header : Header) (parts : Parts) (number : ℕ) (part : Part) → AreRead table header parts → IsOne parts number part → (number < header.parts) × IsPartRead table header number part
+pub read_one : (table : List ℕ) (header : Header) (parts : Parts) (number : ℕ) (part : Part)
+    → AreRead table header parts → IsOne parts number part → (number < header.parts)
+    × IsPartRead table header number part
 read_one table header parts number part read (is_first zeroth same) =
     (omega (arith, zeroth, some_parts parts.second, read.count), rw zeroth (subst (λ (p : Part). IsPartRead table header 0 p) same read.first))
 read_one table header parts number part read (is_second one same) =
     let second : IfSome (Some part) (IsPartRead table header 1) = rw same at read.second in
     (omega (arith, one, count_two parts.second part same, read.count), rw one second)
 
-part_is_read : (table : List ℕ) (header : Header) (parts : Parts) (number : ℕ) (part : Part) → AreRead table header parts → part_at parts number ≡ Some part → (number < header.parts) × IsPartRead table header number part
+part_is_read : (table : List ℕ) (header : Header) (parts : Parts) (number : ℕ) (part : Part)
+    → AreRead table header parts → part_at parts number ≡ Some part → (number < header.parts)
+    × IsPartRead table header number part
 part_is_read table header parts number part read there = read_one table header parts number part read (one_of parts number part there)
 
 -- a part's cells over an image's bytes, where nothing of the part was changed
-module _ (base : State) (bytes : List ℕ) (header : Header) (number : ℕ) (part : Part) (table : List ℕ) (small : base.shape.size < 2 ^ 64) (view : CanView base.shape part (length table)) (same : (y : ℕ) → y < base.shape.size → base.cells y ≡ Byte (slice_index bytes y)) (place : part.at ≡ (partition_of header number).at) (is : part.number ≡ number) (active : table ≡ active_table bytes header) (untouched : IsUntouched part) where
+module _ (base : State) (bytes : List ℕ) (header : Header) (number : ℕ) (part : Part) (table : List ℕ)
+    (small : base.shape.size < 2 ^ 64) (view : CanView base.shape part (length table))
+    (same : (y : ℕ) → y < base.shape.size → base.cells y ≡ Byte (slice_index bytes y))
+    (place : part.at ≡ (partition_of header number).at) (is : part.number ≡ number)
+    (active : table ≡ active_table bytes header) (untouched : IsUntouched part) where
   told_base : State
   told_base = record base { told = true }
 
@@ -123,7 +138,8 @@ module _ (base : State) (bytes : List ℕ) (header : Header) (number : ℕ) (par
   ideal_stays : Stays told_base ideal None
   unfolding told_base ideal
   ideal_stays = record {
-    space = record { shape = refl; faults = omega arith; cause = tt; told = λ told. refl; twins = λ told. record { bottom = λ x h. refl; is_fixed = λ x h. refl } };
+    space = record { shape = refl; faults = omega arith; cause = tt; told = λ told. refl; twins =
+        λ told. record { bottom = λ x h. refl; is_fixed = λ x h. refl } };
     cells = λ told y below. sym (same y below);
   }
 
@@ -133,7 +149,8 @@ module _ (base : State) (bytes : List ℕ) (header : Header) (number : ℕ) (par
   chosen_stays : Stays (contents_of ideal part) chosen_contents None
   unfolding ideal chosen_contents
   chosen_stays = record {
-    space = record { shape = refl; faults = omega arith; cause = tt; told = λ told. refl; twins = λ told. record { bottom = λ x h. refl; is_fixed = λ x h. refl } };
+    space = record { shape = refl; faults = omega arith; cause = tt; told = λ told. refl; twins =
+        λ told. record { bottom = λ x h. refl; is_fixed = λ x h. refl } };
     cells = λ told z below. sym (ap Byte
         (place_of-chosen (λ y. slice_index bytes y) part.at part.difi part.dpfs z untouched.contents.unmarked
         ∙ ap (λ (at : ℕ). chosen (λ y. slice_index bytes y) at part.difi part.dpfs.selector z) place
@@ -169,31 +186,48 @@ module _ (base : State) (bytes : List ℕ) (header : Header) (number : ℕ) (par
       ∙ ap (λ (cell : Cell). cell_in (path_in bytes header number part.difi 4 block) part.number (value_of cell)) (contents_are at inside)
       ∙ ap (λ (n : ℕ). cell_in (path_in bytes header number part.difi 4 block) n (value_of (contents_in bytes header number part.difi at))) is
 
-module _ (disk : disks.State) (image : ImageState) (bytes : List ℕ) (header : Header) (table : List ℕ) (disk_of : IsDiskOf disk image) (held : IsHeld bytes image) (sound : IsSound header image.len) (whole : length table ≡ header.table_size) (active : table ≡ active_table bytes header) where
+module _ (disk : disks.State) (image : ImageState) (bytes : List ℕ) (header : Header) (table : List ℕ)
+    (disk_of : IsDiskOf disk image) (held : IsHeld bytes image) (sound : IsSound header image.len)
+    (whole : length table ≡ header.table_size) (active : table ≡ active_table bytes header) where
   -- the cells of a part that was read, over the image
-  read_cells : (number : ℕ) (part : Part) → number < header.parts → IsPartRead table header number part → (x : ℕ) → x < part.difi.ivfc4.size → (part_state (image_state disk image) part table).cells x ≡ cell_at bytes header number part.difi x
+  read_cells : (number : ℕ) (part : Part) → number < header.parts → IsPartRead table header number part → (x : ℕ)
+      → x < part.difi.ivfc4.size → (part_state (image_state disk image) part table).cells x ≡ cell_at bytes header
+      number part.difi x
   read_cells number part there read =
-      part_cells (image_state disk image) bytes header number part table (image_size_fits disk image) (part_view disk image header table disk_of sound whole number part there read.part_of)
+      part_cells (image_state disk image) bytes header number part table (image_size_fits disk image)
+          (part_view disk image header table disk_of sound whole number part there read.part_of)
       (λ y below. ap Byte (held y below)) read.part_of.place read.part_of.number_is active read.untouched
 
   -- the states of its blocks
-  read_paths : (number : ℕ) (part : Part) → number < header.parts → IsPartRead table header number part → (level block : ℕ) → HasBlock part.difi level block → status_in (image_state disk image) part table level block ≡ status_of (path_in bytes header number part.difi level block)
+  read_paths : (number : ℕ) (part : Part) → number < header.parts → IsPartRead table header number part
+      → (level block : ℕ) → HasBlock part.difi level block
+      → status_in (image_state disk image) part table level block ≡ status_of
+      (path_in bytes header number part.difi level block)
   read_paths number part there read level block has =
-      ap status_of (part_paths (image_state disk image) bytes header number part table (image_size_fits disk image) (part_view disk image header table disk_of sound whole number part there read.part_of)
+      ap status_of (part_paths (image_state disk image) bytes header number part table (image_size_fits disk image)
+          (part_view disk image header table disk_of sound whole number part there read.part_of)
       (λ y below. ap Byte (held y below)) read.part_of.place read.part_of.number_is active read.untouched level block has)
 
-  pub store_paths : (parts : Parts) → AreRead table header parts → (number : ℕ) (part : Part) → part_at parts number ≡ Some part → (level block : ℕ) → HasBlock part.difi level block → status_in (image_state disk image) part table level block ≡ status_of (path_in bytes header number part.difi level block)
+  pub store_paths : (parts : Parts) → AreRead table header parts → (number : ℕ) (part : Part)
+      → part_at parts number ≡ Some part → (level block : ℕ) → HasBlock part.difi level block
+      → status_in (image_state disk image) part table level block ≡ status_of
+      (path_in bytes header number part.difi level block)
   store_paths parts read number part there =
       let one = part_is_read table header parts number part read there in
       read_paths number part one.0 one.1
 
   -- and of the second of two parts
-  second_cells : (first part : Part) → 1 < header.parts → IsPartRead table header 1 part → (x : ℕ) → x < part.difi.ivfc4.size → (state_of (image_state disk image) first (Some part) table).cells (first.difi.ivfc4.size + x) ≡ cell_at bytes header 1 part.difi x
+  second_cells : (first part : Part) → 1 < header.parts → IsPartRead table header 1 part → (x : ℕ)
+      → x < part.difi.ivfc4.size → (state_of (image_state disk image) first (Some part) table).cells
+      (first.difi.ivfc4.size + x) ≡ cell_at bytes header 1 part.difi x
   second_cells first part there read x below =
       let rest : first.difi.ivfc4.size + x - first.difi.ivfc4.size ≡ x = omega arith in
       rw (le-ltb (first.difi.ivfc4.size + x) first.difi.ivfc4.size (omega arith), rest) (read_cells 1 part there read x below)
 
-  pub store_cells : (first : Part) (second : Option Part) → part_count second ≡ header.parts → IsPartRead table header 0 first → IfSome second (IsPartRead table header 1) → AreImageCells bytes header (record { first = first; second = second }) (state_of (image_state disk image) first second table).cells
+  pub store_cells : (first : Part) (second : Option Part) → part_count second ≡ header.parts
+      → IsPartRead table header 0 first → IfSome second (IsPartRead table header 1)
+      → AreImageCells bytes header (record { first = first; second = second })
+      (state_of (image_state disk image) first second table).cells
   store_cells first None count one other = record { first = read_cells 0 first (omega (arith, count)) one; second = tt }
   store_cells first (Some part) count one other = record {
     first = λ x below. rw (lt-ltb x first.difi.ivfc4.size below) (read_cells 0 first (omega (arith, count)) one x below);

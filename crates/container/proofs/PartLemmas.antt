@@ -18,13 +18,18 @@ unfolding fields
 fields_place table place = refl
 
 -- the reading at the places of a part
-pub reading_at : (table : List ℕ) (header : Header) (number : ℕ) (place partition : Extent) → place ≡ descriptor_of header number → partition ≡ partition_of header number → reading table place.at place.size partition.size ≡ part_reading table header number
+pub reading_at : (table : List ℕ) (header : Header) (number : ℕ) (place partition : Extent)
+    → place ≡ descriptor_of header number → partition ≡ partition_of header number
+    → reading table place.at place.size partition.size ≡ part_reading table header number
 reading_at table header number place partition first second =
     ap (λ (e : Extent). reading table e.at e.size partition.size) first
     ∙ ap (λ (e : Extent). reading table (descriptor_of header number).at (descriptor_of header number).size e.size) second
 
 -- the descriptor is sound at the places of a part
-pub sound_at : (one two : Difi) (header : Header) (number : ℕ) (place partition : Extent) → two ≡ one → place ≡ descriptor_of header number → partition ≡ partition_of header number → IsSoundDifi one place.size partition.size → IsSoundDifi two (descriptor_of header number).size (partition_of header number).size
+pub sound_at : (one two : Difi) (header : Header) (number : ℕ) (place partition : Extent) → two ≡ one
+    → place ≡ descriptor_of header number → partition ≡ partition_of header number
+    → IsSoundDifi one place.size partition.size
+    → IsSoundDifi two (descriptor_of header number).size (partition_of header number).size
 sound_at one two header number place partition same first second sound =
     subst (λ (d : Difi). IsSoundDifi d (descriptor_of header number).size (partition_of header number).size) (sym same)
     (subst (λ (e : Extent). IsSoundDifi one (descriptor_of header number).size e.size) second

@@ -40,7 +40,8 @@ module _ (base : State) (first : Part) (table : List ℕ) where
   store_told (Some part) = and_same base.told
 
 -- a part's level four is no longer than its base
-pub four_fits : (base : State) (part : Part) (table : List ℕ) → base.shape.size < 2 ^ 64 → CanView base.shape part (length table) → part.difi.ivfc4.size ≤ base.shape.size
+pub four_fits : (base : State) (part : Part) (table : List ℕ) → base.shape.size < 2 ^ 64
+    → CanView base.shape part (length table) → part.difi.ivfc4.size ≤ base.shape.size
 four_fits base part table small view =
     ⊎_elim
     (λ (none : part.difi.ivfc4.size < 1). omega (arith, none))
@@ -51,7 +52,9 @@ four_fits base part table small view =
     (cases_lt part.difi.ivfc4.size 1)
 
 -- a sound store has a length of 64 bits
-pub store_fits : (base : State) (first : Part) (second : Option Part) (table : List ℕ) → (IsTrue base.shape.sound → base.shape.size < 2 ^ 64) → IsTrue (state_of base first second table).shape.sound → (state_of base first second table).shape.size < 2 ^ 64
+pub store_fits : (base : State) (first : Part) (second : Option Part) (table : List ℕ)
+    → (IsTrue base.shape.sound → base.shape.size < 2 ^ 64) → IsTrue (state_of base first second table).shape.sound
+    → (state_of base first second table).shape.size < 2 ^ 64
 store_fits base first None table fits sound =
     let view = first_view base first table None sound in
     let small = fits view.contents.sound in
@@ -84,7 +87,8 @@ module _ (base new : State) (table : List ℕ) (refusal : Option Bad) (small : b
         (in_other : SameCells (part_state base second table) (part_state new second table)). λ x below.
         ⊎_elim
         (λ (lower : x < first.difi.ivfc4.size). rw (lt-ltb x first.difi.ivfc4.size lower) (in_one x lower))
-        (λ (behind : first.difi.ivfc4.size ≤ x). rw (le-ltb x first.difi.ivfc4.size behind) (in_other (x - first.difi.ivfc4.size) (omega (arith, behind, below))))
+        (λ (behind : first.difi.ivfc4.size ≤ x). rw (le-ltb x first.difi.ivfc4.size behind)
+            (in_other (x - first.difi.ivfc4.size) (omega (arith, behind, below))))
         (cases_lt x first.difi.ivfc4.size))
         (one.cells (and_parts _ _ told).0) (other.cells (and_parts _ _ told).0);
   }

@@ -1,5 +1,6 @@
 -- A flip changes the active byte and the hash, in the fields and in the bytes alike.
-use Rattle.std.proofs.Common.{◌≡◌, ℕ, ◌+◌, ◌-◌, ◌<◌, ◌≤◌, List, [], ◌∷◌, ◌++◌, length, get_or, take, drop, set, refl, sym, ap, ◌∙◌, arith, append_assoc, length-append, add-one, lit<, lit≤}
+use Rattle.std.proofs.Common.{◌≡◌, ℕ, ◌+◌, ◌-◌, ◌<◌, ◌≤◌, List, [], ◌∷◌, ◌++◌, length, get_or, take, drop, set, refl}
+use Rattle.std.proofs.Common.{sym, ap, ◌∙◌, arith, append_assoc, length-append, add-one, lit<, lit≤}
 use Rattle.std.proofs.lemmas.List.{places, take-append-le, take-take, set_split, drop-drop, take_at, drop_at, length-take, length-take-le, length-drop}
 use borrow.Rule.Slice.PartMut.{put_mid}
 use Rattle.save_bytes.specs.Fields.{number_at, with_bytes}
@@ -24,7 +25,8 @@ put_whole raw piece at =
     rw (size, drop-drop, append_assoc) refl
 
 -- what the two writes leave
-pub flip_bytes : (raw hash part : List ℕ) (at place x : ℕ) → at < length raw → length hash ≡ 32 → part ≡ hash → put_mid place (place + 32 - place) (set raw at x) part ≡ with_bytes (with_bytes raw at (x ∷ [])) place hash
+pub flip_bytes : (raw hash part : List ℕ) (at place x : ℕ) → at < length raw → length hash ≡ 32 → part ≡ hash
+    → put_mid place (place + 32 - place) (set raw at x) part ≡ with_bytes (with_bytes raw at (x ∷ [])) place hash
 flip_bytes raw hash part at place x inside size is =
     ap (λ (p : List ℕ). put_mid place (place + 32 - place) (set raw at x) p) is
     ∙ ap (λ (n : ℕ). put_mid place (place + n - place) (set raw at x) hash) (sym size)
@@ -39,10 +41,12 @@ length-with_bytes : (xs : List ℕ) (at : ℕ) (piece : List ℕ) → at + lengt
 length-with_bytes xs at piece fits = simp (length-append, length-take, length-drop) (omega arith)
 
 -- the bytes before a piece stay, and those behind it
-with_bytes-below : (xs : List ℕ) (at : ℕ) (piece : List ℕ) (k : ℕ) → at + length piece ≤ length xs → k < at → get_or (with_bytes xs at piece) k 0 ≡ get_or xs k 0
+with_bytes-below : (xs : List ℕ) (at : ℕ) (piece : List ℕ) (k : ℕ) → at + length piece ≤ length xs
+    → k < at → get_or (with_bytes xs at piece) k 0 ≡ get_or xs k 0
 with_bytes-below xs at piece k fits h = grind (arith, places)
 
-with_bytes-above : (xs : List ℕ) (at : ℕ) (piece : List ℕ) (k : ℕ) → at + length piece ≤ length xs → at + length piece ≤ k → get_or (with_bytes xs at piece) k 0 ≡ get_or xs k 0
+with_bytes-above : (xs : List ℕ) (at : ℕ) (piece : List ℕ) (k : ℕ) → at + length piece ≤ length xs
+    → at + length piece ≤ k → get_or (with_bytes xs at piece) k 0 ≡ get_or xs k 0
 with_bytes-above xs at piece k fits h = grind (arith, places)
 
 take-with_bytes : (xs : List ℕ) (at : ℕ) (piece : List ℕ) (n : ℕ) → at + length piece ≤ length xs → n ≤ at → take n (with_bytes xs at piece) ≡ take n xs
@@ -103,8 +107,11 @@ module _ (raw : List ℕ) (long : length raw ≡ 256) where
   bytes_of off n fits = bytes_at-raw (image_of raw) off n fits ∙ ap (λ (bytes : List ℕ). take n (drop off bytes)) (raw_of-image_of raw long)
 
 -- a number all of whose bytes are as they were
-number_kept : (raw new : List ℕ) → length raw ≡ 256 → length new ≡ 256 → (n off : ℕ) → off + n ≤ 256 → ((k : ℕ) → k < n → get_or new (off + k) 0 ≡ get_or raw (off + k) 0) → number_at n (image_of new) (256 + off) ≡ number_at n (image_of raw) (256 + off)
-number_kept raw new long new_long n off fits keeps = number_of new new_long n off fits ∙ number_at-same n new raw off off keeps ∙ sym (number_of raw long n off fits)
+number_kept : (raw new : List ℕ) → length raw ≡ 256 → length new ≡ 256 → (n off : ℕ) → off + n ≤ 256
+    → ((k : ℕ) → k < n → get_or new (off + k) 0 ≡ get_or raw (off + k) 0)
+    → number_at n (image_of new) (256 + off) ≡ number_at n (image_of raw) (256 + off)
+number_kept raw new long new_long n off fits keeps = number_of new new_long n off fits
+    ∙ number_at-same n new raw off off keeps ∙ sym (number_of raw long n off fits)
 
 -- the fields after the change: the numbers before the active byte and behind the hash stay
 module _ (raw hash : List ℕ) (at place x : ℕ) (long : length raw ≡ 256) (size : length hash ≡ 32) (apart : at < place) (fits : place + 32 ≤ 256) where
@@ -112,10 +119,13 @@ module _ (raw hash : List ℕ) (at place x : ℕ) (long : length raw ≡ 256) (s
   new_long = both_long raw hash at place x long size apart fits
 
   before : (n off : ℕ) → off + n ≤ at → number_at n (image_of (with_both raw at x place hash)) (256 + off) ≡ number_at n (image_of raw) (256 + off)
-  before n off h = number_kept raw (with_both raw at x place hash) long new_long n off (omega arith) (λ k l. both-below raw hash at place x long size apart fits (off + k) (omega arith))
+  before n off h = number_kept raw (with_both raw at x place hash) long new_long n off (omega arith)
+      (λ k l. both-below raw hash at place x long size apart fits (off + k) (omega arith))
 
-  behind : (n off : ℕ) → place + 32 ≤ off → off + n ≤ 256 → number_at n (image_of (with_both raw at x place hash)) (256 + off) ≡ number_at n (image_of raw) (256 + off)
-  behind n off h in_raw = number_kept raw (with_both raw at x place hash) long new_long n off in_raw (λ k l. both-above raw hash at place x long size apart fits (off + k) (omega arith))
+  behind : (n off : ℕ) → place + 32 ≤ off → off + n ≤ 256
+      → number_at n (image_of (with_both raw at x place hash)) (256 + off) ≡ number_at n (image_of raw) (256 + off)
+  behind n off h in_raw = number_kept raw (with_both raw at x place hash) long new_long n off in_raw
+      (λ k l. both-above raw hash at place x long size apart fits (off + k) (omega arith))
 
   new_active : byte_at (image_of (with_both raw at x place hash)) at ≡ x
   new_active = byte_of (with_both raw at x place hash) new_long at (omega arith) ∙ both-active raw hash at place x long size apart fits
@@ -131,7 +141,9 @@ module _ (raw hash : List ℕ) (at place x : ℕ) (long : length raw ≡ 256) (s
       ∙ sym (bytes_of raw long 0 n (omega arith))
 
 -- the fields after a flip, of either kind
-flip_fields : (kind : Kind) (raw hash : List ℕ) (x : ℕ) → length raw ≡ 256 → length hash ≡ 32 → let new : List ℕ = with_both raw (active_place kind) x (hash_place kind) hash in fields_of kind (image_of new) ≡ record (fields_of kind (image_of raw)) { active = x; hash = hash; raw = new }
+flip_fields : (kind : Kind) (raw hash : List ℕ) (x : ℕ) → length raw ≡ 256 → length hash ≡ 32
+    → let new : List ℕ = with_both raw (active_place kind) x (hash_place kind) hash in fields_of kind
+    (image_of new) ≡ record (fields_of kind (image_of raw)) { active = x; hash = hash; raw = new }
 flip_fields Disa raw hash x long size =
     let new = with_both raw 0x68 x 0x6C hash in
     disa_from (image_of raw) (image_of new) x hash new
@@ -166,5 +178,7 @@ flipped-of_raw header hash size h =
       size_is = new_long raw hash at place x h.size_is size fit.0 fit.1;
       kind_is = ap kind_named (new_front raw hash at place x h.size_is size fit.0 fit.1 4 (omega arith)) ∙ h.kind_is;
       version_is = before raw hash at place x h.size_is size fit.0 fit.1 4 0x04 front ∙ h.version_is;
-      fields_are = flip_fields kind raw hash x h.size_is size ∙ ap (λ (found : Header). record found { active = x; hash = hash; raw = with_both raw at x place hash }) h.fields_are;
+      fields_are = flip_fields kind raw hash x h.size_is size
+          ∙ ap (λ (found : Header). record found { active = x; hash = hash; raw = with_both raw at x place hash })
+          h.fields_are;
     }

@@ -1,5 +1,7 @@
 -- The fields of an image are those of the header's 256 bytes in it.
-use Rattle.std.proofs.Common.{◌≡◌, ℕ, ◌+◌, ◌-◌, ◌<◌, ◌≤◌, eqb, ltb, cond, Option, Some, None, Result, Err, inl, inr, List, ◌++◌, length, get_or, take, drop, replicate, refl, sym, ap, ◌∙◌, arith, lit<, lit≤, get_or-take, get_or-drop, take-take}
+use Rattle.std.proofs.Common.{◌≡◌, ℕ, ◌+◌, ◌-◌, ◌<◌, ◌≤◌, eqb, ltb, cond, Option, Some, None, Result, Err, inl, inr}
+use Rattle.std.proofs.Common.{List, ◌++◌, length, get_or, take, drop, replicate, refl, sym, ap, ◌∙◌, arith, lit<}
+use Rattle.std.proofs.Common.{lit≤, get_or-take, get_or-drop, take-take}
 use Rattle.std.proofs.Math.Nat.{add_assoc}
 use Rattle.std.proofs.lemmas.List.{append-nil, drop-take, drop-drop}
 use Rattle.save_bytes.specs.Fields.{number_at}
@@ -7,7 +9,8 @@ use Rattle.save_bytes.proofs.FieldLemmas.{number_at-same}
 use Rattle.container_header.specs.declared.header.Kind.{Kind}
 use Rattle.container_header.specs.declared.header.Kind.TheVariants.{Disa, Diff}
 use Rattle.container_header.specs.Fields.{bytes_at, byte_at, word_at, long_at, disa_fields, diff_fields}
-use Rattle.container_header.specs.Conditions.{kind_named, kind_of, version_of, fields_of, layout_faults, first_failing, checked, reading_as, reading_of, reading, first_bytes}
+use Rattle.container_header.specs.Conditions.{kind_named, kind_of, version_of, fields_of, layout_faults}
+use Rattle.container_header.specs.Conditions.{first_failing, checked, reading_as, reading_of, reading, first_bytes}
 use Rattle.container_header.specs.declared.header.Header.{Header}
 use Rattle.container_header.specs.declared.fault.HeaderFault.{HeaderFault}
 use Rattle.container_header.specs.declared.fault.HeaderFault.TheVariants.{NotImage, Version}
@@ -21,20 +24,26 @@ raw_of image = bytes_at image 0 256
 take-drop-take : (n off m : ℕ) (xs : List ℕ) → off + n ≤ m → take n (drop off (take m xs)) ≡ take n (drop off xs)
 take-drop-take n off m xs fits =
     let whole : off + (m - off) ≡ m = omega arith in
-    ap (λ (k : ℕ). take n (drop off (take k xs))) (sym whole) ∙ ap (λ (ys : List ℕ). take n ys) (drop-take off (m - off) xs) ∙ take-take n (m - off) (drop off xs) (omega arith)
+    ap (λ (k : ℕ). take n (drop off (take k xs))) (sym whole)
+        ∙ ap (λ (ys : List ℕ). take n ys) (drop-take off (m - off) xs)
+        ∙ take-take n (m - off) (drop off xs) (omega arith)
 
 module _ (image : List ℕ) where
   pub byte_at-raw : (at : ℕ) → at < 256 → byte_at image at ≡ get_or (raw_of image) at 0
   byte_at-raw at h = sym (get_or-take 256 (drop 256 image) at 0 h ∙ get_or-drop 256 image at 0)
 
   pub number_at-raw : (n at : ℕ) → at + n ≤ 256 → number_at n image (256 + at) ≡ number_at n (raw_of image) at
-  number_at-raw n at fits = number_at-same n image (raw_of image) (256 + at) at (λ k h. ap (λ (i : ℕ). get_or image i 0) (add_assoc 256 at k) ∙ byte_at-raw (at + k) (omega arith))
+  number_at-raw n at fits = number_at-same n image (raw_of image) (256 + at)
+      at (λ k h. ap (λ (i : ℕ). get_or image i 0) (add_assoc 256 at k) ∙ byte_at-raw (at + k) (omega arith))
 
   pub bytes_at-raw : (at n : ℕ) → at + n ≤ 256 → bytes_at image at n ≡ take n (drop at (raw_of image))
   bytes_at-raw at n fits = sym (take-drop-take n at 256 (drop 256 image) fits ∙ ap (λ (ys : List ℕ). take n ys) (drop-drop at 256 image))
 
 -- The fields of an image that has the numbers before the active byte of another one: a DISA's, and a DIFF's.
-pub disa_from : (image new : List ℕ) (active : ℕ) (hash raw : List ℕ) → ((n at : ℕ) → at + n ≤ 0x68 → number_at n new (256 + at) ≡ number_at n image (256 + at)) → byte_at new 0x68 ≡ active → bytes_at new 0x6C 32 ≡ hash → raw_of new ≡ raw → disa_fields new ≡ record (disa_fields image) { active = active; hash = hash; raw = raw }
+pub disa_from : (image new : List ℕ) (active : ℕ) (hash raw : List ℕ)
+    → ((n at : ℕ) → at + n ≤ 0x68 → number_at n new (256 + at) ≡ number_at n image (256 + at))
+    → byte_at new 0x68 ≡ active → bytes_at new 0x6C 32 ≡ hash → raw_of new ≡ raw
+    → disa_fields new ≡ record (disa_fields image) { active = active; hash = hash; raw = raw }
 disa_from image new active hash raw numbers is_active is_hash is_raw =
     let parts = numbers 4 0x08 (lit≤ tt) in
     let secondary = numbers 8 0x10 (lit≤ tt) in
@@ -50,7 +59,10 @@ disa_from image new active hash raw numbers is_active is_hash is_raw =
     let part_b_size = numbers 8 0x60 (lit≤ tt) in
     cc
 
-pub diff_from : (image new : List ℕ) (active : ℕ) (hash raw : List ℕ) → ((n at : ℕ) → at + n ≤ 0x30 → number_at n new (256 + at) ≡ number_at n image (256 + at)) → long_at new 0x54 ≡ long_at image 0x54 → byte_at new 0x30 ≡ active → bytes_at new 0x34 32 ≡ hash → raw_of new ≡ raw → diff_fields new ≡ record (diff_fields image) { active = active; hash = hash; raw = raw }
+pub diff_from : (image new : List ℕ) (active : ℕ) (hash raw : List ℕ)
+    → ((n at : ℕ) → at + n ≤ 0x30 → number_at n new (256 + at) ≡ number_at n image (256 + at))
+    → long_at new 0x54 ≡ long_at image 0x54 → byte_at new 0x30 ≡ active → bytes_at new 0x34 32 ≡ hash
+    → raw_of new ≡ raw → diff_fields new ≡ record (diff_fields image) { active = active; hash = hash; raw = raw }
 diff_from image new active hash raw numbers is_unique is_active is_hash is_raw =
     let secondary = numbers 8 0x08 (lit≤ tt) in
     let primary = numbers 8 0x10 (lit≤ tt) in
@@ -71,10 +83,13 @@ module _ (one other : List ℕ) (same : raw_of one ≡ raw_of other) where
   bytes_same at n fits = bytes_at-raw one at n fits ∙ ap (λ (raw : List ℕ). take n (drop at raw)) same ∙ sym (bytes_at-raw other at n fits)
 
   disa_same : disa_fields one ≡ disa_fields other
-  disa_same = disa_from other one (byte_at other 0x68) (bytes_at other 0x6C 32) (raw_of other) (λ n at fits. number_same n at (omega arith)) (byte_same 0x68 (lit< tt)) (bytes_same 0x6C 32 (lit≤ tt)) same
+  disa_same = disa_from other one (byte_at other 0x68) (bytes_at other 0x6C 32) (raw_of other)
+      (λ n at fits. number_same n at (omega arith)) (byte_same 0x68 (lit< tt)) (bytes_same 0x6C 32 (lit≤ tt)) same
 
   diff_same : diff_fields one ≡ diff_fields other
-  diff_same = diff_from other one (byte_at other 0x30) (bytes_at other 0x34 32) (raw_of other) (λ n at fits. number_same n at (omega arith)) (number_same 8 0x54 (lit≤ tt)) (byte_same 0x30 (lit< tt)) (bytes_same 0x34 32 (lit≤ tt)) same
+  diff_same = diff_from other one (byte_at other 0x30) (bytes_at other 0x34 32) (raw_of other)
+      (λ n at fits. number_same n at (omega arith)) (number_same 8 0x54 (lit≤ tt)) (byte_same 0x30 (lit< tt))
+      (bytes_same 0x34 32 (lit≤ tt)) same
 
   pub fields_same : (kind : Kind) → fields_of kind one ≡ fields_of kind other
   fields_same Disa = disa_same
@@ -89,13 +104,16 @@ module _ (one other : List ℕ) (same : raw_of one ≡ raw_of other) where
   reading_as_same : (kind : Option Kind) (n : ℕ) → reading_as kind one n ≡ reading_as kind other n
   reading_as_same None n = refl
   reading_as_same (Some kind) n =
-      let outcome : ℕ → Header → Result Header HeaderFault = λ version header. cond (eqb version (version_of kind)) (checked header (first_failing 1 (layout_faults header n))) (Err Version) in
+      let outcome : ℕ → Header → Result Header HeaderFault =
+          λ version header. cond (eqb version (version_of kind))
+          (checked header (first_failing 1 (layout_faults header n))) (Err Version) in
       ap (λ (version : ℕ). outcome version (fields_of kind one)) version_same ∙ ap (λ (header : Header). outcome (word_at other 0x04) header) (fields_same kind)
 
   pub reading_same : (n : ℕ) → reading_of one n ≡ reading_of other n
   unfolding reading_of
   reading_same n =
-      let by_kind : reading_as (kind_of one) one n ≡ reading_as (kind_of other) other n = ap (λ (kind : Option Kind). reading_as kind one n) kind_same ∙ reading_as_same (kind_of other) n in
+      let by_kind : reading_as (kind_of one) one n ≡ reading_as (kind_of other) other n =
+          ap (λ (kind : Option Kind). reading_as kind one n) kind_same ∙ reading_as_same (kind_of other) n in
       ap (λ (answer : Result Header HeaderFault). cond (ltb n 512) (Err NotImage) answer) by_kind
 
 reading_of-short : (image : List ℕ) (n : ℕ) → n < 512 → reading_of image n ≡ Err NotImage

@@ -1,5 +1,6 @@
 -- What is read is the image's header exactly where that is sound, and its fields are those of its bytes.
-use Rattle.std.proofs.Common.{◌≡◌, ℕ, ◌≤◌, Bool, true, false, eqb, ltb, cond, Option, Some, None, Result, Ok, Err, IfOk, List, ◌++◌, length, take, drop, replicate, refl, sym, ap, ◌∙◌, arith}
+use Rattle.std.proofs.Common.{◌≡◌, ℕ, ◌≤◌, Bool, true, false, eqb, ltb, cond, Option, Some, None, Result, Ok, Err}
+use Rattle.std.proofs.Common.{IfOk, List, ◌++◌, length, take, drop, replicate, refl, sym, ap, ◌∙◌, arith}
 use Rattle.std.proofs.lemmas.Bool.{le-ltb, eq-eqb, eqb-true, ltb-false}
 use Rattle.std.proofs.lemmas.List.{drop_at, length-replicate, length-take-le, length-drop, take_all}
 use Rattle.container_header.specs.declared.header.Kind.{Kind}
@@ -35,10 +36,12 @@ versioned : (test : Bool) (x : Result Header HeaderFault) (header : Header) → 
 versioned true x header e = (refl, e)
 versioned false x header e = cc
 
-reading_as-ok : (found : Option Kind) (bytes : List ℕ) (n : ℕ) (header : Header) → 512 ≤ n → kind_of bytes ≡ found → reading_as found bytes n ≡ Ok header → IsRead bytes n header
+reading_as-ok : (found : Option Kind) (bytes : List ℕ) (n : ℕ) (header : Header) → 512 ≤ n → kind_of bytes ≡ found
+    → reading_as found bytes n ≡ Ok header → IsRead bytes n header
 reading_as-ok None bytes n header long is e = cc
 reading_as-ok (Some kind) bytes n header long is e =
-    let by_version = versioned (eqb (word_at bytes 0x04) (version_of kind)) (checked (fields_of kind bytes) (first_failing 1 (layout_faults (fields_of kind bytes) n))) header e in
+    let by_version = versioned (eqb (word_at bytes 0x04) (version_of kind))
+        (checked (fields_of kind bytes) (first_failing 1 (layout_faults (fields_of kind bytes) n))) header e in
     let by_fault = checked-ok (fields_of kind bytes) header (first_failing 1 (layout_faults (fields_of kind bytes) n)) by_version.1 in
     let same : kind ≡ header.kind = sym (kind_kept kind bytes) ∙ ap (λ (h : Header). h.kind) by_fault.0 in
     record {
@@ -103,7 +106,8 @@ pub read_sound : (bytes : List ℕ) (n : ℕ) (header : Header) → reading_of b
 read_sound bytes n header e = sound_from header n (reading_of-ok bytes n header e).none_fails
 
 -- an image that holds a header's bytes has that header, where it is sound there
-pub reading-raw : (header : Header) (image : List ℕ) → IsOfRaw header → 512 ≤ length image → raw_of image ≡ header.raw → first_failing 1 (layout_faults header (length image)) ≡ None → reading image ≡ Ok header
+pub reading-raw : (header : Header) (image : List ℕ) → IsOfRaw header → 512 ≤ length image → raw_of image ≡ header.raw
+    → first_failing 1 (layout_faults header (length image)) ≡ None → reading image ≡ Ok header
 reading-raw header image h long holds sound =
     let held = image_of header.raw in
     let same : raw_of image ≡ raw_of held = holds ∙ sym (raw_of-image_of header.raw h.size_is) in
@@ -119,11 +123,14 @@ reading-raw header image h long holds sound =
 pub reading-ok : (image : List ℕ) (header : Header) → reading image ≡ Ok header → IsHeaderOf header image
 reading-ok image header e =
     let h = reading_of-ok image (length image) header e in
-    record { longer = h.longer; kind_is = h.kind_is; version_is = h.version_is; fields_are = h.fields_are; sound = sound_from header (length image) h.none_fails }
+    record { longer = h.longer; kind_is = h.kind_is; version_is = h.version_is; fields_are = h.fields_are; sound =
+        sound_from header (length image) h.none_fails }
 
 pub reading-is : (image : List ℕ) (header : Header) → IsHeaderOf header image → reading image ≡ Ok header
 reading-is image header h =
-    reading_of-is image (length image) header (record { longer = h.longer; kind_is = h.kind_is; version_is = h.version_is; fields_are = h.fields_are; none_fails = sound_to header (length image) h.sound })
+    reading_of-is image (length image) header
+        (record { longer = h.longer; kind_is = h.kind_is; version_is = h.version_is; fields_are =
+        h.fields_are; none_fails = sound_to header (length image) h.sound })
 
 pub ok_of_raw : (bytes : List ℕ) (n : ℕ) (result : Result Header HeaderFault) → 512 ≤ length bytes → result ≡ reading_of bytes n → IfOk result IsOfRaw
 ok_of_raw bytes n (Ok header) long e = read_of_raw bytes n header long (sym e)

@@ -1,6 +1,7 @@
 -- No condition of the layout fails exactly where a header is sound.
 use Rattle.std.proofs.Common.{◌≡◌, ℕ, suc, ◌+◌, ◌≤◌, Bool, true, false, ◌==◌, ◌&&◌, ◌||◌, not, nat_lt, cond, None, List, [], ◌∷◌, refl, arith, lit≤}
-use Rattle.std.proofs.lemmas.Bool.{false≢true, ltb-false, le-ltb, leb-true, le-leb, eqb-true, eq-eqb, and_parts, and_from, cond_both, or_parts, or_from, not-false, not_from_true}
+use Rattle.std.proofs.lemmas.Bool.{false≢true, ltb-false, le-ltb, leb-true, le-leb, eqb-true, eq-eqb, and_parts}
+use Rattle.std.proofs.lemmas.Bool.{and_from, cond_both, or_parts, or_from, not-false, not_from_true}
 use Rattle.std.proofs.lemmas.Bool.Decides.{nat_tests}
 use Rattle.std.specs.List.{list_any}
 use Rattle.container_header.specs.declared.header.Extent.{Extent}
@@ -25,7 +26,9 @@ none_to n [] h = refl
 none_to n (b ∷ bs) h = rw h.0 (none_to (n + 1) bs h.1)
 
 inside_from : (e : Extent) (low high : ℕ) → not (lies_inside e low high) ≡ false → IsInside e low high
-inside_from e low high h = let both = and_parts _ _ (not-false (lies_inside e low high) h) in record { begins = leb-true low e.at both.0; ends = leb-true (e.at + e.size) high both.1 }
+inside_from e low high h = let both =
+    and_parts _ _ (not-false (lies_inside e low high) h) in record
+    { begins = leb-true low e.at both.0; ends = leb-true (e.at + e.size) high both.1 }
 
 inside_to : (e : Extent) (low high : ℕ) → IsInside e low high → not (lies_inside e low high) ≡ false
 inside_to e low high h = not_from_true (lies_inside e low high) (and_from _ _ (le-leb low e.at h.begins) (le-leb (e.at + e.size) high h.ends))
@@ -95,8 +98,12 @@ abbrev regions_with : Header → Bool → List Extent
 regions_with header two = table_at header header.primary ∷ table_at header header.secondary ∷ header.part_a ∷ cond two (header.part_b ∷ []) []
 
 regions_from : (header : Header) (two : Bool) → AreApart (regions_with header two) → RegionsApart header two
-regions_from header true h = record { tables = h.0.0; primary_a = h.0.1.0; secondary_a = h.1.0.0; primary_b = λ _. h.0.1.1.0; secondary_b = λ _. h.1.0.1.0; partitions = λ _. h.1.1.0.0 }
-regions_from header false h = record { tables = h.0.0; primary_a = h.0.1.0; secondary_a = h.1.0.0; primary_b = λ e. absurd (false≢true e); secondary_b = λ e. absurd (false≢true e); partitions = λ e. absurd (false≢true e) }
+regions_from header true h = record
+    { tables = h.0.0; primary_a = h.0.1.0; secondary_a = h.1.0.0; primary_b = λ _. h.0.1.1.0; secondary_b =
+    λ _. h.1.0.1.0; partitions = λ _. h.1.1.0.0 }
+regions_from header false h = record
+    { tables = h.0.0; primary_a = h.0.1.0; secondary_a = h.1.0.0; primary_b =
+    λ e. absurd (false≢true e); secondary_b = λ e. absurd (false≢true e); partitions = λ e. absurd (false≢true e) }
 
 regions_to : (header : Header) (two : Bool) → RegionsApart header two → AreApart (regions_with header two)
 regions_to header true h = ((h.tables, (h.primary_a, (h.primary_b refl, tt))), ((h.secondary_a, (h.secondary_b refl, tt)), ((h.partitions refl, tt), (tt, tt))))
@@ -112,7 +119,10 @@ in_two_to n low from to = grind (arith, nat_tests)
 either : (test : Bool) (x y : ℕ) (P : ℕ → Type 0) → P x → P y → P (cond test x y)
 either test x y P at_x at_y = cond_both test x y P (λ _. at_x) (λ _. at_y)
 
-active_apart : (header : Header) (first : Bool) → IsApart (table_at header header.primary) (table_at header header.secondary) → IsApart (table_at header (cond first header.primary header.secondary)) (table_at header (cond first header.secondary header.primary))
+active_apart : (header : Header) (first : Bool)
+    → IsApart (table_at header header.primary) (table_at header header.secondary)
+    → IsApart (table_at header (cond first header.primary header.secondary))
+    (table_at header (cond first header.secondary header.primary))
 active_apart header true h = h
 active_apart header false h = omega arith
 
@@ -150,8 +160,12 @@ none_sound header n (longest, (parts, (active, (table, (primary, (secondary, (a,
       active_inactive_apart = active_apart header first apart.tables;
       active_a_apart = either first header.primary header.secondary (λ at. IsApart (table_at header at) header.part_a) apart.primary_a apart.secondary_a;
       inactive_a_apart = either first header.secondary header.primary (λ at. IsApart (table_at header at) header.part_a) apart.secondary_a apart.primary_a;
-      active_b_apart = λ two. either first header.primary header.secondary (λ at. IsApart (table_at header at) header.part_b) (apart.primary_b (eq-eqb header.parts 2 two)) (apart.secondary_b (eq-eqb header.parts 2 two));
-      inactive_b_apart = λ two. either first header.secondary header.primary (λ at. IsApart (table_at header at) header.part_b) (apart.secondary_b (eq-eqb header.parts 2 two)) (apart.primary_b (eq-eqb header.parts 2 two));
+      active_b_apart = λ two. either first header.primary header.secondary
+          (λ at. IsApart (table_at header at) header.part_b) (apart.primary_b (eq-eqb header.parts 2 two))
+          (apart.secondary_b (eq-eqb header.parts 2 two));
+      inactive_b_apart = λ two. either first header.secondary header.primary
+          (λ at. IsApart (table_at header at) header.part_b) (apart.secondary_b (eq-eqb header.parts 2 two))
+          (apart.primary_b (eq-eqb header.parts 2 two));
     }
 
 sound_none : (header : Header) (n : ℕ) → IsSound header n → NoneHolds (layout_faults header n)
@@ -171,7 +185,8 @@ sound_none header n s =
         (
           in_two_to header.active 0 (omega arith) s.active_byte,
           (
-            or_from (nat_lt header.table_size 0x44) (nat_lt 65536 header.table_size) (le-ltb header.table_size 0x44 s.least_table) (le-ltb 65536 header.table_size s.largest_table),
+            or_from (nat_lt header.table_size 0x44) (nat_lt 65536 header.table_size)
+                (le-ltb header.table_size 0x44 s.least_table) (le-ltb 65536 header.table_size s.largest_table),
             (
               inside_to (table_at header header.primary) 512 n s.primary_inside,
               (
@@ -221,7 +236,11 @@ sound-flipped header hash n s =
 
 -- and its tables change their places
 pub active_at-flipped : (header : Header) (hash : List ℕ) → active_at (flipped header hash) ≡ inactive_at header
-active_at-flipped header hash = elim (header.active == 0) as (λ first. cond (cond first 1 0 == 0) header.primary header.secondary ≡ cond first header.secondary header.primary) [ true ↦ refl | false ↦ refl ]
+active_at-flipped header hash =
+    elim (header.active == 0) as (λ first. cond (cond first 1 0 == 0) header.primary header.secondary ≡ cond first
+    header.secondary header.primary) [ true ↦ refl | false ↦ refl ]
 
 pub inactive_at-flipped : (header : Header) (hash : List ℕ) → inactive_at (flipped header hash) ≡ active_at header
-inactive_at-flipped header hash = elim (header.active == 0) as (λ first. cond (cond first 1 0 == 0) header.secondary header.primary ≡ cond first header.primary header.secondary) [ true ↦ refl | false ↦ refl ]
+inactive_at-flipped header hash =
+    elim (header.active == 0) as (λ first. cond (cond first 1 0 == 0) header.secondary header.primary ≡ cond first
+    header.primary header.secondary) [ true ↦ refl | false ↦ refl ]

@@ -1,5 +1,6 @@
 -- What a sound header is: the conditions over the whole image, in the order in which a fault is named.
-use Rattle.std.specs.Prelude.{ℕ, ◌+◌, ◌-◌, Bool, ◌&&◌, ◌||◌, not, ◌==◌, nat_lt, bytes_eq, List, [], ◌∷◌, ◌++◌, length, take, replicate, Option, Some, None, Result, Ok, Err, if◌then◌else◌}
+use Rattle.std.specs.Prelude.{ℕ, ◌+◌, ◌-◌, Bool, ◌&&◌, ◌||◌, not, ◌==◌, nat_lt, bytes_eq, List, [], ◌∷◌, ◌++◌, length}
+use Rattle.std.specs.Prelude.{take, replicate, Option, Some, None, Result, Ok, Err, if◌then◌else◌}
 use Rattle.container_header.specs.declared.header.Extent.{Extent}
 use Rattle.container_header.specs.declared.header.Kind.{Kind}
 use Rattle.container_header.specs.declared.header.Kind.TheVariants.{Disa, Diff}
@@ -11,7 +12,8 @@ use Rattle.container_header.specs.Fields.{bytes_at, word_at, disa_fields, diff_f
 
 -- the kind that four bytes name: DISA or DIFF
 abbrev pub kind_named : List ℕ → Option Kind
-kind_named bytes = if bytes_eq bytes (0x44 ∷ 0x49 ∷ 0x53 ∷ 0x41 ∷ []) then Some Disa else if bytes_eq bytes (0x44 ∷ 0x49 ∷ 0x46 ∷ 0x46 ∷ []) then Some Diff else None
+kind_named bytes = if bytes_eq bytes (0x44 ∷ 0x49 ∷ 0x53 ∷ 0x41 ∷ []) then Some Disa else if bytes_eq bytes
+    (0x44 ∷ 0x49 ∷ 0x46 ∷ 0x46 ∷ []) then Some Diff else None
 
 -- the kind that the four bytes at the header's front name
 abbrev pub kind_of : List ℕ → Option Kind
@@ -77,7 +79,9 @@ partition_faults header image_length =
 
 -- all twelve, in order
 abbrev pub layout_faults : Header → ℕ → List Bool
-layout_faults header image_length = count_faults header image_length ++ table_faults header image_length ++ descriptor_faults header ++ partition_faults header image_length
+layout_faults header image_length =
+    count_faults header image_length ++ table_faults header image_length ++ descriptor_faults
+    header ++ partition_faults header image_length
 
 -- the number of the first condition that fails, where the first of the list has the number n
 abbrev pub first_failing : ℕ → List Bool → Option ℕ
@@ -91,7 +95,9 @@ checked header (Some condition) = Err (Layout condition)
 
 abbrev pub reading_as : Option Kind → List ℕ → ℕ → Result Header HeaderFault
 reading_as None image image_length = Err NotImage
-reading_as (Some kind) image image_length = if word_at image 0x04 == version_of kind then checked (fields_of kind image) (first_failing 1 (layout_faults (fields_of kind image) image_length)) else Err Version
+reading_as (Some kind) image image_length =
+    if word_at image 0x04 == version_of kind then checked (fields_of kind image)
+    (first_failing 1 (layout_faults (fields_of kind image) image_length)) else Err Version
 
 -- the header that these bytes give an image of a length, or the first fault
 unfoldable pub reading_of : List ℕ → ℕ → Result Header HeaderFault

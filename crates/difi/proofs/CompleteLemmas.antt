@@ -7,9 +7,14 @@ use Rattle.difi.specs.declared.places.LevelPlace.{LevelPlace}
 use Rattle.difi.specs.declared.descriptor.Difi.{Difi}
 use Rattle.difi.specs.Places.{lies_inside, overlap, some_outside, extent_of, copies_of}
 use Rattle.difi.specs.Fields.{fields, ivfc_extent, dpfs_extent, master_extent, ivfc_place, dpfs_place}
-use Rattle.difi.specs.Conditions.{reading, parts, difi_tests, name_tests, level_tests, verdict, has_bad_log, has_no_place, has_bad_copies, has_short_bitmap, has_overlapping_copies, pairs, inner_levels, has_bad_level, has_overlapping_levels, external_extent, has_bad_external, has_too_few_entries}
+use Rattle.difi.specs.Conditions.{reading, parts, difi_tests, name_tests, level_tests, verdict, has_bad_log}
+use Rattle.difi.specs.Conditions.{has_no_place, has_bad_copies, has_short_bitmap, has_overlapping_copies, pairs}
+use Rattle.difi.specs.Conditions.{inner_levels, has_bad_level, has_overlapping_levels, external_extent}
+use Rattle.difi.specs.Conditions.{has_bad_external, has_too_few_entries}
 use Rattle.difi.specs.Sound.{AreApart, HasParts, HasBlockSizes, IsPlaced, HasCopies, HasHashLevels, HasExternalLevel, HasSoundLevels, IsSound, IsDescriptor}
-use Rattle.difi.proofs.TestLemmas.{AllApart, some_overlap-apart, list_any-apart, not-lies_inside, is_outside-between, eqb-not_empty, ltb-enough_entries, is_bad_part-inside, ltb-one_of_two, not-named, not-numbered}
+use Rattle.difi.proofs.TestLemmas.{AllApart, some_overlap-apart, list_any-apart, not-lies_inside, is_outside-between}
+use Rattle.difi.proofs.TestLemmas.{eqb-not_empty, ltb-enough_entries, is_bad_part-inside, ltb-one_of_two, not-named}
+use Rattle.difi.proofs.TestLemmas.{not-numbered}
 use Rattle.difi.proofs.Verdicts.{passes, reading-ok}
 
 pub has_bad_log-none : (difi : Difi) → HasBlockSizes difi → has_bad_log difi ≡ false
@@ -47,26 +52,38 @@ has_overlapping_copies-none difi part_len h = some_overlap-apart (pairs difi) ((
 abbrev inner : Bool → Extent2 → Extent2 → Extent2 → Extent2 → List Extent2
 inner external one two three four = take (cond external 3 4) (one ∷ two ∷ three ∷ four ∷ [])
 
-inner_apart : (external : Bool) (one two three four : Extent2) → AreApart one two → AreApart one three → AreApart two three → (external ≡ false → AreApart one four) → (external ≡ false → AreApart two four) → (external ≡ false → AreApart three four) → AllApart (inner external one two three four)
+inner_apart : (external : Bool) (one two three four : Extent2) → AreApart one two → AreApart one three
+    → AreApart two three → (external ≡ false → AreApart one four) → (external ≡ false → AreApart two four)
+    → (external ≡ false → AreApart three four) → AllApart (inner external one two three four)
 inner_apart true one two three four a b c d e f = ((a, (b, tt)), ((c, tt), (tt, tt)))
 inner_apart false one two three four a b c d e f = ((a, (b, (d refl, tt))), ((c, (e refl, tt)), ((f refl, tt), (tt, tt))))
 
-inner_inside : (external : Bool) (one two three four : Extent2) (end : ℕ) → one.at + one.size ≤ end → two.at + two.size ≤ end → three.at + three.size ≤ end → (external ≡ false → four.at + four.size ≤ end) → some_outside (inner external one two three four) end ≡ false
+inner_inside : (external : Bool) (one two three four : Extent2) (end : ℕ) → one.at + one.size ≤ end
+    → two.at + two.size ≤ end → three.at + three.size ≤ end → (external ≡ false → four.at + four.size ≤ end)
+    → some_outside (inner external one two three four) end ≡ false
 inner_inside true one two three four end a b c d =
     or_from _ _ (not-lies_inside one end a) (or_from _ _ (not-lies_inside two end b) (or_from _ _ (not-lies_inside three end c) refl))
 inner_inside false one two three four end a b c d =
-    or_from _ _ (not-lies_inside one end a) (or_from _ _ (not-lies_inside two end b) (or_from _ _ (not-lies_inside three end c) (or_from _ _ (not-lies_inside four end (d refl)) refl)))
+    or_from _ _ (not-lies_inside one end a)
+        (or_from _ _ (not-lies_inside two end b)
+        (or_from _ _ (not-lies_inside three end c) (or_from _ _ (not-lies_inside four end (d refl)) refl)))
 
 pub has_bad_level-none : (difi : Difi) → HasHashLevels difi → has_bad_level difi ≡ false
 unfolding has_bad_level
 has_bad_level-none difi h =
     or_from _ _
-    (or_from _ _ (eqb-not_empty _ h.some1) (or_from _ _ (eqb-not_empty _ h.some2) (or_from _ _ (eqb-not_empty _ h.some3) (or_from _ _ (eqb-not_empty _ h.some4) refl))))
-    (inner_inside difi.external (extent_of difi.ivfc1) (extent_of difi.ivfc2) (extent_of difi.ivfc3) (extent_of difi.ivfc4) difi.dpfs3.size h.inside1 h.inside2 h.inside3 h.inside4)
+    (or_from _ _ (eqb-not_empty _ h.some1)
+        (or_from _ _ (eqb-not_empty _ h.some2)
+        (or_from _ _ (eqb-not_empty _ h.some3) (or_from _ _ (eqb-not_empty _ h.some4) refl))))
+    (inner_inside difi.external (extent_of difi.ivfc1) (extent_of difi.ivfc2) (extent_of difi.ivfc3)
+        (extent_of difi.ivfc4) difi.dpfs3.size h.inside1 h.inside2 h.inside3 h.inside4)
 
 pub has_overlapping_levels-none : (difi : Difi) → HasHashLevels difi → has_overlapping_levels difi ≡ false
 unfolding has_overlapping_levels
-has_overlapping_levels-none difi h = some_overlap-apart (inner_levels difi) (inner_apart difi.external (extent_of difi.ivfc1) (extent_of difi.ivfc2) (extent_of difi.ivfc3) (extent_of difi.ivfc4) h.apart12 h.apart13 h.apart23 h.apart14 h.apart24 h.apart34)
+has_overlapping_levels-none difi h =
+    some_overlap-apart (inner_levels difi)
+    (inner_apart difi.external (extent_of difi.ivfc1) (extent_of difi.ivfc2) (extent_of difi.ivfc3)
+    (extent_of difi.ivfc4) h.apart12 h.apart13 h.apart23 h.apart14 h.apart24 h.apart34)
 
 pub has_too_few_entries-none : (difi : Difi) → HasHashLevels difi → has_too_few_entries difi ≡ false
 unfolding has_too_few_entries
@@ -77,7 +94,10 @@ has_too_few_entries-none difi h =
     (ltb-enough_entries _ _ h.entries3))
     (ltb-enough_entries _ _ h.entries4)
 
-external_inside : (external : Bool) (level : Extent2) (others : List Extent2) (part_len : ℕ) → (external ≡ true → level.at + level.size ≤ part_len) → (external ≡ true → list_any (overlap level) others ≡ false) → (external && (not (lies_inside level 0 part_len) || list_any (overlap level) others)) ≡ false
+external_inside : (external : Bool) (level : Extent2) (others : List Extent2) (part_len : ℕ)
+    → (external ≡ true → level.at + level.size ≤ part_len)
+    → (external ≡ true → list_any (overlap level) others ≡ false)
+    → (external && (not (lies_inside level 0 part_len) || list_any (overlap level) others)) ≡ false
 external_inside true level others part_len inside apart = or_from _ _ (not-lies_inside level part_len (inside refl)) (apart refl)
 external_inside false level others part_len inside apart = refl
 
@@ -99,7 +119,8 @@ levels_pass difi part_len h =
     (passes _ _ _ (has_bad_external-none difi part_len h.external_level)
     (passes _ _ _ (has_too_few_entries-none difi h.hash_levels) refl)))))))
 
-names_pass : (table : List ℕ) (place size : ℕ) → IsDescriptor table place size → verdict (name_tests table (ivfc_place table place) (dpfs_place table place)) ≡ Ok tt
+names_pass : (table : List ℕ) (place size : ℕ) → IsDescriptor table place size
+    → verdict (name_tests table (ivfc_place table place) (dpfs_place table place)) ≡ Ok tt
 unfolding name_tests
 names_pass table place size h =
     passes _ _ _ (not-named _ _ h.ivfc_name)
@@ -107,7 +128,8 @@ names_pass table place size h =
     (passes _ _ _ (not-named _ _ h.dpfs_name)
     (passes _ _ _ (not-numbered _ _ h.dpfs_version) refl)))
 
-difi_passes : (table : List ℕ) (place size : ℕ) → IsDescriptor table place size → HasParts (fields table place) size → (fields table place).selector < 2 → verdict (difi_tests table place size) ≡ Ok tt
+difi_passes : (table : List ℕ) (place size : ℕ) → IsDescriptor table place size → HasParts (fields table place) size
+    → (fields table place).selector < 2 → verdict (difi_tests table place size) ≡ Ok tt
 unfolding difi_tests fields
 difi_passes table place size h p selector =
     passes _ _ _ (not-named _ _ h.difi_name)
@@ -115,11 +137,15 @@ difi_passes table place size h p selector =
     (passes _ _ _ (is_bad_part-inside (ivfc_extent table place) 0x78 size h.ivfc_long h.ivfc_inside)
     (passes _ _ _ (is_bad_part-inside (dpfs_extent table place) 0x50 size h.dpfs_long h.dpfs_inside)
     (passes _ _ _ (not-lies_inside (master_extent table place) size p.master)
-    (passes _ _ _ (some_overlap-apart (parts (ivfc_extent table place).at (dpfs_extent table place).at (master_extent table place)) ((p.difi_ivfc, (p.difi_dpfs, (p.difi_master, tt))), ((p.ivfc_dpfs, (p.ivfc_master, tt)), ((p.dpfs_master, tt), (tt, tt)))))
+    (passes _ _ _ (some_overlap-apart
+        (parts (ivfc_extent table place).at (dpfs_extent table place).at (master_extent table place))
+        ((p.difi_ivfc, (p.difi_dpfs, (p.difi_master, tt))),
+        ((p.ivfc_dpfs, (p.ivfc_master, tt)), ((p.dpfs_master, tt), (tt, tt)))))
     (passes _ _ _ (ltb-one_of_two _ selector) refl))))))
 
 -- a sound descriptor is read
-pub reading-sound : (table : List ℕ) (place size part_len : ℕ) → IsDescriptor table place size → IsSound (fields table place) size part_len → reading table place size part_len ≡ Ok (fields table place)
+pub reading-sound : (table : List ℕ) (place size part_len : ℕ) → IsDescriptor table place size
+    → IsSound (fields table place) size part_len → reading table place size part_len ≡ Ok (fields table place)
 reading-sound table place size part_len h sound =
     reading-ok table place size part_len
     (difi_passes table place size h sound.parts sound.levels.selector)

@@ -55,18 +55,22 @@ module _ (old new : List ℕ) (start n : ℕ) (kept : KeepsBytes old new start n
       simp (get_or-take, get_or-drop) (byte_kept (at + i) (omega arith) (omega arith)))
 
 -- the selector is in no fact but its own
-with_selector : (difi : Difi) (size part_len selector : ℕ) → IsSound difi size part_len → selector < 2 → IsSound (record difi { selector = selector }) size part_len
+with_selector : (difi : Difi) (size part_len selector : ℕ) → IsSound difi size part_len → selector < 2
+    → IsSound (record difi { selector = selector }) size part_len
 with_selector difi size part_len selector h chosen =
     let p = h.parts in
     let b = h.levels.block_sizes in
     let c = h.levels.copies in
     let t = h.levels.hash_levels in
     record {
-      parts = record { ivfc = p.ivfc; dpfs = p.dpfs; master = p.master; difi_ivfc = p.difi_ivfc; difi_dpfs = p.difi_dpfs; difi_master = p.difi_master; ivfc_dpfs = p.ivfc_dpfs; ivfc_master = p.ivfc_master; dpfs_master = p.dpfs_master };
+      parts = record { ivfc = p.ivfc; dpfs = p.dpfs; master = p.master; difi_ivfc = p.difi_ivfc; difi_dpfs =
+          p.difi_dpfs; difi_master = p.difi_master; ivfc_dpfs = p.ivfc_dpfs; ivfc_master =
+          p.ivfc_master; dpfs_master = p.dpfs_master };
       levels = record {
         selector = chosen;
         block_sizes = record { dpfs2 = b.dpfs2; dpfs3 = b.dpfs3; ivfc1 = b.ivfc1; ivfc2 = b.ivfc2; ivfc3 = b.ivfc3; ivfc4 = b.ivfc4 };
-        copies = record { level1 = c.level1; level2 = c.level2; level3 = c.level3; bits1 = c.bits1; bits2 = c.bits2; apart12 = c.apart12; apart13 = c.apart13; apart23 = c.apart23 };
+        copies = record { level1 = c.level1; level2 = c.level2; level3 = c.level3; bits1 = c.bits1; bits2 =
+            c.bits2; apart12 = c.apart12; apart13 = c.apart13; apart23 = c.apart23 };
         hash_levels = record {
           some1 = t.some1;
           some2 = t.some2;
@@ -100,10 +104,14 @@ module _ (old new : List ℕ) (place : ℕ) (front : KeepsBytes old new place 0x
 
   module _ (ivfc : KeepsBytes old new (ivfc_place old place) 0x78) (dpfs : KeepsBytes old new (dpfs_place old place) 0x50) where
     ivfc_level : (offset : ℕ) → offset + 20 ≤ 0x78 → level_at new (ivfc_place new place + offset) ≡ level_at old (ivfc_place old place + offset)
-    ivfc_level offset inside = ap (λ at. level_at new (at + offset)) ivfc_place_kept ∙ level_kept old new (ivfc_place old place) 0x78 ivfc (ivfc_place old place + offset) (omega arith) (omega arith)
+    ivfc_level offset inside = ap (λ at. level_at new (at + offset)) ivfc_place_kept
+        ∙ level_kept old new (ivfc_place old place) 0x78 ivfc (ivfc_place old place + offset) (omega arith)
+        (omega arith)
 
     dpfs_level : (offset : ℕ) → offset + 20 ≤ 0x50 → level_at new (dpfs_place new place + offset) ≡ level_at old (dpfs_place old place + offset)
-    dpfs_level offset inside = ap (λ at. level_at new (at + offset)) dpfs_place_kept ∙ level_kept old new (dpfs_place old place) 0x50 dpfs (dpfs_place old place + offset) (omega arith) (omega arith)
+    dpfs_level offset inside = ap (λ at. level_at new (at + offset)) dpfs_place_kept
+        ∙ level_kept old new (dpfs_place old place) 0x50 dpfs (dpfs_place old place + offset) (omega arith)
+        (omega arith)
 
     fields_kept : fields new place ≡ record (fields old place) { selector = get_or new (place + 0x39) 0 }
     unfolding fields
@@ -129,10 +137,18 @@ module _ (old new : List ℕ) (place : ℕ) (front : KeepsBytes old new place 0x
         record {
           difi_name = name_kept old new place 0x39 front len place (omega arith) (omega arith) ∙ h.difi_name;
           difi_version = number_kept old new place 0x39 front 4 (place + 4) (omega arith) (omega arith) ∙ h.difi_version;
-          ivfc_name = ap (λ at. take 4 (drop at new)) ivfc_place_kept ∙ name_kept old new (ivfc_place old place) 0x78 ivfc len (ivfc_place old place) (omega arith) (omega arith) ∙ h.ivfc_name;
-          ivfc_version = ap (λ at. number_at 4 new (at + 4)) ivfc_place_kept ∙ number_kept old new (ivfc_place old place) 0x78 ivfc 4 (ivfc_place old place + 4) (omega arith) (omega arith) ∙ h.ivfc_version;
-          dpfs_name = ap (λ at. take 4 (drop at new)) dpfs_place_kept ∙ name_kept old new (dpfs_place old place) 0x50 dpfs len (dpfs_place old place) (omega arith) (omega arith) ∙ h.dpfs_name;
-          dpfs_version = ap (λ at. number_at 4 new (at + 4)) dpfs_place_kept ∙ number_kept old new (dpfs_place old place) 0x50 dpfs 4 (dpfs_place old place + 4) (omega arith) (omega arith) ∙ h.dpfs_version;
+          ivfc_name = ap (λ at. take 4 (drop at new)) ivfc_place_kept
+              ∙ name_kept old new (ivfc_place old place) 0x78 ivfc len (ivfc_place old place) (omega arith)
+              (omega arith) ∙ h.ivfc_name;
+          ivfc_version = ap (λ at. number_at 4 new (at + 4)) ivfc_place_kept
+              ∙ number_kept old new (ivfc_place old place) 0x78 ivfc 4 (ivfc_place old place + 4) (omega arith)
+              (omega arith) ∙ h.ivfc_version;
+          dpfs_name = ap (λ at. take 4 (drop at new)) dpfs_place_kept
+              ∙ name_kept old new (dpfs_place old place) 0x50 dpfs len (dpfs_place old place) (omega arith)
+              (omega arith) ∙ h.dpfs_name;
+          dpfs_version = ap (λ at. number_at 4 new (at + 4)) dpfs_place_kept
+              ∙ number_kept old new (dpfs_place old place) 0x50 dpfs 4 (dpfs_place old place + 4) (omega arith)
+              (omega arith) ∙ h.dpfs_version;
           ivfc_long = subst (λ (e : Extent2). 0x78 ≤ e.size) (sym ivfc_extent_kept) h.ivfc_long;
           ivfc_inside = subst (λ (e : Extent2). e.at + e.size ≤ size) (sym ivfc_extent_kept) h.ivfc_inside;
           dpfs_long = subst (λ (e : Extent2). 0x50 ≤ e.size) (sym dpfs_extent_kept) h.dpfs_long;
@@ -140,11 +156,14 @@ module _ (old new : List ℕ) (place : ℕ) (front : KeepsBytes old new place 0x
         }
 
 -- where the fields of a descriptor at its own place begin the other parts
-parts_begin : (table : List ℕ) (place : ℕ) (difi : Difi) → difi ≡ fields table place → (place + difi.ivfc_at ≡ ivfc_place table place) × (place + difi.dpfs_at ≡ dpfs_place table place)
+parts_begin : (table : List ℕ) (place : ℕ) (difi : Difi) → difi ≡ fields table place
+    → (place + difi.ivfc_at ≡ ivfc_place table place) × (place + difi.dpfs_at ≡ dpfs_place table place)
 unfolding fields
 parts_begin table place difi e = (ap (λ (d : Difi). place + d.ivfc_at) e, ap (λ (d : Difi). place + d.dpfs_at) e)
 
-pub reading-kept : (old new : List ℕ) (size part_len : ℕ) (difi : Difi) → KeepsParts old new difi → slice_index new (difi.place + 0x39) < 2 → reading old difi.place size part_len ≡ Ok difi → reading new difi.place size part_len ≡ Ok (record difi { selector = slice_index new (difi.place + 0x39) })
+pub reading-kept : (old new : List ℕ) (size part_len : ℕ) (difi : Difi) → KeepsParts old new difi
+    → slice_index new (difi.place + 0x39) < 2 → reading old difi.place size part_len ≡ Ok difi
+    → reading new difi.place size part_len ≡ Ok (record difi { selector = slice_index new (difi.place + 0x39) })
 reading-kept old new size part_len difi kept chosen h =
     let place = difi.place in
     let read = is_read old place size part_len difi h in
@@ -160,22 +179,34 @@ reading-kept old new size part_len difi kept chosen h =
     (subst (λ (d : Difi). IsSound d size part_len) (sym same) sound) ∙ ap Ok same
 
 -- a table that changes in the selector and the master hash alone keeps the parts
-pub keeps_parts : (old new : List ℕ) (size part_len : ℕ) (difi : Difi) → IsSound difi size part_len → length new ≡ length old → ((x : ℕ) → x ≢ difi.place + 0x39 → (difi.place + difi.master.at ≤ x → x < difi.place + difi.master.at + difi.master.size → ⊥) → slice_index new x ≡ slice_index old x) → KeepsParts old new difi
+pub keeps_parts : (old new : List ℕ) (size part_len : ℕ) (difi : Difi) → IsSound difi size part_len
+    → length new ≡ length old → ((x : ℕ) → x ≢ difi.place + 0x39
+    → (difi.place + difi.master.at ≤ x → x < difi.place + difi.master.at + difi.master.size → ⊥)
+    → slice_index new x ≡ slice_index old x) → KeepsParts old new difi
 keeps_parts old new size part_len difi sound len same =
     let p = sound.parts in
     record {
       len = len;
       before_selector = λ k h. same (difi.place + k) (omega arith) (λ low high. p.difi_master k (omega arith) (omega arith) (omega arith) (omega arith));
-      behind_selector = λ k h. same (difi.place + 0x3A + k) (omega arith) (λ low high. p.difi_master (0x3A + k) (omega arith) (omega arith) (omega arith) (omega arith));
-      ivfc = λ k h. same (difi.place + difi.ivfc_at + k) (λ e. p.difi_ivfc 0x39 (omega arith) (omega arith) (omega arith) (omega arith)) (λ low high. p.ivfc_master (difi.ivfc_at + k) (omega arith) (omega arith) (omega arith) (omega arith));
-      dpfs = λ k h. same (difi.place + difi.dpfs_at + k) (λ e. p.difi_dpfs 0x39 (omega arith) (omega arith) (omega arith) (omega arith)) (λ low high. p.dpfs_master (difi.dpfs_at + k) (omega arith) (omega arith) (omega arith) (omega arith));
+      behind_selector = λ k h. same (difi.place + 0x3A + k) (omega arith)
+          (λ low high. p.difi_master (0x3A + k) (omega arith) (omega arith) (omega arith) (omega arith));
+      ivfc = λ k h. same (difi.place + difi.ivfc_at + k)
+          (λ e. p.difi_ivfc 0x39 (omega arith) (omega arith) (omega arith) (omega arith))
+          (λ low high. p.ivfc_master (difi.ivfc_at + k) (omega arith) (omega arith) (omega arith) (omega arith));
+      dpfs = λ k h. same (difi.place + difi.dpfs_at + k)
+          (λ e. p.difi_dpfs 0x39 (omega arith) (omega arith) (omega arith) (omega arith))
+          (λ low high. p.dpfs_master (difi.dpfs_at + k) (omega arith) (omega arith) (omega arith) (omega arith));
     }
 
-pub reading-set : (table : List ℕ) (size part_len selector : ℕ) (difi : Difi) → difi.place + 0x39 < length table → selector < 2 → reading table difi.place size part_len ≡ Ok difi → reading (set table (difi.place + 0x39) selector) difi.place size part_len ≡ Ok (record difi { selector = selector })
+pub reading-set : (table : List ℕ) (size part_len selector : ℕ) (difi : Difi) → difi.place + 0x39 < length table
+    → selector < 2 → reading table difi.place size part_len ≡ Ok difi
+    → reading (set table (difi.place + 0x39) selector) difi.place size part_len ≡ Ok
+    (record difi { selector = selector })
 reading-set table size part_len selector difi inside chosen h =
     let new = set table (difi.place + 0x39) selector in
     let sound = (is_read table difi.place size part_len difi h).sound in
-    let kept = keeps_parts table new size part_len difi sound (length-set table (difi.place + 0x39) selector) (λ x other _. get_or-set_other table (difi.place + 0x39) x selector 0 other) in
+    let kept = keeps_parts table new size part_len difi sound (length-set table (difi.place + 0x39) selector)
+        (λ x other _. get_or-set_other table (difi.place + 0x39) x selector 0 other) in
     let is_set : slice_index new (difi.place + 0x39) ≡ selector = get_or-set_same table (difi.place + 0x39) selector 0 inside in
     reading-kept table new size part_len difi kept (rw is_set chosen) h
     ∙ ap (λ s. Ok (record difi { selector = s })) is_set

@@ -14,7 +14,9 @@ apart one other h = λ x a b c d. let reach = ltb-false (max one.at other.at) (m
 
 pub overlap-apart : (one other : Extent2) → AreApart one other → overlap one other ≡ false
 overlap-apart one other h =
-    elim (cases_lt (max one.at other.at) (min (one.at + one.size) (other.at + other.size))) [ inl less ↦ absurd (h (max one.at other.at) (omega arith) (omega arith) (omega arith) (omega arith)) | inr more ↦ le-ltb _ _ more ]
+    elim (cases_lt (max one.at other.at) (min (one.at + one.size) (other.at + other.size)))
+        [ inl less ↦ absurd (h (max one.at other.at) (omega arith) (omega arith) (omega arith) (omega arith)) | inr
+        more ↦ le-ltb _ _ more ]
 
 -- the first lies apart from each of a list
 abbrev pub AreApartFrom : Extent2 → List Extent2 → Type 0

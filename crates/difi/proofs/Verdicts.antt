@@ -12,10 +12,13 @@ then_verdict (Err fault) second = Err fault
 
 verdict-append : (xs ys : List (DifiFault × Bool)) → verdict (xs ++ ys) ≡ then_verdict (verdict xs) (verdict ys)
 verdict-append [] ys = refl
-verdict-append (x ∷ xs) ys = elim x.1 as (λ b. cond b (Err x.0) (verdict (xs ++ ys)) ≡ then_verdict (cond b (Err x.0) (verdict xs)) (verdict ys)) [ true ↦ refl | false ↦ verdict-append xs ys ]
+verdict-append (x ∷ xs) ys = elim x.1 as
+    (λ b. cond b (Err x.0) (verdict (xs ++ ys)) ≡ then_verdict (cond b (Err x.0) (verdict xs)) (verdict ys))
+    [ true ↦ refl | false ↦ verdict-append xs ys ]
 
 -- where the first fault is none, the first test holds, and those behind it have none
-pub holds : (fails : Bool) (fault : DifiFault) (others : Result (Unit {0}) DifiFault) → cond fails (Err fault) others ≡ Ok tt → (fails ≡ false) × (others ≡ Ok tt)
+pub holds : (fails : Bool) (fault : DifiFault) (others : Result (Unit {0}) DifiFault)
+    → cond fails (Err fault) others ≡ Ok tt → (fails ≡ false) × (others ≡ Ok tt)
 holds true fault others h = cc
 holds false fault others h = (refl, h)
 
@@ -30,30 +33,45 @@ record Passed {A : Type 0} (first second third : Result (Unit {0}) DifiFault) (v
   third_passed : third ≡ Ok tt
   is_value : found ≡ value
 
-passed : {A : Type 0} (first second third : Result (Unit {0}) DifiFault) (value found : A) → with_value value (then_verdict first (then_verdict second third)) ≡ Ok found → Passed first second third value found
+passed : {A : Type 0} (first second third : Result (Unit {0}) DifiFault) (value found : A)
+    → with_value value (then_verdict first (then_verdict second third)) ≡ Ok found
+    → Passed first second third value found
 passed (Err fault) second third value found h = cc
 passed (Ok _) (Err fault) third value found h = cc
 passed (Ok _) (Ok _) (Err fault) value found h = cc
 passed (Ok _) (Ok _) (Ok _) value found h = record { first_passed = refl; second_passed = refl; third_passed = refl; is_value = cc }
 
 module _ (table : List ℕ) (place size part_len : ℕ) where
-  by_groups : reading table place size part_len ≡ with_value (fields table place) (then_verdict (verdict (difi_tests table place size)) (then_verdict (verdict (name_tests table (ivfc_place table place) (dpfs_place table place))) (verdict (level_tests (fields table place) part_len))))
+  by_groups : reading table place size part_len ≡ with_value (fields table place)
+      (then_verdict (verdict (difi_tests table place size))
+      (then_verdict (verdict (name_tests table (ivfc_place table place) (dpfs_place table place)))
+      (verdict (level_tests (fields table place) part_len))))
   unfolding reading tests
   by_groups =
       let names = name_tests table (ivfc_place table place) (dpfs_place table place) in
       let levels = level_tests (fields table place) part_len in
-      ap (with_value (fields table place)) (verdict-append (difi_tests table place size) (names ++ levels) ∙ ap (then_verdict (verdict (difi_tests table place size))) (verdict-append names levels))
+      ap (with_value (fields table place))
+          (verdict-append (difi_tests table place size) (names ++ levels)
+          ∙ ap (then_verdict (verdict (difi_tests table place size))) (verdict-append names levels))
 
   pub reading-difi_fault : (fault : DifiFault) → verdict (difi_tests table place size) ≡ Err fault → reading table place size part_len ≡ Err fault
   reading-difi_fault fault on_difi = rw on_difi at by_groups
 
-  pub reading-name_fault : (fault : DifiFault) → verdict (difi_tests table place size) ≡ Ok tt → verdict (name_tests table (ivfc_place table place) (dpfs_place table place)) ≡ Err fault → reading table place size part_len ≡ Err fault
+  pub reading-name_fault : (fault : DifiFault) → verdict (difi_tests table place size) ≡ Ok tt
+      → verdict (name_tests table (ivfc_place table place) (dpfs_place table place)) ≡ Err fault
+      → reading table place size part_len ≡ Err fault
   reading-name_fault fault on_difi on_names = rw (on_difi, on_names) at by_groups
 
-  pub reading-level_fault : (fault : DifiFault) → verdict (difi_tests table place size) ≡ Ok tt → verdict (name_tests table (ivfc_place table place) (dpfs_place table place)) ≡ Ok tt → verdict (level_tests (fields table place) part_len) ≡ Err fault → reading table place size part_len ≡ Err fault
+  pub reading-level_fault : (fault : DifiFault) → verdict (difi_tests table place size) ≡ Ok tt
+      → verdict (name_tests table (ivfc_place table place) (dpfs_place table place)) ≡ Ok tt
+      → verdict (level_tests (fields table place) part_len) ≡ Err fault
+      → reading table place size part_len ≡ Err fault
   reading-level_fault fault on_difi on_names on_levels = rw (on_difi, on_names, on_levels) at by_groups
 
-  pub reading-ok : verdict (difi_tests table place size) ≡ Ok tt → verdict (name_tests table (ivfc_place table place) (dpfs_place table place)) ≡ Ok tt → verdict (level_tests (fields table place) part_len) ≡ Ok tt → reading table place size part_len ≡ Ok (fields table place)
+  pub reading-ok : verdict (difi_tests table place size) ≡ Ok tt
+      → verdict (name_tests table (ivfc_place table place) (dpfs_place table place)) ≡ Ok tt
+      → verdict (level_tests (fields table place) part_len) ≡ Ok tt
+      → reading table place size part_len ≡ Ok (fields table place)
   reading-ok on_difi on_names on_levels = rw (on_difi, on_names, on_levels) at by_groups
 
 -- what passed where the reading is no fault
@@ -63,7 +81,8 @@ pub record AllPass (table : List ℕ) (place size part_len : ℕ) (found : Difi)
   pub levels : verdict (level_tests (fields table place) part_len) ≡ Ok tt
   pub value : found ≡ fields table place
 
-pub all_pass : (table : List ℕ) (place size part_len : ℕ) (found : Difi) → reading table place size part_len ≡ Ok found → AllPass table place size part_len found
+pub all_pass : (table : List ℕ) (place size part_len : ℕ) (found : Difi)
+    → reading table place size part_len ≡ Ok found → AllPass table place size part_len found
 all_pass table place size part_len found h =
     let p = passed _ _ _ (fields table place) found (sym (by_groups table place size part_len) ∙ h) in
     record { difi = p.first_passed; names = p.second_passed; levels = p.third_passed; value = p.is_value }

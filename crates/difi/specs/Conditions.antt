@@ -104,7 +104,9 @@ external_extent difi = record { at = difi.external_at; size = difi.ivfc4.size }
 
 -- external level four does not lie inside the partition, or overlaps a DPFS level's copies
 unfoldable pub has_bad_external : Difi → ℕ → Bool
-has_bad_external difi part_len = difi.external && (not (lies_inside (external_extent difi) 0 part_len) || list_any (overlap (external_extent difi)) (pairs difi))
+has_bad_external difi part_len =
+    difi.external && (not (lies_inside (external_extent difi) 0 part_len) || list_any (overlap (external_extent difi))
+    (pairs difi))
 
 -- the master hash or an IVFC level has no entry for some block of the level below it
 unfoldable pub has_too_few_entries : Difi → Bool

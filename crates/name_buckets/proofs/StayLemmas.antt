@@ -19,12 +19,6 @@ use Rattle.name_buckets.specs.Layout.{AtPlace, BlamesRead}
 use Rattle.save_bytes.proofs.CellLemmas.{bytes_in-same}
 use Rattle.name_buckets.proofs.EntryLemmas.{link_last, entry_long}
 
--- a call behind a call, both of which only read
-pub reads_then : {A : Type 0} {states : A → State} {keeps : Spot → A → A → Type 0} {lands : A → ℕ → Spot → Type 0} {s t u : A}
-    {refusal : Option Bad} → ((spot : Spot) (s t u : A) → keeps spot s t → keeps spot t u → keeps spot s u)
-    → Reads states keeps lands s t None → Reads states keeps lands t u refusal → Reads states keeps lands s u refusal
-reads_then join h k = Reads-join _ _ _ join _ _ _ _ h k
-
 -- two tables have the same entry
 pub record SameEntry (old new : Table) (e : ℕ) : Type 0 where
   pub parent : new.parent e ≡ old.parent e

@@ -17,7 +17,8 @@ use Rattle.page_image.specs.declared.state.ImageState.{ImageState}
 use Rattle.page_image.specs.declared.image.Image.{Image}
 use Rattle.page_image.specs.Layout.{IsEndOf}
 use Rattle.page_image.specs.Images.{byte_of, is_changed, image_state, Mirrors}
-use Rattle.page_image.specs.Spots.{SameImage, HoldsAt, Leaves, ImageLands}
+use Rattle.page_image.specs.Spots.{SameImage, Leaves, ImageLands}
+use Rattle.save_disk.specs.Keeps.{HoldsAt}
 use Rattle.page_image.specs.Held.{shown, SameImageView, ImageKeeps}
 use Rattle.page_image.specs.Laws.{sure_start}
 use Rattle.page_image.specs.Puts.{IsImagePut}

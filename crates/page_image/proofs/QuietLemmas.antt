@@ -13,7 +13,8 @@ use Rattle.save_disk.proofs.Growth.{WritesOnly-map, WritesOnly-all}
 use Rattle.page_image.specs.declared.state.ImageState.{ImageState}
 use Rattle.page_image.specs.declared.image.Image.{Image}
 use Rattle.page_image.specs.Images.{byte_of, is_changed}
-use Rattle.page_image.specs.Spots.{HoldsAt, Leaves, ImageLands}
+use Rattle.page_image.specs.Spots.{Leaves, ImageLands}
+use Rattle.save_disk.specs.Keeps.{HoldsAt}
 use Rattle.page_image.specs.Held.{shown, ImageKeeps}
 use Rattle.page_image.specs.Laws.{SureFrom}
 use Rattle.page_image.specs.WriteOuts.{IsClean}

@@ -1,5 +1,6 @@
 -- What a write of a changed sector leaves.
-use Rattle.std.proofs.Common.{◌≡◌, ◌≢◌, ◌⊎◌, ℕ, ◌+◌, ◌-◌, ◌*◌, ◌/◌, ◌%◌, ◌<◌, ◌≤◌, true, false, List, [], ◌∷◌, length, get_or, Option, Some, None, MatchOption, refl, sym, ◌∙◌, ap, arith, inl, inr, ⊎_elim}
+use Rattle.std.proofs.Common.{◌≡◌, ◌≢◌, ◌⊎◌, ℕ, ◌+◌, ◌-◌, ◌*◌, ◌/◌, ◌%◌, ◌<◌, ◌≤◌, true, false, List, [], ◌∷◌, length}
+use Rattle.std.proofs.Common.{get_or, Option, Some, None, MatchOption, refl, sym, ◌∙◌, ap, arith, inl, inr, ⊎_elim}
 use Rattle.std.specs.Bool.{⊤}
 use Rattle.std.specs.Option.{option_map}
 use Rattle.std.proofs.lemmas.Nat.{div-add-mod', div-mul-add, mod_below}
@@ -13,7 +14,8 @@ use Rattle.save_disk.proofs.Told.{told_grain, now_size}
 use Rattle.save_disk.proofs.Growth.{grew_happens, grew_failed, came_from, image_written, image_unchanged}
 use Rattle.page_image.specs.declared.state.ImageState.{ImageState}
 use Rattle.page_image.specs.Images.{byte_of, is_changed, IsDiskOf, Mirrors, IsStored}
-use Rattle.page_image.specs.Spots.{SameImage, HoldsAt, SureAsBefore, SameImageSpot, Leaves}
+use Rattle.page_image.specs.Spots.{SameImage, SureAsBefore, SameImageSpot, Leaves}
+use Rattle.save_disk.specs.Keeps.{HoldsAt}
 use Rattle.page_image.specs.Laws.{SureFrom}
 use Rattle.page_image.specs.Puts.{IsUnmarked}
 use Rattle.page_image.specs.WriteOuts.{IsOwnWrite, IsClean}

@@ -4,7 +4,8 @@ use Rattle.save_bytes.specs.Spots.{Spot, Place, Sector, Misses}
 use Rattle.save_disk.specs.State as disks
 use Rattle.page_image.specs.declared.state.ImageState.{ImageState}
 use Rattle.page_image.specs.Images.{byte_of, is_changed}
-use Rattle.page_image.specs.Spots.{HoldsAt, Leaves, ImageLands}
+use Rattle.page_image.specs.Spots.{Leaves, ImageLands}
+use Rattle.save_disk.specs.Keeps.{HoldsAt}
 
 -- A write in a call that puts n bytes at a place: its sector is changed or has one of the places, and it holds the
 -- image's byte at each other place. A call that reads puts none.
@@ -17,9 +18,9 @@ abbrev pub LeavesMissed : ℕ → ℕ → disks.State → ImageState → disks.S
 LeavesMissed at n disk image disk_new image_new = (spot : Spot) → Misses (ImageLands image.grain) at n spot → Leaves spot disk image disk_new image_new
 
 -- a write that holds the image's byte at each place of its sector
-abbrev pub HoldsAll : ImageState → ℕ → List ℕ → Type 0
-HoldsAll image sector written = (x : ℕ) → x < image.len → HoldsAt image.grain x (byte_of image x) sector written
+abbrev pub HoldsImage : ImageState → ℕ → List ℕ → Type 0
+HoldsImage image sector written = (x : ℕ) → x < image.len → HoldsAt image.grain x (byte_of image x) sector written
 
 -- a write of a sector as a call found it, or as the call leaves it
-pub record IsOldOrNew (old new : ImageState) (sector : ℕ) (written : List ℕ) : Type 0 where
-  pub either : HoldsAll old sector written ⊎ HoldsAll new sector written
+pub record IsOldOrNewSector (old new : ImageState) (sector : ℕ) (written : List ℕ) : Type 0 where
+  pub either : HoldsImage old sector written ⊎ HoldsImage new sector written

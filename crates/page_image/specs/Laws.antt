@@ -11,7 +11,8 @@ use Rattle.save_disk.proofs.Growth.{WritesOnly-quiet, WritesOnly-join, WritesTo-
 use Rattle.page_image.specs.declared.state.ImageState.{ImageState}
 use Rattle.page_image.specs.declared.image.Image.{Image}
 use Rattle.page_image.specs.Images.{byte_of, is_changed, image_state}
-use Rattle.page_image.specs.Spots.{SameImage, HoldsAt, SameImageSpot, Leaves}
+use Rattle.page_image.specs.Spots.{SameImage, SameImageSpot, Leaves}
+use Rattle.save_disk.specs.Keeps.{HoldsAt}
 use Rattle.page_image.specs.Held.{ImageKeeps}
 
 pub image_size_fits : (d : disks.State) (image : ImageState) → (image_state d image).shape.size < 2 ^ 64

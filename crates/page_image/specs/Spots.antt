@@ -1,8 +1,9 @@
 -- Which bytes and sectors of the disk a call on an image leaves alone.
-use Rattle.std.specs.Prelude.{◌≡◌, ◌≢◌, ℕ, ◌-◌, ◌+◌, ◌*◌, ◌/◌, ◌<◌, ◌≤◌, true, false, List, slice_index, ⊤}
+use Rattle.std.specs.Prelude.{◌≡◌, ◌≢◌, ℕ, ◌/◌, true, false, ⊤}
 use Rattle.save_bytes.specs.Spots.{Spot, Place, Sector}
 use Rattle.save_disk.specs.State as disks
 use Rattle.save_disk.specs.Writes.{WritesOnly, WritesTo}
+use Rattle.save_disk.specs.Keeps.{HoldsAt}
 use Rattle.page_image.specs.declared.state.ImageState.{ImageState}
 use Rattle.page_image.specs.Images.{byte_of, is_changed, Mirrors}
 
@@ -15,10 +16,6 @@ pub record SameImage (disk : disks.State) (image : ImageState) (disk_new : disks
   pub writes : WritesOnly (λ sector bytes. ⊤) disk disk_new
   pub mirrors : Mirrors disk image → Mirrors disk_new image_new
   pub pending : (sector : ℕ) → is_changed image sector ≡ true → is_changed image_new sector ≡ false → WritesTo sector disk disk_new
-
--- where the write covers the place, it holds this byte there
-abbrev pub HoldsAt : ℕ → ℕ → ℕ → ℕ → List ℕ → Type 0
-HoldsAt grain x byte sector bytes = sector * grain ≤ x → x < sector * grain + grain → slice_index bytes (x - sector * grain) ≡ byte
 
 -- reads of the sector are told as before
 abbrev pub SureAsBefore : ℕ → disks.State → disks.State → Type 0

@@ -18,7 +18,7 @@ ghost use Rattle.page_image.specs.Images.{IsDiskOf, Mirrors, IsStored};
 ghost use Rattle.page_image.specs.Spots.{ImageLands};
 ghost use Rattle.page_image.specs.Held.{shown, IsImageViewOf, SameImageView, ImageKeeps};
 ghost use Rattle.page_image.specs.Puts.{IsPending};
-ghost use Rattle.page_image.specs.Allowed.{IsOldOrNew};
+ghost use Rattle.page_image.specs.Allowed.{IsOldOrNewSector};
 ghost use Rattle.page_image.specs.WriteOuts.{WritesEach, WritesSome, IsClean};
 ghost use Rattle.page_image.specs.Laws.{image_size_fits, ImageKeeps-same, ImageKeeps-join, SameImage-shape};
 
@@ -143,7 +143,7 @@ impl<D: Disk> Space for Image<'_, D> {
             (shown D.state self.old) self.old at (length bytes.now) self.new (result_err result) }
         ensures pending { OnOk result (IsPending at (length bytes.now) (D.state self.old.disk.now) (D.state self.new.disk.now) self.new.image.now) }
         ensures old_or_new { IsTrue (tells (D.state self.old.disk.now))
-            → WritesOnly (IsOldOrNew self.old.image.now self.new.image.now) (D.state self.old.disk.now) (D.state self.new.disk.now) }
+            → WritesOnly (IsOldOrNewSector self.old.image.now self.new.image.now) (D.state self.old.disk.now) (D.state self.new.disk.now) }
     {
         self.image.put(at, bytes);
         Ok(())

@@ -1,5 +1,6 @@
 -- A partition's cells through both of its trees.
-use Rattle.std.proofs.Common.{◌≡◌, ℕ, ◌+◌, ◌^◌, ◌<◌, Bool, true, false, not, IsTrue, IsFalse, List, length, drop, Option, Some, None, Result, Ok, Err, refl, sym, ◌∙◌, ap, subst, arith}
+use Rattle.std.proofs.Common.{◌≡◌, ℕ, ◌+◌, ◌^◌, ◌<◌, Bool, true, false, not, IsTrue, IsFalse, List, length, drop}
+use Rattle.std.proofs.Common.{Option, Some, None, Result, Ok, Err, refl, sym, ◌∙◌, ap, subst, arith}
 use Rattle.std.proofs.lemmas.Bool.{and_parts, and_from, le-leb, leb-true, eq-eqb, eqb-true}
 use Rattle.save_bytes.specs.declared.space.Bad.{Bad}
 use Rattle.save_bytes.specs.Cells.{Cell, Byte, Blank, Spoilt, IsByte}
@@ -40,11 +41,13 @@ use Rattle.part_store.specs.declared.part.Part.{Part}
 use Rattle.part_store.specs.Parts.{master_of, contents_of, hashed_of, part_state, CanView, can_view, IsFound}
 
 -- a part that can be viewed has its contents in the base
-pub contents_there : (base : State) (part : Part) (n : ℕ) → base.shape.size < 2 ^ 64 → CanView base.shape part n → HasContents base.shape part.at part.difi part.dpfs.selector
+pub contents_there : (base : State) (part : Part) (n : ℕ) → base.shape.size < 2 ^ 64 → CanView base.shape part n
+    → HasContents base.shape part.at part.difi part.dpfs.selector
 contents_there base part n small view = contents_of_base base.shape part.at part.difi part.dpfs small view.contents
 
 -- and its hash tree in the contents
-pub hash_view : (base : State) (part : Part) (table : List ℕ) → CanView base.shape part (length table) → CanHash (contents_of base part).shape part.difi (length (master_of table part.difi)) part.ivfc
+pub hash_view : (base : State) (part : Part) (table : List ℕ) → CanView base.shape part (length table)
+    → CanHash (contents_of base part).shape part.difi (length (master_of table part.difi)) part.ivfc
 hash_view base part table view =
     let difi = part.difi in
     let from = difi.place + difi.master.at in
@@ -60,18 +63,24 @@ hash_view base part table view =
       made = view.made;
     }
 
-pub hashes_there : (base : State) (part : Part) (table : List ℕ) → base.shape.size < 2 ^ 64 → CanView base.shape part (length table) → HasHashes (contents_of base part).shape part.difi (length (master_of table part.difi))
+pub hashes_there : (base : State) (part : Part) (table : List ℕ) → base.shape.size < 2 ^ 64
+    → CanView base.shape part (length table)
+    → HasHashes (contents_of base part).shape part.difi (length (master_of table part.difi))
 hashes_there base part table small view =
     let contents = contents_there base part (length table) small view in
-    hashes_of (contents_of base part).shape part.difi (length (master_of table part.difi)) part.ivfc (omega (arith, contents.view_fits, contents.small)) (hash_view base part table view)
+    hashes_of (contents_of base part).shape part.difi (length (master_of table part.difi)) part.ivfc
+        (omega (arith, contents.view_fits, contents.small)) (hash_view base part table view)
 
 -- the place of a byte of level four in the contents
-pub place_there : (base : State) (part : Part) (table : List ℕ) (at : ℕ) → base.shape.size < 2 ^ 64 → CanView base.shape part (length table) → at < part.difi.ivfc4.size → (level4_of part.difi).at + at < view_size part.difi
+pub place_there : (base : State) (part : Part) (table : List ℕ) (at : ℕ) → base.shape.size < 2 ^ 64
+    → CanView base.shape part (length table) → at < part.difi.ivfc4.size
+    → (level4_of part.difi).at + at < view_size part.difi
 place_there base part table at small view inside =
     let there = place_inside (contents_of base part).shape part.difi (length (master_of table part.difi)) at (hashes_there base part table small view) inside in
     subst (λ (level : LevelPlace). level.at + at < view_size part.difi) (level4_is part.difi) there
 
-pub place_small : (base : State) (part : Part) (table : List ℕ) (at : ℕ) → base.shape.size < 2 ^ 64 → CanView base.shape part (length table) → at < part.difi.ivfc4.size → (level4_of part.difi).at + at < 2 ^ 64
+pub place_small : (base : State) (part : Part) (table : List ℕ) (at : ℕ) → base.shape.size < 2 ^ 64
+    → CanView base.shape part (length table) → at < part.difi.ivfc4.size → (level4_of part.difi).at + at < 2 ^ 64
 place_small base part table at small view inside =
     let contents = contents_there base part (length table) small view in
     omega (arith, place_there base part table at small view inside, contents.view_fits, small)
@@ -122,7 +131,8 @@ module _ (first mid last : State) (part_at : ℕ) (difi : Difi) (dpfs : DpfsStat
             let told_mid : IsTrue mid.told = stays.space.told told in
             let within : at + k < difi.ivfc4.size = omega (arith, h, located.bounded, verified.inside) in
             let there : (level4_of difi).at + at + k ≡ (level_of difi 4).at + (at + k) = omega (arith, four) in
-            let in_first : (level4_of difi).at + at + k < first.shape.size = omega (arith, there, place_inside first.shape difi (length master) (at + k) tree within) in
+            let in_first : (level4_of difi).at + at + k < first.shape.size =
+                omega (arith, there, place_inside first.shape difi (length master) (at + k) tree within) in
             let same : last.cells (place + k) ≡ mid.cells (place + k) = later.cells told_mid (place + k) (omega (arith, h, located.in_base)) in
             let shown : first.cells ((level4_of difi).at + at + k) ≡ last.cells (place + k) =
             sym (stays.cells told ((level4_of difi).at + at + k) in_first) ∙ ap mid.cells (located.places told_mid k h) ∙ sym same in
@@ -146,7 +156,9 @@ found_part base last part table at most result h =
     record { some = h.some; bounded = h.bounded; inside = h.inside; in_base = h.in_base; cells = h.cells; damaged = h.damaged }
 
 -- a piece of the base where bytes were found is one of the space
-pub found_piece : (s base : State) (at most place m : ℕ) → IsTrue base.shape.plain → (IsTrue s.told → IsTrue base.told) → IsFound s base at most (Ok (place, m)) → (result : Result (Bor (List ℕ)) Bad) → IsPiece base place m result → IsPiece s at most result
+pub found_piece : (s base : State) (at most place m : ℕ) → IsTrue base.shape.plain
+    → (IsTrue s.told → IsTrue base.told) → IsFound s base at most (Ok (place, m))
+    → (result : Result (Bor (List ℕ)) Bad) → IsPiece base place m result → IsPiece s at most result
 found_piece s base at most place m plain same_told found (Ok piece) h = record {
   some = h.some;
   bounded = omega (arith, h.bounded, found.bounded);
@@ -155,12 +167,15 @@ found_piece s base at most place m plain same_told found (Ok piece) h = record {
   damaged = λ told. tt;
   plain = λ plain. tt;
 }
-found_piece s base at most place m plain same_told found (Err Disk) h = record { some = tt; bounded = tt; inside = tt; bytes = λ told. tt; damaged = λ told. tt; plain = λ plain. tt }
+found_piece s base at most place m plain same_told found (Err Disk) h =
+    record { some = tt; bounded = tt; inside = tt; bytes = λ told. tt; damaged = λ told. tt; plain = λ plain. tt }
 found_piece s base at most place m plain same_told found (Err (Damaged part level block)) h = absurd (h.plain plain)
 
 -- a space that was refused bytes lends none
 pub refused_piece : (s base : State) (at most : ℕ) (bad : Bad) → IsFalse s.shape.plain → IsFound s base at most (Err bad) → IsPiece s at most (Err bad)
-refused_piece s base at most bad worn found = record { some = tt; bounded = tt; inside = tt; bytes = λ told. tt; damaged = found.damaged; plain = λ plain. absurd (let no = worn in cc) }
+refused_piece s base at most bad worn found =
+    record { some = tt; bounded = tt; inside = tt; bytes = λ told. tt; damaged = found.damaged; plain =
+    λ plain. absurd (let no = worn in cc) }
 
 -- What is known of a base from its contents, after a call that left alone each of their spots.
 module _ {S : Type 0} (states : S → State) (keeps : Spot → S → S → Type 0) (lands : S → ℕ → Spot → Type 0)
@@ -198,25 +213,37 @@ module _ {S : Type 0} (states : S → State) (keeps : Spot → S → S → Type 
       }
 
 -- what stays in the contents stays in the partition
-pub part_stays : (first last : State) (part : Part) (table : List ℕ) (refusal : Option Bad) → first.shape.size < 2 ^ 64 → CanView first.shape part (length table) → last.shape ≡ first.shape → Stays (contents_of first part) (contents_of last part) refusal → Stays (part_state first part table) (part_state last part table) refusal
+pub part_stays : (first last : State) (part : Part) (table : List ℕ) (refusal : Option Bad)
+    → first.shape.size < 2 ^ 64 → CanView first.shape part (length table) → last.shape ≡ first.shape
+    → Stays (contents_of first part) (contents_of last part) refusal
+    → Stays (part_state first part table) (part_state last part table) refusal
 part_stays first last part table refusal small view shape stays =
-    let hashed = hashed_stay (contents_of first part) (contents_of last part) part.number (master_of table part.difi) part.difi part.ivfc refusal (hashes_there first part table small view) stays in
+    let hashed = hashed_stay (contents_of first part) (contents_of last part) part.number (master_of table part.difi)
+        part.difi part.ivfc refusal (hashes_there first part table small view) stays in
     record {
-      space = record { shape = rw shape refl; faults = hashed.space.faults; cause = hashed.space.cause; told = hashed.space.told; twins = λ told. UnlessDisk-map refusal (λ _. record { bottom = λ x h. refl; is_fixed = λ x h. refl }) (hashed.space.twins told) };
+      space = record { shape = rw shape refl; faults = hashed.space.faults; cause = hashed.space.cause; told =
+          hashed.space.told; twins = λ told. UnlessDisk-map refusal
+          (λ _. record { bottom = λ x h. refl; is_fixed = λ x h. refl }) (hashed.space.twins told) };
       cells = hashed.cells;
     }
 
 -- what stays in the base stays in the partition
-pub part_from_base : (base last : State) (part : Part) (table : List ℕ) (refusal : Option Bad) → base.shape.size < 2 ^ 64 → CanView base.shape part (length table) → Stays base last refusal → Stays (part_state base part table) (part_state last part table) refusal
+pub part_from_base : (base last : State) (part : Part) (table : List ℕ) (refusal : Option Bad)
+    → base.shape.size < 2 ^ 64 → CanView base.shape part (length table) → Stays base last refusal
+    → Stays (part_state base part table) (part_state last part table) refusal
 part_from_base base last part table refusal small view stays =
     let tree = contents_there base part (length table) small view in
     part_stays base last part table refusal small view stays.space.shape (contents_stay base last part.at part.difi part.dpfs refusal tree stays)
 
 -- and after a call on the partition
-pub part_later : (first mid last : State) (part : Part) (table : List ℕ) (refusal : Option Bad) → first.shape.size < 2 ^ 64 → CanView first.shape part (length table) → mid.shape ≡ first.shape → Stays (part_state first part table) (part_state mid part table) None → Stays mid last refusal → Stays (part_state first part table) (part_state last part table) refusal
+pub part_later : (first mid last : State) (part : Part) (table : List ℕ) (refusal : Option Bad)
+    → first.shape.size < 2 ^ 64 → CanView first.shape part (length table) → mid.shape ≡ first.shape
+    → Stays (part_state first part table) (part_state mid part table) None → Stays mid last refusal
+    → Stays (part_state first part table) (part_state last part table) refusal
 part_later first mid last part table refusal small view shape before stays =
     let there : CanView mid.shape part (length table) = rw shape view in
-    Stays-join (part_state first part table) (part_state mid part table) (part_state last part table) refusal before (part_from_base mid last part table refusal (rw shape small) there stays)
+    Stays-join (part_state first part table) (part_state mid part table) (part_state last part table) refusal before
+        (part_from_base mid last part table refusal (rw shape small) there stays)
 
 -- where bytes were found there is one
 pub found_inside : (s base : State) (at most place m : ℕ) → IsTrue base.shape.sound → IsFound s base at most (Ok (place, m)) → IsInside base.shape place 1

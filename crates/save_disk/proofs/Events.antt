@@ -20,7 +20,8 @@ said_of-append : (events more : List Event) → said_of (events ++ more) ≡ sai
 said_of-append [] more = refl
 said_of-append (Write sector bytes ∷ events) more = said_of-append events more
 said_of-append (Sync ∷ events) more = said_of-append events more
-said_of-append (Said bytes ∷ events) more = ap (λ (l : List ℕ). bytes ++ l) (said_of-append events more) ∙ sym (append_assoc bytes (said_of events) (said_of more))
+said_of-append (Said bytes ∷ events) more = ap (λ (l : List ℕ). bytes ++ l) (said_of-append events more)
+    ∙ sym (append_assoc bytes (said_of events) (said_of more))
 
 -- an image that all events gave, once there is one event more and it changed the image so
 pub written_more :
@@ -66,5 +67,6 @@ module _ (Q : ℕ → List ℕ → Type 0) where
       (events now : List KeptEvent) (event : KeptEvent) → EachWrite Q (map event_of events)
       → now ≡ events ++ event ∷ [] → EachWrite Q (event_of event ∷ []) → EachWrite Q (map event_of now)
   each_write_more events now event was more such =
-      let whole : map event_of events ++ event_of event ∷ [] ≡ map event_of now = sym (map_push event_of events event) ∙ ap (λ (l : List KeptEvent). map event_of l) (sym more) in
+      let whole : map event_of events ++ event_of event ∷ [] ≡ map event_of now = sym (map_push event_of events event)
+          ∙ ap (λ (l : List KeptEvent). map event_of l) (sym more) in
       subst (EachWrite Q) whole (each_write-append Q (map event_of events) (event_of event ∷ []) was such)

@@ -1,5 +1,7 @@
 -- Places that are kept: any write that holds them keeps them, and so does a sync.
-use Rattle.std.proofs.Common.{◌≡◌, ◌↔◌, ⊎_elim, inl, inr, ℕ, ◌+◌, ◌-◌, ◌*◌, ◌/◌, ◌%◌, ◌<◌, ◌≤◌, Bool, false, List, [], ◌∷◌, ◌++◌, length, take, get_or, refl, sym, ◌∙◌, ap, subst, arith, append_assoc, get_or-take}
+use Rattle.std.proofs.Common.{◌≡◌, ◌↔◌, ⊎_elim, inl, inr, ℕ, ◌+◌, ◌-◌, ◌*◌, ◌/◌, ◌%◌, ◌<◌, ◌≤◌, Bool, false, List, []}
+use Rattle.std.proofs.Common.{◌∷◌, ◌++◌, length, take, get_or, refl, sym, ◌∙◌, ap, subst, arith, append_assoc}
+use Rattle.std.proofs.Common.{get_or-take}
 use Rattle.std.proofs.lemmas.List.{append-nil}
 use Rattle.std.proofs.lemmas.Nat.{div-add-mod', mod_below}
 use Rattle.std.proofs.lemmas.Bool.{cases_lt}
@@ -8,7 +10,8 @@ use Rattle.save_disk.specs.Stops.{synced, unsynced, has_sync, HasWrite, HasNoWri
 use Rattle.save_disk.specs.Keeps.{HoldsAll, Agree, Keeps}
 use Rattle.save_disk.proofs.SectorBytes.{length-with_sector, sector_cut-byte, with_sector-before, with_sector-behind, with_sector-inside}
 use Rattle.save_disk.proofs.Sectors.{same_from_sectors, in_synced, in_unsynced}
-use Rattle.save_disk.proofs.Moments.{each_write-front, each_write-append, image_after-append, length-image_after, synced-open, unsynced-open, synced-sync, unsynced-sync, synced-unsynced}
+use Rattle.save_disk.proofs.Moments.{each_write-front, each_write-append, image_after-append, length-image_after}
+use Rattle.save_disk.proofs.Moments.{synced-open, unsynced-open, synced-sync, unsynced-sync, synced-unsynced}
 
 -- a write that holds the places leaves an image that agrees on them
 agree_written :
@@ -39,9 +42,14 @@ agree_after places image other grain (Write sector bytes ∷ events) long fits h
     let fit = fits sector bytes (inl refl) in
     let hold = holds sector bytes (inl refl) in
     let same : length (with_sector grain other sector bytes) ≡ length image = length-with_sector grain other sector bytes (omega (arith, fit.1)) fit.0 ∙ long in
-    agree_after places image (with_sector grain other sector bytes) grain events same (λ s b has. fits s b (inr has)) (λ s b has. holds s b (inr has)) (agree_written places image other grain sector bytes long fit hold agree)
-agree_after places image other grain (Sync ∷ events) long fits holds agree = agree_after places image other grain events long (λ s b has. fits s b (inr has)) (λ s b has. holds s b (inr has)) agree
-agree_after places image other grain (Said bytes ∷ events) long fits holds agree = agree_after places image other grain events long (λ s b has. fits s b (inr has)) (λ s b has. holds s b (inr has)) agree
+    agree_after places image (with_sector grain other sector bytes) grain events same (λ s b has. fits s b (inr has))
+        (λ s b has. holds s b (inr has)) (agree_written places image other grain sector bytes long fit hold agree)
+agree_after places image other grain (Sync ∷ events) long fits holds agree =
+    agree_after places image other grain events long (λ s b has. fits s b (inr has)) (λ s b has. holds s b (inr has))
+    agree
+agree_after places image other grain (Said bytes ∷ events) long fits holds agree =
+    agree_after places image other grain events long (λ s b has. fits s b (inr has)) (λ s b has. holds s b (inr has))
+    agree
 
 module _ (grain : ℕ) (start : List ℕ) (events : List Event) (fits : EachWrite (Fits grain (length start)) events) where
   pub fits_synced : EachWrite (Fits grain (length start)) (synced events)
@@ -66,7 +74,8 @@ module _ (places : ℕ → Bool) (image : List ℕ) (grain : ℕ) (start : List 
   keeps_open events event none holds keeps = record {
     size = keeps.size;
     synced = subst (λ (l : List Event). Agree places image (image_after grain start l)) (sym (synced-open (event ∷ []) none events)) keeps.synced;
-    since = subst (EachWrite (HoldsAll places grain image)) (sym (unsynced-open (event ∷ []) none events)) (each_write-append (HoldsAll places grain image) (unsynced events) (event ∷ []) keeps.since holds);
+    since = subst (EachWrite (HoldsAll places grain image)) (sym (unsynced-open (event ∷ []) none events))
+        (each_write-append (HoldsAll places grain image) (unsynced events) (event ∷ []) keeps.since holds);
   }
 
   -- with all writes the places have their bytes
@@ -76,14 +85,17 @@ module _ (places : ℕ → Bool) (image : List ℕ) (grain : ℕ) (start : List 
   keeps_now events fits keeps =
       let fit : EachWrite (Fits grain (length image)) (unsynced events) = rw keeps.size (fits_unsynced grain start events fits) in
       rw (image_unsynced grain start events fits)
-      (agree_after places image (image_after grain start (synced events)) grain (unsynced events) (length-synced grain start events fits ∙ sym keeps.size) fit keeps.since keeps.synced)
+      (agree_after places image (image_after grain start (synced events)) grain (unsynced events)
+          (length-synced grain start events fits ∙ sym keeps.size) fit keeps.since keeps.synced)
 
   keeps_sync :
       (events : List Event) → EachWrite (Fits grain (length start)) events → Keeps places image grain start events
       → Keeps places image grain start (events ++ Sync ∷ [])
   keeps_sync events fits keeps = record {
     size = keeps.size;
-    synced = subst (λ (l : List Event). Agree places image (image_after grain start l)) (sym (synced-sync events)) (subst (Agree places image) (sym (image_after-append grain start events (Sync ∷ []))) (keeps_now events fits keeps));
+    synced = subst (λ (l : List Event). Agree places image (image_after grain start l)) (sym (synced-sync events))
+        (subst (Agree places image) (sym (image_after-append grain start events (Sync ∷ [])))
+        (keeps_now events fits keeps));
     since = subst (EachWrite (HoldsAll places grain image)) (sym (unsynced-sync events)) (λ sector bytes has. absurd has);
   }
 
@@ -117,12 +129,14 @@ module _ (places : ℕ → Bool) (image : List ℕ) (grain : ℕ) (start : List 
       let k = x % grain in
       let whole : x / grain * grain + x % grain ≡ x = div-add-mod' x grain in
       let small : x % grain < grain = mod_below x grain some in
-      let place : (l : List ℕ) → get_or (sector_cut grain l (x / grain)) (x % grain) 0 ≡ get_or l x 0 = λ l. sector_cut-byte grain l (x / grain) (x % grain) small ∙ ap (λ (y : ℕ). get_or l y 0) whole in
+      let place : (l : List ℕ) → get_or (sector_cut grain l (x / grain)) (x % grain) 0 ≡ get_or l x 0 =
+          λ l. sector_cut-byte grain l (x / grain) (x % grain) small ∙ ap (λ (y : ℕ). get_or l y 0) whole in
       sym (place left)
       ∙ ⊎_elim
       (λ (kept : sector_cut grain left (x / grain) ≡ sector_cut grain (image_after grain start (synced events)) (x / grain)).
       ap (λ (l : List ℕ). get_or l (x % grain) 0) kept ∙ place (image_after grain start (synced events)) ∙ keeps.synced x inside live)
-      (λ (later : (bytes : List ℕ) × HasWrite (unsynced events) (x / grain) bytes × (sector_cut grain left (x / grain) ≡ take (length start - x / grain * grain) bytes)).
+      (λ (later : (bytes : List ℕ) × HasWrite (unsynced events) (x / grain) bytes
+          × (sector_cut grain left (x / grain) ≡ take (length start - x / grain * grain) bytes)).
       let offset : x - x / grain * grain ≡ x % grain = omega arith in
       ap (λ (l : List ℕ). get_or l (x % grain) 0) later.2
       ∙ get_or-take (length start - x / grain * grain) later.0 (x % grain) 0 (omega (arith, keeps.size))

@@ -1,5 +1,6 @@
 -- Lists of events taken apart and put together: their writes, their syncs and their images.
-use Rattle.std.proofs.Common.{◌≡◌, ⊎_elim, inl, inr, ◌⊎◌, ℕ, zero, suc, ◌+◌, ◌≤◌, Bool, true, false, ◌||◌, cond, List, [], ◌∷◌, ◌++◌, length, take, drop, refl, sym, ◌∙◌, ap, subst, arith, zero-add}
+use Rattle.std.proofs.Common.{◌≡◌, ⊎_elim, inl, inr, ◌⊎◌, ℕ, zero, suc, ◌+◌, ◌≤◌, Bool, true, false, ◌||◌, cond, List}
+use Rattle.std.proofs.Common.{[], ◌∷◌, ◌++◌, length, take, drop, refl, sym, ◌∙◌, ap, subst, arith, zero-add}
 use Rattle.std.proofs.lemmas.List.{take-append-drop}
 use Rattle.save_disk.specs.Trace.{Event, Write, Sync, Said, with_sector, image_after}
 use Rattle.save_disk.specs.Stops.{is_sync, has_sync, synced, unsynced, HasWrite, EachWrite, Fits, syncs, until_sync, AtEachMoment}
@@ -65,7 +66,9 @@ length-image_after grain image [] fits = refl
 length-image_after grain image (Write sector bytes ∷ events) fits =
     let fit = fits sector bytes (inl refl) in
     let same : length (with_sector grain image sector bytes) ≡ length image = length-with_sector grain image sector bytes fit.1 fit.0 in
-    length-image_after grain (with_sector grain image sector bytes) events (λ number written has. subst (λ (n : ℕ). Fits grain n number written) (sym same) (fits number written (inr has))) ∙ same
+    length-image_after grain (with_sector grain image sector bytes) events
+        (λ number written has. subst (λ (n : ℕ). Fits grain n number written) (sym same)
+        (fits number written (inr has))) ∙ same
 length-image_after grain image (Sync ∷ events) fits = length-image_after grain image events (λ number written has. fits number written (inr has))
 length-image_after grain image (Said bytes ∷ events) fits = length-image_after grain image events (λ number written has. fits number written (inr has))
 
@@ -100,7 +103,8 @@ module _ (ys : List Event) (none : has_sync ys ≡ false) where
   pub synced-open : (xs : List Event) → synced (xs ++ ys) ≡ synced xs
   synced-open [] = synced_none ys none
   synced-open (event ∷ xs) =
-      ap (λ (b : Bool). cond b (event ∷ synced (xs ++ ys)) []) (same_test (event ∷ xs)) ∙ ap (λ (l : List Event). cond (has_sync (event ∷ xs)) (event ∷ l) []) (synced-open xs)
+      ap (λ (b : Bool). cond b (event ∷ synced (xs ++ ys)) []) (same_test (event ∷ xs))
+          ∙ ap (λ (l : List Event). cond (has_sync (event ∷ xs)) (event ∷ l) []) (synced-open xs)
 
   pub unsynced-open : (xs : List Event) → unsynced (xs ++ ys) ≡ unsynced xs ++ ys
   unsynced-open [] = unsynced_whole ys none
@@ -119,7 +123,8 @@ has_last xs = has_sync-append xs (Sync ∷ []) ∙ or-true (has_sync xs)
 
 pub synced-sync : (xs : List Event) → synced (xs ++ Sync ∷ []) ≡ xs ++ Sync ∷ []
 synced-sync [] = refl
-synced-sync (event ∷ xs) = ap (λ (b : Bool). cond b (event ∷ synced (xs ++ Sync ∷ [])) []) (has_last (event ∷ xs)) ∙ ap (λ (l : List Event). event ∷ l) (synced-sync xs)
+synced-sync (event ∷ xs) = ap (λ (b : Bool). cond b (event ∷ synced (xs ++ Sync ∷ [])) []) (has_last (event ∷ xs))
+    ∙ ap (λ (l : List Event). event ∷ l) (synced-sync xs)
 
 pub unsynced-sync : (xs : List Event) → unsynced (xs ++ Sync ∷ []) ≡ []
 unsynced-sync [] = refl
@@ -156,7 +161,8 @@ until_sync-more [] more n few = let none : n ≡ 0 = omega arith in rw none (fir
     first [] = refl
     first (event ∷ events) = refl
 until_sync-more (event ∷ events) more zero few = refl
-until_sync-more (Write sector bytes ∷ events) more (suc n) few = ap (λ (l : List Event). Write sector bytes ∷ l) (until_sync-more events more (suc n) (omega arith))
+until_sync-more (Write sector bytes ∷ events) more (suc n) few =
+    ap (λ (l : List Event). Write sector bytes ∷ l) (until_sync-more events more (suc n) (omega arith))
 until_sync-more (Sync ∷ events) more (suc n) few = ap (λ (l : List Event). Sync ∷ l) (until_sync-more events more n (omega arith))
 until_sync-more (Said bytes ∷ events) more (suc n) few = ap (λ (l : List Event). Said bytes ∷ l) (until_sync-more events more (suc n) (omega arith))
 
@@ -186,7 +192,8 @@ opened event events free so_far = both (has_sync events) refl
     both :
         (b : Bool) → has_sync events ≡ b
         → cond (has_sync events) (event ∷ synced events) [] ≡ until_sync (event ∷ events) (0 + syncs events)
-    both true has = rw (has, zero-add (syncs events), until_open event events (syncs events) free (some_counted events has)) (ap (λ (l : List Event). event ∷ l) so_far)
+    both true has = rw (has, zero-add (syncs events), until_open event events (syncs events) free
+        (some_counted events has)) (ap (λ (l : List Event). event ∷ l) so_far)
     both false none = rw (none, zero-add (syncs events), none_counted events none) refl
 
 one-add : (n : ℕ) → 1 + n ≡ suc n

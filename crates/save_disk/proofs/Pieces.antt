@@ -5,18 +5,26 @@ use Rattle.save_disk.specs.Trace.{Told, IsFresh, sector_cut, sector_of, image_af
 use Rattle.save_disk.specs.State.{State, IsRead, IsSound}
 
 -- what a piece within a sector has, the image has at its place
-pub piece_of_sector : (grain image_size : ℕ) (image : List ℕ) (sector from n at : ℕ) → length image ≡ image_size → sector * grain + from ≡ at → from + n ≤ grain → at + n ≤ image_size → take (from + n - from) (drop from (sector_of grain image sector)) ≡ take n (drop at image)
+pub piece_of_sector : (grain image_size : ℕ) (image : List ℕ) (sector from n at : ℕ) → length image ≡ image_size
+    → sector * grain + from ≡ at → from + n ≤ grain → at + n ≤ image_size
+    → take (from + n - from) (drop from (sector_of grain image sector)) ≡ take n (drop at image)
 piece_of_sector grain image_size image sector from n at long place inside fits =
     let cut : List ℕ = sector_cut grain image sector in
-    let size : length cut ≡ min grain (length image - sector * grain) = length-take grain (drop (sector * grain) image) ∙ ap (λ (k : ℕ). min grain k) (length-drop (sector * grain) image) in
+    let size : length cut ≡ min grain (length image - sector * grain) =
+        length-take grain (drop (sector * grain) image)
+        ∙ ap (λ (k : ℕ). min grain k) (length-drop (sector * grain) image) in
     let whole : from + n ≤ length cut = omega arith in
     let count : from + n - from ≡ n = omega arith in
     let zeros : List ℕ = replicate (grain - length cut) 0 in
     let first : drop from (cut ++ zeros) ≡ drop from cut ++ zeros = drop-append-le from cut zeros (omega arith) in
     let second : take n (drop from cut ++ zeros) ≡ take n (drop from cut) = take-append-le n (drop from cut) zeros (omega (arith, length-drop from cut)) in
     let split : grain ≡ from + (grain - from) = omega arith in
-    let third : drop from cut ≡ take (grain - from) (drop from (drop (sector * grain) image)) = ap (λ (k : ℕ). drop from (take k (drop (sector * grain) image))) split ∙ drop-take from (grain - from) (drop (sector * grain) image) in
-    let fourth : take n (take (grain - from) (drop from (drop (sector * grain) image))) ≡ take n (drop from (drop (sector * grain) image)) = take-take n (grain - from) (drop from (drop (sector * grain) image)) (omega arith) in
+    let third : drop from cut ≡ take (grain - from) (drop from (drop (sector * grain) image)) =
+        ap (λ (k : ℕ). drop from (take k (drop (sector * grain) image))) split
+        ∙ drop-take from (grain - from) (drop (sector * grain) image) in
+    let fourth : take n (take (grain - from) (drop from (drop (sector * grain) image))) ≡ take n
+        (drop from (drop (sector * grain) image)) =
+        take-take n (grain - from) (drop from (drop (sector * grain) image)) (omega arith) in
     let fifth : drop from (drop (sector * grain) image) ≡ drop at image = drop-drop from (sector * grain) image ∙ ap (λ (k : ℕ). drop k image) place in
     ap (λ (k : ℕ). take k (drop from (sector_of grain image sector))) count
     ∙ ap (λ (l : List ℕ). take n l) first
@@ -26,11 +34,15 @@ piece_of_sector grain image_size image sector from n at long place inside fits =
     ∙ ap (λ (l : List ℕ). take n l) fifth
 
 -- a read of a fresh disk gives a sector of the image of its start
-pub read_fresh : (state : State) (told : Told) (sector : ℕ) (bytes : List ℕ) → IsSound state → state.told ≡ Some told → IsFresh told → IsRead state sector bytes → bytes ≡ sector_of state.grain told.start sector
+pub read_fresh : (state : State) (told : Told) (sector : ℕ) (bytes : List ℕ) → IsSound state → state.told ≡ Some told
+    → IsFresh told → IsRead state sector bytes → bytes ≡ sector_of state.grain told.start sector
 read_fresh state told sector bytes sound is fresh read =
     let grain : told.grain ≡ state.grain = subst (λ (o : Option Told). IfSome o (λ t. t.grain ≡ state.grain)) is sound.told_grain in
-    let given : bytes ≡ sector_of told.grain (image_now told) sector = subst (λ (o : Option Told). IfSome o (λ t. IsTrue (t.sure sector) → bytes ≡ sector_of t.grain (image_now t) sector)) is read (fresh.sure sector) in
-    given ∙ ap (λ (events : _). sector_of told.grain (image_after told.grain told.start events) sector) fresh.silent ∙ ap (λ (k : ℕ). sector_of k told.start sector) grain
+    let given : bytes ≡ sector_of told.grain (image_now told) sector =
+        subst (λ (o : Option Told). IfSome o
+        (λ t. IsTrue (t.sure sector) → bytes ≡ sector_of t.grain (image_now t) sector)) is read (fresh.sure sector) in
+    given ∙ ap (λ (events : _). sector_of told.grain (image_after told.grain told.start events) sector) fresh.silent
+        ∙ ap (λ (k : ℕ). sector_of k told.start sector) grain
 
 pub start_size : (state : State) (told : Told) → IsSound state → state.told ≡ Some told → length told.start ≡ state.size
 start_size state told sound is = subst (λ (o : Option Told). IfSome o (λ t. length t.start ≡ state.size)) is sound.told_size

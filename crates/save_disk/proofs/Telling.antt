@@ -28,12 +28,15 @@ module _ (P : List Event → Type 0) where
   tells_quiet one two three so_far quiet = λ told is. let before = so_far told is in (before.0, before.1, quiet ∙ before.2)
 
   -- a call that adds an event
-  pub tells_more : (Q : List Event → Type 0) (event : Event) (one two three : State) → Tells P one two → Happens event two three → ((events : List Event) → P events → Q (events ++ event ∷ [])) → Tells Q one three
+  pub tells_more : (Q : List Event → Type 0) (event : Event) (one two three : State) → Tells P one two
+      → Happens event two three → ((events : List Event) → P events → Q (events ++ event ∷ [])) → Tells Q one three
   tells_more Q event one two three so_far happens more = λ told is.
       let before = so_far told is in (
         before.0 ++ event ∷ [],
         more before.0 before.1,
-        happens ∙ ap (λ (o : Option Told). option_map (then_event event) o) before.2 ∙ ap (λ (events : List Event). Some (record told { events = events })) (append_assoc told.events before.0 (event ∷ [])),
+        happens ∙ ap (λ (o : Option Told). option_map (then_event event) o) before.2
+            ∙ ap (λ (events : List Event). Some (record told { events = events }))
+            (append_assoc told.events before.0 (event ∷ [])),
       )
 
   pub tells_weaker : (Q : List Event → Type 0) (one two : State) → Tells P one two → ((events : List Event) → P events → Q events) → Tells Q one two

@@ -1,5 +1,6 @@
 -- What it means that a disk tells its trace and each read.
-use Rattle.std.proofs.Common.{◌≡◌, ℕ, zero, suc, ◌/◌, ◌<◌, ◌≤◌, Bool, true, false, ◌&&◌, IsTrue, List, length, Option, Some, None, IfSome, refl, ap, subst, arith, ⊎_elim, ◌∙◌}
+use Rattle.std.proofs.Common.{◌≡◌, ℕ, zero, suc, ◌/◌, ◌<◌, ◌≤◌, Bool, true, false, ◌&&◌, IsTrue, List, length, Option}
+use Rattle.std.proofs.Common.{Some, None, IfSome, refl, ap, subst, arith, ⊎_elim, ◌∙◌}
 use Rattle.std.proofs.lemmas.Bool.{cases_lt}
 use Rattle.save_disk.specs.Trace.{Told, IsFresh, sector_of, image_now}
 use Rattle.save_disk.specs.State.{State, IsSound, IsRead}
@@ -54,7 +55,10 @@ now_size state told sound is =
     length-image_after told.grain told.start told.events (told_writes state told sound is) ∙ size
 
 -- a read that is told gives the sector of the image
-pub read_sure : (state : State) (told : Told) (sector : ℕ) (bytes : List ℕ) → IsSound state → state.told ≡ Some told → IsTrue (told.sure sector) → IsRead state sector bytes → bytes ≡ sector_of state.grain (image_now told) sector
+pub read_sure : (state : State) (told : Told) (sector : ℕ) (bytes : List ℕ) → IsSound state → state.told ≡ Some told
+    → IsTrue (told.sure sector) → IsRead state sector bytes → bytes ≡ sector_of state.grain (image_now told) sector
 read_sure state told sector bytes sound is sure read =
-    let given : bytes ≡ sector_of told.grain (image_now told) sector = subst (λ (o : Option Told). IfSome o (λ t. IsTrue (t.sure sector) → bytes ≡ sector_of t.grain (image_now t) sector)) is read sure in
+    let given : bytes ≡ sector_of told.grain (image_now told) sector =
+        subst (λ (o : Option Told). IfSome o
+        (λ t. IsTrue (t.sure sector) → bytes ≡ sector_of t.grain (image_now t) sector)) is read sure in
     given ∙ ap (λ (k : ℕ). sector_of k (image_now told) sector) (told_grain state told sound is)

@@ -25,7 +25,8 @@ pub record Keeps (places : ℕ → Bool) (image : List ℕ) (grain : ℕ) (start
 -- as long as each write is of a whole sector that begins inside the image
 abbrev pub EachStop : (List ℕ → Type 0) → ℕ → List ℕ → List Event → List Event → Type 0
 EachStop P grain start events added =
-    AtEachMoment (λ front. EachWrite (Fits grain (length start)) (events ++ front) → (left : List ℕ) → CrashMayLeave grain start (events ++ front) left → P left) added
+    AtEachMoment (λ front. EachWrite (Fits grain (length start)) (events ++ front) → (left : List ℕ)
+        → CrashMayLeave grain start (events ++ front) left → P left) added
 
 -- the same of a trace, where each write fits
 abbrev pub StopsLeave : (List ℕ → Type 0) → Told → List Event → Type 0

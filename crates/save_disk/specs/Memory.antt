@@ -22,5 +22,7 @@ state_from memory = record {
 -- that is named is not done. Given are the traces that the first two leave.
 pub record Ends {T E : Type 0} (call : Call) (done : T → Told) (failed : Told) (before after : Memory) (result : Result T E) : Type 0 where
   pub ok : IfOk result (λ value. after ≡ record { trace = done value; log = listed call before.log })
-  pub err : OnErr result ((IsNamed call before.log × (after ≡ record { trace = failed; log = faulted call (listed call before.log) })) ⊎ (after ≡ record before { log = fell_short call before.log }))
+  pub err : OnErr result ((IsNamed call before.log
+      × (after ≡ record { trace = failed; log = faulted call (listed call before.log) })) ⊎
+      (after ≡ record before { log = fell_short call before.log }))
   pub named : IsNamed call before.log → IsErr result

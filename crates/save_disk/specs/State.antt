@@ -1,5 +1,6 @@
 -- The state of a disk or desk, and what its calls do to it.
-use Rattle.std.specs.Prelude.{ℕ, ◌+◌, ◌-◌, ◌^◌, ◌<◌, ◌≤◌, ◌≡◌, ◌≢◌, ◌⊎◌, min, List, [], ◌∷◌, ◌++◌, length, take, drop, Option, Some, None, MatchOption, IfSome, Result, OnErr, IsTrue}
+use Rattle.std.specs.Prelude.{ℕ, ◌+◌, ◌-◌, ◌^◌, ◌<◌, ◌≤◌, ◌≡◌, ◌≢◌, ◌⊎◌, min, List, [], ◌∷◌, ◌++◌, length, take, drop}
+use Rattle.std.specs.Prelude.{Option, Some, None, MatchOption, IfSome, Result, OnErr, IsTrue}
 use Rattle.std.specs.Option.{option_map}
 use Rattle.save_disk.specs.Trace.{Event, Write, Told, sector_of, image_now}
 use Rattle.save_disk.specs.Stops.{EachWrite, Fits}

@@ -27,7 +27,8 @@ abbrev pub is_live : ℕ → Bool
 is_live x = nat_lt x 2
 
 abbrev pub HoldsLiveBytes : ℕ → Type 0
-HoldsLiveBytes grain = EachStop (Agree is_live (replicate grain 5)) grain (replicate grain 5) [] (Write 0 (5 ∷ 5 ∷ replicate (grain - 2) 9) ∷ Sync ∷ Write 0 (5 ∷ 5 ∷ replicate (grain - 2) 8) ∷ [])
+HoldsLiveBytes grain = EachStop (Agree is_live (replicate grain 5)) grain (replicate grain 5) []
+    (Write 0 (5 ∷ 5 ∷ replicate (grain - 2) 9) ∷ Sync ∷ Write 0 (5 ∷ 5 ∷ replicate (grain - 2) 8) ∷ [])
 
 abbrev pub LosesALiveByte : ℕ → Type 0
 LosesALiveByte grain = HoldsAll is_live grain (replicate grain 5) 0 (5 ∷ 6 ∷ replicate (grain - 2) 9) → ⊥

@@ -1,5 +1,6 @@
 -- The lines of a block's bytes.
-use Rattle.std.proofs.Common.{◌≡◌, ℕ, suc, ◌+◌, ◌<◌, min, List, [], ◌++◌, length, take, drop, refl, sym, ◌∙◌, ap, arith, inl, inr, append-nil, length-append, codes}
+use Rattle.std.proofs.Common.{◌≡◌, ℕ, suc, ◌+◌, ◌<◌, min, List, [], ◌++◌, length, take, drop, refl, sym, ◌∙◌, ap}
+use Rattle.std.proofs.Common.{arith, inl, inr, append-nil, length-append, codes}
 use Rattle.std.proofs.lemmas.Bool.{cases_lt}
 use Rattle.std.proofs.lemmas.List.{nil_from_length, take_all, take_at, drop_at}
 use Rattle.std.specs.Int.{div_ceil}
@@ -24,7 +25,8 @@ unfolding hex_lines
 no_lines bytes = refl
 
 -- a piece is 32 bytes, or the last
-pub first_line : (bytes piece rest : List ℕ) → bytes ≡ piece ++ rest → length piece ≡ min 32 (length bytes) → 0 < length bytes → hex_line piece ++ lines_of rest ≡ lines_of bytes
+pub first_line : (bytes piece rest : List ℕ) → bytes ≡ piece ++ rest → length piece ≡ min 32 (length bytes)
+    → 0 < length bytes → hex_line piece ++ lines_of rest ≡ lines_of bytes
 first_line bytes piece rest parts size some =
     let sum = ap (λ (l : List ℕ). length l) parts ∙ length-append piece rest in
     elim (cases_lt (length bytes) 32) [
@@ -40,7 +42,8 @@ first_line bytes piece rest parts size some =
           ap (λ (l : List ℕ). hex_line piece ++ l) end ∙ ap (λ (l : List ℕ). hex_line l ++ []) (sym whole) ∙ sym line
       | inr long ↦
           let wide : length piece ≡ 32 = omega arith in
-          let count : div_ceil (length bytes) 32 ≡ suc (div_ceil (length rest) 32) = ap (λ (k : ℕ). div_ceil k 32) (omega arith) ∙ one_line_more (length rest) in
+          let count : div_ceil (length bytes) 32 ≡ suc (div_ceil (length rest) 32) =
+              ap (λ (k : ℕ). div_ceil k 32) (omega arith) ∙ one_line_more (length rest) in
           sym (ap (λ (k : ℕ). hex_lines k bytes) count
           ∙ lines_from (div_ceil (length rest) 32) bytes
           ∙ ap (λ (l : List ℕ). hex_line (take 32 l) ++ hex_lines (div_ceil (length rest) 32) (drop 32 l)) parts

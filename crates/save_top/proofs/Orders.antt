@@ -37,7 +37,8 @@ pub peek_of-none : (words : List (List ℕ)) (at : ℕ) → (length words - at �
 peek_of-none words at other = peek_of-other (drop at words) (λ two. other (sym (length-drop at words) ∙ two))
 
 -- two words are left
-peek_of-two : (words : List (List ℕ)) (at : ℕ) (part block : List ℕ) → length words - at ≡ 2 → slice_get words at ≡ Some part → slice_get words (at + 1) ≡ Some block
+peek_of-two : (words : List (List ℕ)) (at : ℕ) (part block : List ℕ) → length words - at ≡ 2
+    → slice_get words at ≡ Some part → slice_get words (at + 1) ≡ Some block
     → peek_of (drop at words) ≡ peek_at (number_of part) (number_of block)
 peek_of-two words at part block two is_part is_block =
     rw (drop_word words at part is_part, drop_word words (at + 1) block is_block, drop_all (at + 1 + 1) words (omega arith)) refl
@@ -50,13 +51,15 @@ module _ (words : List (List ℕ)) (at : ℕ) (part block : List ℕ) (two : len
   pub peek_of-no_part : None ≡ number_of part → None ≡ peek_of (drop at words)
   peek_of-no_part none =
       let last = slice_get-get_or words (at + 1) [] (omega arith) in
-      sym (peek_of-two words at part (get_or words (at + 1) []) two is_part last ∙ ap (λ (number : Option ℕ). peek_at number (number_of (get_or words (at + 1) []))) (sym none))
+      sym (peek_of-two words at part (get_or words (at + 1) []) two is_part last
+          ∙ ap (λ (number : Option ℕ). peek_at number (number_of (get_or words (at + 1) []))) (sym none))
 
   pub peek_of-no_block : slice_get words (at + 1) ≡ Some block → None ≡ number_of block → None ≡ peek_of (drop at words)
   peek_of-no_block is_block none =
       no_block (number_of part) ∙ ap (λ (number : Option ℕ). peek_at (number_of part) number) none ∙ sym (peek_of-two words at part block two is_part is_block)
 
-  pub peek_of-numbers : (m n : ℕ) → slice_get words (at + 1) ≡ Some block → Some m ≡ number_of part → Some n ≡ number_of block → Some (Peek m n) ≡ peek_of (drop at words)
+  pub peek_of-numbers : (m n : ℕ) → slice_get words (at + 1) ≡ Some block → Some m ≡ number_of part
+      → Some n ≡ number_of block → Some (Peek m n) ≡ peek_of (drop at words)
   peek_of-numbers m n is_block first second =
       ap (λ (number : Option ℕ). peek_at number (Some n)) first
       ∙ ap (λ (number : Option ℕ). peek_at (number_of part) number) second

@@ -14,7 +14,9 @@ two_parts : (second : Option Part) (part : Part) → second ≡ Some part → pa
 two_parts second part is = ap part_count is
 
 -- each part of a whole container is that of its number
-pub part_is : (header : Header) (image_len : ℕ) (table : List ℕ) (parts : Parts) (number : ℕ) (part : Part) → IsWhole header image_len table parts → part_at parts number ≡ Some part → (number < header.parts) × IsPartOf header number part
+pub part_is : (header : Header) (image_len : ℕ) (table : List ℕ) (parts : Parts) (number : ℕ) (part : Part)
+    → IsWhole header image_len table parts → part_at parts number ≡ Some part → (number < header.parts)
+    × IsPartOf header number part
 part_is header image_len table parts number part whole there =
     ⊎_elim
     (λ (zeroth : number ≡ 0).
@@ -41,7 +43,8 @@ pub record IsSmall (difi : Difi) : Type 0 where
   pub log : difi.ivfc4.log ≤ 16
   pub size : difi.ivfc4.size ≤ 67108864
 
-pub part_small : (header : Header) (image_len : ℕ) (table : List ℕ) (parts : Parts) (number : ℕ) (part : Part) → IsWhole header image_len table parts → part_at parts number ≡ Some part → IsSmall part.difi
+pub part_small : (header : Header) (image_len : ℕ) (table : List ℕ) (parts : Parts) (number : ℕ) (part : Part)
+    → IsWhole header image_len table parts → part_at parts number ≡ Some part → IsSmall part.difi
 part_small header image_len table parts number part whole there =
     let is = part_is header image_len table parts number part whole there in
     let levels = is.1.sound.levels in

@@ -23,10 +23,14 @@ OnlySays-push (Write sector written ∷ events) bytes only = absurd only
 OnlySays-push (Sync ∷ events) bytes only = absurd only
 
 -- a piece more was said
-pub said_more : (text rest next : List ℕ) (n : ℕ) (events : List Event) → next ≡ drop n rest → SaysBefore rest text events → SaysBefore next text (events ++ Said (take n rest) ∷ [])
+pub said_more : (text rest next : List ℕ) (n : ℕ) (events : List Event) → next ≡ drop n rest
+    → SaysBefore rest text events → SaysBefore next text (events ++ Said (take n rest) ∷ [])
 said_more text rest next n events is before = record {
   only = OnlySays-push events (take n rest) before.only;
-  front = ap (λ (l : List ℕ). said_of (events ++ Said (take n rest) ∷ []) ++ l) is ∙ ap (λ (l : List ℕ). l ++ drop n rest) (said_of-push events (take n rest)) ∙ append_assoc (said_of events) (take n rest) (drop n rest) ∙ ap (λ (l : List ℕ). said_of events ++ l) (take-append-drop n rest) ∙ before.front;
+  front = ap (λ (l : List ℕ). said_of (events ++ Said (take n rest) ∷ []) ++ l) is
+      ∙ ap (λ (l : List ℕ). l ++ drop n rest) (said_of-push events (take n rest))
+      ∙ append_assoc (said_of events) (take n rest) (drop n rest)
+      ∙ ap (λ (l : List ℕ). said_of events ++ l) (take-append-drop n rest) ∙ before.front;
 }
 
 pub said_front : (text rest : List ℕ) (events : List Event) → SaysBefore rest text events → SaysFront text events

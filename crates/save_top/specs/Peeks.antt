@@ -43,7 +43,8 @@ abbrev pub IsMissOf : Container → ℕ → ℕ → Miss → Type 0
 IsMissOf container part block Memory = ⊥
 IsMissOf container part block Disk = ⊥
 IsMissOf container part block (NoPart have) = (have ≡ part_count container.parts.second) × (have ≤ part)
-IsMissOf container part block (NoBlock have) = (part < part_count container.parts.second) × OfPart container part (λ difi. (have ≡ blocks_of difi.ivfc4) × (have ≤ block))
+IsMissOf container part block (NoBlock have) = (part < part_count container.parts.second)
+    × OfPart container part (λ difi. (have ≡ blocks_of difi.ivfc4) × (have ≤ block))
 IsMissOf container part block (Damaged p level b) = ⊥
 
 -- what is said where a block is not shown; want of memory is free, and that the disk failed is shown by its count

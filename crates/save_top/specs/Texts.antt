@@ -40,7 +40,9 @@ abbrev pub table_lines : Header → List ℕ
 table_lines header = active_line header.active ++ extent_line (codes "table ") (active_at header) header.table_size
 
 abbrev pub part_lines : Header → List ℕ
-part_lines header = extent_line (codes "part A ") header.part_a.at header.part_a.size ++ (if header.parts == 2 then extent_line (codes "part B ") header.part_b.at header.part_b.size else [])
+part_lines header = extent_line (codes "part A ")
+    header.part_a.at header.part_a.size ++ (if header.parts == 2 then extent_line (codes "part B ")
+    header.part_b.at header.part_b.size else [])
 
 -- only a DIFF has an identifier
 abbrev pub unique_line : Kind → ℕ → List ℕ
@@ -50,7 +52,8 @@ unique_line Diff unique = codes "unique " ++ decimal unique ++ codes "\n"
 -- what `info` says of a sound image
 unfoldable pub info_text : Header → List ℕ
 info_text header =
-    kind_line header.kind ++ table_lines header ++ part_lines header ++ unique_line header.kind header.unique ++ codes "hash " ++ encode_lower header.hash ++ codes "\n"
+    kind_line header.kind ++ table_lines header ++ part_lines header ++ unique_line header.kind header.unique ++ codes
+        "hash " ++ encode_lower header.hash ++ codes "\n"
 
 -- what is said of a header that has a fault
 abbrev pub fault_line : HeaderFault → List ℕ

@@ -1,6 +1,6 @@
 use Rattle.std.proofs.Common.{◌≡◌, ℕ, ◌+◌, IsTrue, Some, None, subst}
 use Rattle.save_bytes.specs.Cells.{Cell}
-use Rattle.alloc_chain.proofs.ReadLemmas.{reads_then}
+use Rattle.save_bytes.proofs.CallLemmas.{reads_then}
 use Rattle.save_bytes.specs.Reads.{Reads}
 use Rattle.alloc_chain.specs.Table.{table_in, word_v, HasWords}
 use Rattle.alloc_chain.specs.Chains.{IsInner}

@@ -1,6 +1,6 @@
 use Rattle.std.proofs.Common.{ℕ, IsTrue, Some, sym, ◌∙◌, ap, subst, arith, inl, inr}
 use Rattle.save_bytes.specs.Cells.{Cell}
-use Rattle.alloc_chain.proofs.ReadLemmas.{reads_then}
+use Rattle.save_bytes.proofs.CallLemmas.{reads_then}
 use Rattle.alloc_chain.specs.Table.{table_in}
 use Rattle.alloc_chain.specs.Chains.{IsNode}
 use Rattle.alloc_chain.specs.Between.{count_between}

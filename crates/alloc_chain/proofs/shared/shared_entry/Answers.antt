@@ -1,6 +1,6 @@
 use Rattle.std.proofs.Common.{◌≡◌, ℕ, ◌+◌, ◌-◌, ◌/◌, ◌<◌, ◌≤◌, Some, subst, arith}
 use Rattle.save_bytes.specs.Cells.{Cell}
-use Rattle.alloc_chain.proofs.ReadLemmas.{reads_then}
+use Rattle.save_bytes.proofs.CallLemmas.{reads_then}
 use Rattle.alloc_chain.specs.Table.{table_in}
 use Rattle.alloc_chain.specs.Chains.{entries_of}
 use Rattle.alloc_chain.specs.Faults.{IsBroken, FailsAt}

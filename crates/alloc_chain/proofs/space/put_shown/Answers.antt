@@ -3,7 +3,7 @@ use Rattle.save_bytes.specs.declared.space.Bad.{Bad}
 use Rattle.save_bytes.specs.State.{State, Shape, CanPut}
 use Rattle.save_bytes.specs.Spots.{Spot}
 use Rattle.save_bytes.specs.Reads.{Reads}
-use Rattle.alloc_chain.proofs.ReadLemmas.{reads_then}
+use Rattle.save_bytes.proofs.CallLemmas.{reads_then}
 use Rattle.save_bytes.proofs.JoinLemmas.{IsReady-before, IsReady-told, Puts-unput, MovesOnly-append, MovesOnly-longer, MovesOnly-read}
 use Rattle.alloc_chain.specs.declared.space.Shown.{Shown}
 use Rattle.alloc_chain.specs.Shown.{can_show, ShownLands}

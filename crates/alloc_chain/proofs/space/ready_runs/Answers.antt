@@ -1,6 +1,6 @@
 use Rattle.std.proofs.Common.{ℕ, ◌+◌, ◌-◌, Some, None, sym, subst, arith}
 use Rattle.save_bytes.specs.State.{Shape, IsInside}
-use Rattle.alloc_chain.proofs.ReadLemmas.{reads_then}
+use Rattle.save_bytes.proofs.CallLemmas.{reads_then}
 use Rattle.save_bytes.proofs.JoinLemmas.{IsReady-append, IsReady-refused}
 use Rattle.alloc_chain.specs.ShownLaws.{CanShow, with_blocks}
 use Rattle.alloc_chain.proofs.ViewLemmas.{shown_room}

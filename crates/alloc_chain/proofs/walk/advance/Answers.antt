@@ -1,6 +1,6 @@
 use Rattle.std.proofs.Common.{ℕ, Some, subst}
 use Rattle.save_bytes.specs.Cells.{Cell}
-use Rattle.alloc_chain.proofs.ReadLemmas.{reads_then}
+use Rattle.save_bytes.proofs.CallLemmas.{reads_then}
 use Rattle.save_bytes.proofs.SpaceLemmas.{Stays-same}
 use Rattle.alloc_chain.specs.Table.{table_in}
 use Rattle.alloc_chain.specs.Faults.{IsBroken, FailsAt}

@@ -1,5 +1,5 @@
 use Rattle.std.proofs.Common.{Some, ◌∙◌}
-use Rattle.alloc_chain.proofs.ReadLemmas.{reads_then}
+use Rattle.save_bytes.proofs.CallLemmas.{reads_then}
 use Rattle.alloc_chain.specs.Runs.{IsReached}
 use Rattle.alloc_chain.proofs.ListLemmas.{list_faults_later, said_later}
 use Rattle.alloc_chain.proofs.walk.list_len.Goals as goal

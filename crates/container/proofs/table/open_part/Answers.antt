@@ -12,11 +12,17 @@ returns-in-Ok-open-clause-part c =
       part_of = record {
         number_is = made.number;
         place = made.place ∙ ap (λ (e : Extent). e.at) c.partition-partition.ensures;
-        in_table = ap (λ (d : Difi). d.place) (made.descriptor ∙ read.fields) ∙ fields_place c.args.table.now c.descriptor-place.result.at ∙ ap (λ (e : Extent). e.at) c.descriptor-place.ensures;
-        sound = sound_at c.in-Ok.difi c.in-Ok-open.part.difi c.args.header.now c.args.number c.descriptor-place.result c.partition-partition.result made.descriptor c.descriptor-place.ensures c.partition-partition.ensures read.sound;
+        in_table = ap (λ (d : Difi). d.place) (made.descriptor ∙ read.fields)
+            ∙ fields_place c.args.table.now c.descriptor-place.result.at ∙ ap (λ (e : Extent). e.at)
+            c.descriptor-place.ensures;
+        sound = sound_at c.in-Ok.difi c.in-Ok-open.part.difi c.args.header.now c.args.number c.descriptor-place.result
+            c.partition-partition.result made.descriptor c.descriptor-place.ensures c.partition-partition.ensures
+            read.sound;
         contents = rw made.descriptor made.untouched.made;
         hashes = rw made.descriptor made.made;
       };
-      descriptor = sym (reading_at c.args.table.now c.args.header.now c.args.number c.descriptor-place.result c.partition-partition.result c.descriptor-place.ensures c.partition-partition.ensures) ∙ sym read.exact ∙ ap (λ (d : Difi). Ok d) (sym made.descriptor);
+      descriptor = sym (reading_at c.args.table.now c.args.header.now c.args.number c.descriptor-place.result
+          c.partition-partition.result c.descriptor-place.ensures c.partition-partition.ensures) ∙ sym read.exact
+          ∙ ap (λ (d : Difi). Ok d) (sym made.descriptor);
       untouched = record { contents = rw made.descriptor made.untouched; hashes = made.unmarked };
     }

@@ -5,7 +5,8 @@ use Rattle.name_buckets.specs.Kinds.{entry_size}
 use Rattle.name_buckets.specs.Tables.{table_in, entry_place, bucket_place}
 use Rattle.name_buckets.specs.Layout.{OfBucket, OfUsed}
 use Rattle.name_buckets.proofs.EntryLemmas.{least_some}
-use Rattle.name_buckets.proofs.StayLemmas.{reads_then, head_stays, HasEntryTable-stays, entry_fits, needed_read, fault_read}
+use Rattle.save_bytes.proofs.CallLemmas.{reads_then}
+use Rattle.name_buckets.proofs.StayLemmas.{head_stays, HasEntryTable-stays, entry_fits, needed_read, fault_read}
 use Rattle.name_buckets.proofs.CauseLemmas.{passed_on, bad_cause, broken_cause, plain_stays}
 use Rattle.name_buckets.proofs.FindLemmas.{HasPassed-none, HasPassed-more, passed_stands, match_found, none_found, broken_past, broken_long}
 use Rattle.name_buckets.proofs.LookLemmas.{look_stays}

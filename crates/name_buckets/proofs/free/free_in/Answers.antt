@@ -8,7 +8,8 @@ use Rattle.name_buckets.specs.Tables.{table_in, entry_place}
 use Rattle.name_buckets.specs.Layout.{HasCounts, TellsEntryTable}
 use Rattle.name_buckets.specs.Rules.{CanBeFreed}
 use Rattle.name_buckets.proofs.EntryLemmas.{least_some, link_last}
-use Rattle.name_buckets.proofs.StayLemmas.{reads_then, HasEntryTable-stays, entry_fits, needed_read}
+use Rattle.save_bytes.proofs.CallLemmas.{reads_then}
+use Rattle.name_buckets.proofs.StayLemmas.{HasEntryTable-stays, entry_fits, needed_read}
 use Rattle.name_buckets.proofs.CauseLemmas.{passed_on, bad_cause, broken_cause, plain_stays}
 use Rattle.name_buckets.proofs.LookLemmas.{link_stays}
 use Rattle.name_buckets.proofs.FreeLemmas.{HasFollowed-more, followed_below, followed_needed, room_counted, wrong_number, named_before}

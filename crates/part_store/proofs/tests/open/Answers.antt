@@ -15,7 +15,8 @@ record IsLone (difi : Difi) : Type 0 where
   place : difi.place ≡ 0
   master : difi.master.at + difi.master.size ≡ 300
 
-can_view : (part : Part) → part.at ≡ 4096 → IsLone part.difi → IsFreshContents part.difi part.dpfs → IsMadeFor part.difi part.ivfc → CanView (memory_shape 110592 512) part 300
+can_view : (part : Part) → part.at ≡ 4096 → IsLone part.difi → IsFreshContents part.difi part.dpfs
+    → IsMadeFor part.difi part.ivfc → CanView (memory_shape 110592 512) part 300
 can_view part at lone fresh made = record {
   contents = record {
     sound = refl;
@@ -34,7 +35,8 @@ can_view_opened : {E : Type 0} (difi : Difi) (r : Result Part E) → IsLone difi
     → IfOk r (λ part. IsFreshContents difi part.dpfs) → IfOk r (λ part. IsMadeFor difi part.ivfc) → IfOk r (λ part. CanView (memory_shape 110592 512) part 300)
 can_view_opened difi (Err e) lone at same fresh made = tt
 can_view_opened difi (Ok part) lone at same fresh made =
-    can_view part at (subst IsLone (sym same) lone) (subst (λ difi. IsFreshContents difi part.dpfs) (sym same) fresh) (subst (λ difi. IsMadeFor difi part.ivfc) (sym same) made)
+    can_view part at (subst IsLone (sym same) lone) (subst (λ difi. IsFreshContents difi part.dpfs) (sym same) fresh)
+        (subst (λ difi. IsMadeFor difi part.ivfc) (sym same) made)
 
 pub returns-clause-view : goal.returns-clause-view
 returns-clause-view c =

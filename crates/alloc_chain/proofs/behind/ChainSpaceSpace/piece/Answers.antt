@@ -1,7 +1,7 @@
 use Rattle.std.proofs.Common.{refl, sym, subst, arith}
 use Rattle.std.specs.Result.{result_err}
 use Rattle.save_bytes.specs.State.{Shape, IsInside}
-use Rattle.alloc_chain.proofs.ReadLemmas.{reads_then}
+use Rattle.save_bytes.proofs.CallLemmas.{reads_then}
 use Rattle.alloc_chain.specs.ShownLaws.{can_show-facts}
 use Rattle.alloc_chain.proofs.BehindLemmas.{behind_reads}
 use Rattle.alloc_chain.proofs.PieceLemmas.{view_piece}

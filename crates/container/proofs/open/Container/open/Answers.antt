@@ -20,11 +20,16 @@ returns-in_err-check_table-clause-caused g c =
     let header = c.in_ok-header.header in
     let table = c.in_ok-table.table.items in
     let start = c.in_ok-header.ensures in
-    let same : table ≡ active_table image header = shown_before (λ (l : List ℕ). table ≡ active_table l header) state (g.D.Disk.state c.read_header.new.disk) start.quiet start.steady.size c.in_ok-table.ensures.table sure in
-    let at = table_next (g.G.Signer.tag_of c.args.signer.now) (g.G.Signer.is_demanding c.args.signer.now) image header table (start.header sure) (start.tag sure) same in
+    let same : table ≡ active_table image header =
+        shown_before (λ (l : List ℕ). table ≡ active_table l header) state (g.D.Disk.state c.read_header.new.disk)
+        start.quiet start.steady.size c.in_ok-table.ensures.table sure in
+    let at = table_next (g.G.Signer.tag_of c.args.signer.now) (g.G.Signer.is_demanding c.args.signer.now) image header
+        table (start.header sure) (start.tag sure) same in
     let fault = c.in_err-check_table.field-0.0 in
     let digest = ap (λ (l : List ℕ). digest_fault l header) (sym c.deref.ensures.value) ∙ c.in_err-check_table.ensures.fault in
-    subst (λ (o : Option OpenFault). IsCaused o fault) (sym at) (caused_first (digest_fault table header) (parts_fault table header) fault (caused_by (digest_fault table header) fault digest)))
+    subst (λ (o : Option OpenFault). IsCaused o fault) (sym at)
+        (caused_first (digest_fault table header) (parts_fault table header) fault
+        (caused_by (digest_fault table header) fault digest)))
 
 pub returns-in_err-parts-clause-caused : goal.returns-in_err-parts-clause-caused
 returns-in_err-parts-clause-caused g c =
@@ -35,8 +40,11 @@ returns-in_err-parts-clause-caused g c =
     let header = c.in_ok-header.header in
     let table = c.in_ok-table.table.items in
     let start = c.in_ok-header.ensures in
-    let same : table ≡ active_table image header = shown_before (λ (l : List ℕ). table ≡ active_table l header) state (g.D.Disk.state c.read_header.new.disk) start.quiet start.steady.size c.in_ok-table.ensures.table sure in
-    let at = table_next (g.G.Signer.tag_of c.args.signer.now) (g.G.Signer.is_demanding c.args.signer.now) image header table (start.header sure) (start.tag sure) same in
+    let same : table ≡ active_table image header =
+        shown_before (λ (l : List ℕ). table ≡ active_table l header) state (g.D.Disk.state c.read_header.new.disk)
+        start.quiet start.steady.size c.in_ok-table.ensures.table sure in
+    let at = table_next (g.G.Signer.tag_of c.args.signer.now) (g.G.Signer.is_demanding c.args.signer.now) image header
+        table (start.header sure) (start.tag sure) same in
     let fault = c.in_err-parts.field-0.0 in
     let digest : digest_fault table header ≡ None = ap (λ (l : List ℕ). digest_fault l header) (sym c.deref.ensures.value) ∙ c.in_ok-check_table.ensures.none in
     let parts = subst (λ (l : List ℕ). IsCaused (parts_fault l header) fault) c.deref-2.ensures.value c.in_err-parts.ensures.caused in
@@ -66,7 +74,9 @@ returns-clause-opened g c = λ sure.
     let header = c.in_ok-header.header in
     let table = c.in_ok-table.table.items in
     let start = c.in_ok-header.ensures in
-    let same : table ≡ active_table image header = shown_before (λ (l : List ℕ). table ≡ active_table l header) state (g.D.Disk.state c.read_header.new.disk) start.quiet start.steady.size c.in_ok-table.ensures.table sure in
+    let same : table ≡ active_table image header =
+        shown_before (λ (l : List ℕ). table ≡ active_table l header) state (g.D.Disk.state c.read_header.new.disk)
+        start.quiet start.steady.size c.in_ok-table.ensures.table sure in
     let at = table_next tag_of demands image header table (start.header sure) (start.tag sure) same in
     let digest : digest_fault table header ≡ None = ap (λ (l : List ℕ). digest_fault l header) (sym c.deref.ensures.value) ∙ c.in_ok-check_table.ensures.none in
     let parts : parts_fault table header ≡ None = ap (λ (l : List ℕ). parts_fault l header) (sym c.deref-2.ensures.value) ∙ c.in_ok-parts.ensures.none in

@@ -14,7 +14,8 @@ returns-clause-flipped c =
     let fit = places_fit header.kind in
     let inside : at < length header.raw = omega arith in
     let size : length c.args.hash.now ≡ 32 = omega arith in
-    let bytes = flip_bytes header.raw c.args.hash.now c.copy_from_slice.new.self at place c.other_table-active.result inside size c.copy_from_slice.ensures.after in
+    let bytes = flip_bytes header.raw c.args.hash.now c.copy_from_slice.new.self at place c.other_table-active.result
+        inside size c.copy_from_slice.ensures.after in
     let by_at = c.active_place.ensures in
     let by_place = c.hash_place-hash_place.ensures in
     let by_active = c.other_table-active.ensures in
@@ -26,7 +27,8 @@ returns-clause-of_raw c = λ h.
     subst IsOfRaw (sym (returns-clause-flipped c)) (flipped-of_raw c.args.self.now c.args.hash.now size h)
 
 pub returns-clause-sound : goal.returns-clause-sound
-returns-clause-sound c = λ len s. subst (λ (header : Header). IsSound header len) (sym (returns-clause-flipped c)) (sound-flipped c.args.self.now c.args.hash.now len s)
+returns-clause-sound c = λ len s. subst (λ (header : Header). IsSound header len) (sym (returns-clause-flipped c))
+    (sound-flipped c.args.self.now c.args.hash.now len s)
 
 pub returns-clause-active : goal.returns-clause-active
 returns-clause-active c = ap active_at (returns-clause-flipped c) ∙ active_at-flipped c.args.self.now c.args.hash.now

@@ -12,7 +12,8 @@ returns-clause-exact c = λ image long is.
     ∙ reading_of-first image
 
 pub returns-clause-of_raw : goal.returns-clause-of_raw
-returns-clause-of_raw c = let size : 512 ≤ length c.args.sector.now = omega arith in ok_of_raw c.args.sector.now c.args.len c.read_sector.result size c.read_sector.ensures
+returns-clause-of_raw c = let size : 512 ≤ length c.args.sector.now =
+    omega arith in ok_of_raw c.args.sector.now c.args.len c.read_sector.result size c.read_sector.ensures
 
 pub returns-clause-sound : goal.returns-clause-sound
 returns-clause-sound c = ok_sound c.args.sector.now c.args.len c.read_sector.result c.read_sector.ensures

@@ -14,4 +14,6 @@ returns-clause-stays g c =
     let states = g.S.Space.state in
     let can = true-can_view (states view.base.now).shape view.part.now (length view.table.now) c.requires.inside.sound in
     let small = g.met.S.Space.size_fits view.base.now can.contents.sound in
-    rw (c.find.ensures.part, c.find.ensures.table) (part_from_base (states view.base.now) (states c.find.new.base) view.part.now view.table.now (result_err c.find.result) small can c.find.ensures.reads.stays)
+    rw (c.find.ensures.part, c.find.ensures.table)
+        (part_from_base (states view.base.now) (states c.find.new.base) view.part.now view.table.now
+        (result_err c.find.result) small can c.find.ensures.reads.stays)

@@ -16,4 +16,5 @@ invariant_of-self-clause-is_said c =
 pub invariant_of-self-clause-fits : goal.invariant_of-self-clause-fits
 invariant_of-self-clause-fits c =
     let s = c.args.self.now in
-    each_write_more (Fits s.grain (length s.start.items)) s.events.items _ _ s.fits c.add.ensures (no_write (Fits s.grain (length s.start.items)) _ (λ sector bytes same. cc))
+    each_write_more (Fits s.grain (length s.start.items)) s.events.items _ _ s.fits c.add.ensures
+        (no_write (Fits s.grain (length s.start.items)) _ (λ sector bytes same. cc))
