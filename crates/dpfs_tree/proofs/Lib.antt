@@ -8,4 +8,8 @@ pub mod PutLemmas
 pub mod StepLemmas
 pub mod ViewLemmas
 pub mod TurnLemmas
+pub mod MarkLemmas
 pub mod SealLemmas
+pub mod Level2Lemmas
+pub mod SealedLemmas
+pub mod SpareLemmas

@@ -37,11 +37,14 @@ same_block at k size some h =
 four_in : (m i c p r : ℕ) → r + 4 * p ≡ 4 * m → r < 4 * c → i < 4 → i < 4 * c - r
 four_in m i c p r split below h = omega arith
 
+-- a power of two is four times one
+pub four_parts : (log : ℕ) → 2 ≤ log → 2 ^ log ≡ 4 * 2 ^ (log - 2)
+four_parts log least = let parts : 2 + (log - 2) ≡ log = omega arith in ap (λ n. 2 ^ n) (sym parts) ∙ pow-add 2 2 (log - 2)
+
 -- the bytes of a word lie in one block
 pub word_in_block : (m i log : ℕ) → 7 ≤ log → i < 4 → (4 * m + i) / 2 ^ log ≡ 4 * m / 2 ^ log
 word_in_block m i log least h =
-    let parts : 2 + (log - 2) ≡ log = omega arith in
-    let four : 2 ^ log ≡ 4 * 2 ^ (log - 2) = ap (λ n. 2 ^ n) (sym parts) ∙ pow-add 2 2 (log - 2) in
+    let four = four_parts log (omega arith) in
     let c = 2 ^ (log - 2) in
     let some : 0 < 2 ^ log = pow_pos log in
     let split = div-add-mod' (4 * m) (2 ^ log) in

@@ -45,7 +45,7 @@ marks_block difi at n old new some below marked = record {
 }
 
 module _ (base : Shape) (part_at : ℕ) (difi : Difi) (was : DpfsState) (tree : HasContents base part_at difi was.selector)
-    (old new : ℕ → Cell) (upper : SameUpper part_at difi (bytes_of old) (bytes_of new)) where
+    (old new : ℕ → Cell) (upper : SameUpper part_at difi was.selector (bytes_of old) (bytes_of new)) where
   -- the place of a byte later, by what the base was
   later_place : (now : DpfsState) (x : ℕ) → now.selector ≡ was.selector
       → place_of (bytes_of new) part_at difi now x ≡ place_by (bytes_of old) part_at difi was.selector (is_marked now.touched.items) x
@@ -99,7 +99,7 @@ module _ (base : Shape) (part_at : ℕ) (difi : Difi) (was : DpfsState) (tree : 
 
     -- bytes were put into the other copy of a block, and it was marked
     module _ (now : DpfsState) (copies : BlockCopies) (below : at < difi.dpfs3.size)
-        (are : AreCopiesAt part_at difi at (bit_of (pick2 (bytes_of old) part_at difi was.selector) (at / 2 ^ difi.dpfs3.log)) copies)
+        (are : AreCopiesAt part_at difi.dpfs3 at (bit_of (pick2 (bytes_of old) part_at difi was.selector) (at / 2 ^ difi.dpfs3.log)) copies)
         (inside : copies.skipped + length bytes ≤ copies.len) (marked : IsMarked (at / 2 ^ difi.dpfs3.log) was now)
         (filled : IsFilled old copies.from copies.to copies.len copies.skipped bytes
         (is_marked was.touched.items (at / 2 ^ difi.dpfs3.log)) new)
@@ -108,14 +108,14 @@ module _ (base : Shape) (part_at : ℕ) (difi : Difi) (was : DpfsState) (tree : 
       bit = bit_of (pick2 (bytes_of old) part_at difi was.selector) (at / 2 ^ difi.dpfs3.log)
 
       abbrev start : ℕ
-      start = begin part_at difi at bit copies are below
+      start = begin part_at difi.dpfs3 at bit copies are below
 
       -- a byte of the block later lies in its other copy
       block_later : (x : ℕ) → IsWithin start copies.len x → place_of (bytes_of new) part_at difi now x ≡ copies.to + (x - start)
       block_later x within =
-          let in_level3 : x < difi.dpfs3.size = omega (arith, within.1, ends part_at difi at bit copies are below) in
+          let in_level3 : x < difi.dpfs3.size = omega (arith, within.1, ends part_at difi.dpfs3 at bit copies are below) in
           let there = place_in_block base part_at difi was.selector tree (bytes_of old) (is_marked now.touched.items) x
-          (at / 2 ^ difi.dpfs3.log) in_level3 (in_block part_at difi at bit copies are below x within.0 within.1) in
+          (at / 2 ^ difi.dpfs3.log) in_level3 (in_block part_at difi.dpfs3 at bit copies are below x within.0 within.1) in
           let is : place_of (bytes_of new) part_at difi now x ≡ copy_place part_at difi.dpfs3 (1 - bit) x =
           later_place now x marked.selector ∙ there
           ∙ ap (λ (m : Bool). copy_place part_at difi.dpfs3 (copy_read m bit) x) marked.marked in
@@ -130,14 +130,14 @@ module _ (base : Shape) (part_at : ℕ) (difi : Difi) (was : DpfsState) (tree : 
       block_before : (x : ℕ) → IsWithin start copies.len x → place_of (bytes_of old) part_at difi was x
           ≡ (if is_marked was.touched.items (at / 2 ^ difi.dpfs3.log) then copies.to else copies.from) + (x - start)
       block_before x within =
-          let in_level3 : x < difi.dpfs3.size = omega (arith, within.1, ends part_at difi at bit copies are below) in
+          let in_level3 : x < difi.dpfs3.size = omega (arith, within.1, ends part_at difi.dpfs3 at bit copies are below) in
           place_in_block base part_at difi was.selector tree (bytes_of old) (is_marked was.touched.items) x
-          (at / 2 ^ difi.dpfs3.log) in_level3 (in_block part_at difi at bit copies are below x within.0 within.1)
+          (at / 2 ^ difi.dpfs3.log) in_level3 (in_block part_at difi.dpfs3 at bit copies are below x within.0 within.1)
           ∙ read_place (is_marked was.touched.items (at / 2 ^ difi.dpfs3.log)) x within.0
 
       block_range : (k : ℕ) → k < length bytes → new (place_of (bytes_of new) part_at difi now (at + k)) ≡ Byte (get_or bytes k 0)
       block_range k less =
-          let here = at_is part_at difi at bit copies are below in
+          let here = at_is part_at difi.dpfs3 at bit copies are below in
           let within : IsWithin start copies.len (at + k) = (omega (arith, here), omega (arith, here, less, inside)) in
           let there : copies.to + (at + k - start) ≡ copies.to + copies.skipped + k = omega (arith, here) in
           ap new (block_later (at + k) within ∙ there) ∙ filled.range k less
@@ -145,7 +145,7 @@ module _ (base : Shape) (part_at : ℕ) (difi : Difi) (was : DpfsState) (tree : 
       block_others : (x : ℕ) → IsWithin start copies.len x → ¬ IsWithin at (length bytes) x
           → new (place_of (bytes_of new) part_at difi now x) ≡ old (place_of (bytes_of old) part_at difi was x)
       block_others x within out =
-          let here = at_is part_at difi at bit copies are below in
+          let here = at_is part_at difi.dpfs3 at bit copies are below in
           let around = filled.around (x - start) (omega (arith, within.0, within.1))
           (λ hit. out (omega (arith, here, hit.0, within.0), omega (arith, here, hit.1, within.0))) in
           ap new (block_later x within) ∙ around ∙ sym (ap old (block_before x within))
@@ -159,11 +159,11 @@ module _ (base : Shape) (part_at : ℕ) (difi : Difi) (was : DpfsState) (tree : 
           let size = difi.dpfs3.size in
           let is = place_in_block base part_at difi was.selector tree (bytes_of old) m x of in_level3 refl in
           let y : ℕ = start + (place_by (bytes_of old) part_at difi was.selector m x - copies.to) in
-          let end = ends part_at difi at bit copies are below in
+          let end = ends part_at difi.dpfs3 at bit copies are below in
           let y_in : y < size = omega (arith, within.0, within.1, end) in
           let rows : copy_read (m of) its * size + x ≡ (1 - bit) * size + y = omega (arith, is, are.to, within.0) in
           let same = same_from_place (copy_read (m of) its) x (1 - bit) y size in_level3 y_in rows in
-          other (in_block part_at difi at bit copies are below x (omega (arith, same.1)) (omega (arith, same.1, within.0, within.1)))
+          other (in_block part_at difi.dpfs3 at bit copies are below x (omega (arith, same.1)) (omega (arith, same.1, within.0, within.1)))
 
       level3_others : (x : ℕ) → x < view_size difi → x < difi.dpfs3.size → x / 2 ^ difi.dpfs3.log ≢ at / 2 ^ difi.dpfs3.log
           → new (place_of (bytes_of new) part_at difi now x) ≡ old (place_of (bytes_of old) part_at difi was x)
@@ -190,7 +190,7 @@ module _ (base : Shape) (part_at : ℕ) (difi : Difi) (was : DpfsState) (tree : 
           let external = behind_level3 difi x behind in_view in
           let one : 1 - bit < 2 = omega arith in
           let there = in_copy difi.dpfs3.at size (1 - bit) (start + copies.len) (difi.dpfs3.at + 2 * size) one
-          (ends part_at difi at bit copies are below) (omega arith) in
+          (ends part_at difi.dpfs3 at bit copies are below) (omega arith) in
           ap new (later_place now x marked.selector ∙ later ∙ sym was_there)
           ∙ stays _ (place_by-inside base part_at difi was.selector tree before (bytes_of old) x in_view)
           (λ within.
@@ -206,7 +206,7 @@ module _ (base : Shape) (part_at : ℕ) (difi : Difi) (was : DpfsState) (tree : 
             (λ (in_level3 : x < difi.dpfs3.size).
             ⊎_elim
             (λ (same : x / 2 ^ difi.dpfs3.log ≡ at / 2 ^ difi.dpfs3.log).
-            block_others x (of_block part_at difi at bit copies are below x in_level3 same) out)
+            block_others x (of_block part_at difi.dpfs3 at bit copies are below x in_level3 same) out)
             (λ (other : x / 2 ^ difi.dpfs3.log ≢ at / 2 ^ difi.dpfs3.log). level3_others x in_view in_level3 other)
             (cases_eq (x / 2 ^ difi.dpfs3.log) (at / 2 ^ difi.dpfs3.log)))
             (λ (behind : difi.dpfs3.size ≤ x). external_others x in_view behind)

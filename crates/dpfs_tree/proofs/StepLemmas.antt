@@ -45,7 +45,7 @@ module _ {A : Type 0} (states : A → State) (keeps : Spot → A → A → Type 
     (hold : (s t : A) → keeps Frame s t → keeps Hold s t) (s m t : A) (part_at : ℕ) (difi : Difi) (was : DpfsState) (at : ℕ)
     (bytes : List ℕ) (tree : HasContents (states s).shape part_at difi was.selector) (some : 1 ≤ length bytes) where
   module _ (chosen : ℕ) (copies : BlockCopies) (below : at < difi.dpfs3.size) (one : chosen < 2)
-      (are : AreCopiesAt part_at difi at chosen copies)
+      (are : AreCopiesAt part_at difi.dpfs3 at chosen copies)
       (bit : IsTrue (states s).told
       → chosen ≡ bit_of (pick2 (bytes_of (states s).cells) part_at difi was.selector) (at / 2 ^ difi.dpfs3.log))
       (reads : Reads states keeps lands s m None) where
@@ -79,7 +79,7 @@ module _ {A : Type 0} (states : A → State) (keeps : Spot → A → A → Type 
           let old = (states s).cells in
           let new = (states t).cells in
           let size = (states s).shape.size in
-          let can = can_copy_block part_at difi at chosen copies are below (states s).shape was.selector tree one in
+          let can = can_copy_block part_at difi.dpfs3 at chosen copies are below (states s).shape difi was.selector tree tree.level3 one in
           let upper = upper_stays (states s).shape part_at difi was.selector tree old new at (length bytes)
           ((block_writes None writes).others told) in
           let here : IsFilled old copies.from copies.to copies.len copies.skipped bytes
@@ -88,7 +88,7 @@ module _ {A : Type 0} (states : A → State) (keeps : Spot → A → A → Type 
           (is_marked was.touched.items (at / 2 ^ difi.dpfs3.log)) can.from_inside can.to_inside (reads.stays.cells told)
           (filled (reads.stays.space.told told)) in
           put_in_block (states s).shape part_at difi was tree old new upper at bytes now copies below
-          (subst (λ (c : ℕ). AreCopiesAt part_at difi at c copies) (bit told) are) inside marked here
+          (subst (λ (c : ℕ). AreCopiesAt part_at difi.dpfs3 at c copies) (bit told) are) inside marked here
           ((block_whole None writes).others told)
 
       pub block_put : PutsInto states keeps lands part_at difi was now at bytes s t None

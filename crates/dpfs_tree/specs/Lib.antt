@@ -1,5 +1,6 @@
 pub mod Picks
 pub mod Marks
+pub mod Spares
 pub mod Copies
 pub mod View
 pub mod Held

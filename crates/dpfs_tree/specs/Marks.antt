@@ -1,5 +1,5 @@
 -- Blocks of level 3 that are marked as touched are read from the copy that is not chosen.
-use Rattle.std.specs.Prelude.{◌≡◌, ℕ, ◌-◌, ◌/◌, ◌%◌, ◌^◌, ◌<◌, min, Bool, true, false, nat_lt, List, length, get_or, if◌then◌else◌}
+use Rattle.std.specs.Prelude.{◌≡◌, ℕ, zero, suc, ◌+◌, ◌-◌, ◌/◌, ◌%◌, ◌^◌, ◌<◌, min, Bool, true, false, ◌||◌, nat_lt, List, length, get_or, if◌then◌else◌}
 use Rattle.difi.specs.declared.descriptor.Difi.{Difi}
 use Rattle.difi.specs.Places.{blocks_of}
 use Rattle.dpfs_tree.specs.declared.state.DpfsState.{DpfsState}
@@ -9,6 +9,11 @@ use Rattle.difi.specs.Contents.{view_size}
 -- a block past the last mark is not marked
 abbrev pub is_marked : List Bool → ℕ → Bool
 is_marked touched block = get_or touched block false
+
+-- one of the n marks from one on is set
+unfoldable pub some_marked : (ℕ → Bool) → ℕ → ℕ → Bool
+some_marked marked from zero = false
+some_marked marked from (suc n) = some_marked marked from n || marked (from + n)
 
 -- the copy in which a block is read, by its mark and its bit
 abbrev pub copy_read : Bool → ℕ → ℕ

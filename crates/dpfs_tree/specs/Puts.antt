@@ -6,6 +6,7 @@ use Rattle.save_bytes.specs.State.{State}
 use Rattle.save_bytes.specs.Refusals.{IfDone}
 use Rattle.save_bytes.specs.Spots.{Spot}
 use Rattle.save_bytes.specs.Writes.{IsWithin, Writes}
+use Rattle.difi.specs.declared.places.LevelPlace.{LevelPlace}
 use Rattle.difi.specs.declared.descriptor.Difi.{Difi}
 use Rattle.difi.specs.Contents.{view_size}
 use Rattle.dpfs_tree.specs.declared.state.DpfsState.{DpfsState}
@@ -16,11 +17,11 @@ use Rattle.dpfs_tree.specs.View.{contents_state}
 use Rattle.dpfs_tree.specs.Held.{IsBeside, MarksSpot, SameState}
 
 -- where the block of a place lies in the copy that this bit chooses, and in the other one
-pub record AreCopiesAt (part_at : ℕ) (difi : Difi) (at chosen : ℕ) (copies : BlockCopies) : Type 0 where
-  pub skipped : copies.skipped ≡ at % 2 ^ difi.dpfs3.log
-  pub len : copies.len ≡ min (2 ^ difi.dpfs3.log) (difi.dpfs3.size - (at - at % 2 ^ difi.dpfs3.log))
-  pub from : copies.from ≡ copy_place part_at difi.dpfs3 chosen (at - at % 2 ^ difi.dpfs3.log)
-  pub to : copies.to ≡ copy_place part_at difi.dpfs3 (1 - chosen) (at - at % 2 ^ difi.dpfs3.log)
+pub record AreCopiesAt (part_at : ℕ) (level : LevelPlace) (at chosen : ℕ) (copies : BlockCopies) : Type 0 where
+  pub skipped : copies.skipped ≡ at % 2 ^ level.log
+  pub len : copies.len ≡ min (2 ^ level.log) (level.size - (at - at % 2 ^ level.log))
+  pub from : copies.from ≡ copy_place part_at level chosen (at - at % 2 ^ level.log)
+  pub to : copies.to ≡ copy_place part_at level (1 - chosen) (at - at % 2 ^ level.log)
 
 -- a block was marked, and nothing else of the state changed
 pub record IsMarked (block : ℕ) (old new : DpfsState) : Type 0 where

@@ -12,6 +12,7 @@ use Rattle.difi.specs.Contents.{view_size}
 use Rattle.difi.proofs.PlaceLemmas.{block_below}
 use Rattle.dpfs_tree.specs.declared.state.DpfsState.{DpfsState}
 use Rattle.dpfs_tree.specs.Picks.{bytes_of, word_of, bit_of, copy_place, pick1, pick2}
+use Rattle.dpfs_tree.specs.Spares.{place2}
 use Rattle.dpfs_tree.specs.Marks.{is_marked, copy_read, place_by, other_place}
 use Rattle.dpfs_tree.specs.View.{contents_state, HasContents}
 use Rattle.dpfs_tree.specs.Held.{IsBeside, MarksSpot, ContentsLand}
@@ -47,21 +48,21 @@ pub copy_read-lt : (marked : Bool) (bit : ℕ) → bit < 2 → copy_read marked 
 copy_read-lt true bit h = omega arith
 copy_read-lt false bit h = h
 
--- both copies of levels 1 and 2 have the same bytes
-pub record SameUpper (part_at : ℕ) (difi : Difi) (old new : ℕ → ℕ) : Type 0 where
-  pub level1 : (copy x : ℕ) → copy < 2 → x < difi.dpfs1.size
-      → new (copy_place part_at difi.dpfs1 copy x) ≡ old (copy_place part_at difi.dpfs1 copy x)
-  pub level2 : (copy x : ℕ) → copy < 2 → x < difi.dpfs2.size
-      → new (copy_place part_at difi.dpfs2 copy x) ≡ old (copy_place part_at difi.dpfs2 copy x)
+-- the chosen bytes of levels 1 and 2 stand where they stood
+pub record SameUpper (part_at : ℕ) (difi : Difi) (selector : ℕ) (old new : ℕ → ℕ) : Type 0 where
+  pub level1 : (x : ℕ) → x < difi.dpfs1.size
+      → new (copy_place part_at difi.dpfs1 selector x) ≡ old (copy_place part_at difi.dpfs1 selector x)
+  pub level2 : (x : ℕ) → x < difi.dpfs2.size
+      → new (place2 old part_at difi selector x) ≡ old (place2 old part_at difi selector x)
 
 module _ (base : Shape) (part_at : ℕ) (difi : Difi) (selector : ℕ) (tree : HasContents base part_at difi selector) where
-  -- bases with the same bytes in levels 1 and 2
-  module _ (old new : ℕ → ℕ) (upper : SameUpper part_at difi old new) where
+  -- bases with the same chosen bytes in levels 1 and 2
+  module _ (old new : ℕ → ℕ) (upper : SameUpper part_at difi selector old new) where
     pick1-same : (x : ℕ) → x < difi.dpfs1.size → pick1 new part_at difi selector x ≡ pick1 old part_at difi selector x
     unfolding pick1
-    pick1-same x h = upper.level1 selector x tree.one_of_two h
+    pick1-same x h = upper.level1 x h
 
-    bit1-same : (block : ℕ) → block < blocks_of difi.dpfs2
+    pub bit1-same : (block : ℕ) → block < blocks_of difi.dpfs2
         → bit_of (pick1 new part_at difi selector) block ≡ bit_of (pick1 old part_at difi selector) block
     bit1-same block h =
         bit_of-same _ _ block
@@ -71,10 +72,9 @@ module _ (base : Shape) (part_at : ℕ) (difi : Difi) (selector : ℕ) (tree : H
     unfolding pick2
     pick2-same x h =
         let block = x / 2 ^ difi.dpfs2.log in
-        let bits = pick1 old part_at difi selector in
-        rw (bit1-same block (block_below x difi.dpfs2.size difi.dpfs2.log h)) (upper.level2 (bit_of bits block) x (bit_of-lt bits block) h)
+        rw (bit1-same block (block_below x difi.dpfs2.size difi.dpfs2.log h)) (upper.level2 x h)
 
-    bit2-same : (block : ℕ) → block < blocks_of difi.dpfs3
+    pub bit2-same : (block : ℕ) → block < blocks_of difi.dpfs3
         → bit_of (pick2 new part_at difi selector) block ≡ bit_of (pick2 old part_at difi selector) block
     bit2-same block h =
         bit_of-same _ _ block
@@ -92,13 +92,16 @@ module _ (base : Shape) (part_at : ℕ) (difi : Difi) (selector : ℕ) (tree : H
         (cases_lt x difi.dpfs3.size)
 
   -- so do bases with the same bytes
-  pub upper_same : (old new : ℕ → ℕ) → ((x : ℕ) → x < base.size → new x ≡ old x) → SameUpper part_at difi old new
+  pub upper_same : (old new : ℕ → ℕ) → ((x : ℕ) → x < base.size → new x ≡ old x) → SameUpper part_at difi selector old new
   upper_same old new same = record {
-    level1 = λ copy x one h.
-        (let there = in_copy (part_at + difi.dpfs1.at) difi.dpfs1.size copy (x + 1) base.size one (omega (arith, h)) tree.level1 in
+    level1 = λ x h.
+        (let there = in_copy (part_at + difi.dpfs1.at) difi.dpfs1.size selector (x + 1) base.size tree.one_of_two (omega (arith, h)) tree.level1 in
         same _ (omega (arith, there)));
-    level2 = λ copy x one h.
-        (let there = in_copy (part_at + difi.dpfs2.at) difi.dpfs2.size copy (x + 1) base.size one (omega (arith, h)) tree.level2 in
+    level2 = λ x h.
+        (let bits = pick1 old part_at difi selector in
+        let block = x / 2 ^ difi.dpfs2.log in
+        let start : ℕ = part_at + difi.dpfs2.at in
+        let there = in_copy start difi.dpfs2.size (bit_of bits block) (x + 1) base.size (bit_of-lt bits block) (omega (arith, h)) tree.level2 in
         same _ (omega (arith, there)));
   }
 
@@ -125,7 +128,7 @@ module _ (base : Shape) (part_at : ℕ) (difi : Difi) (selector : ℕ) (tree : H
       (cases_lt x difi.dpfs3.size)
 
   -- a put into the view touches no spot that it would not have touched, where that is so of the base
-  pub lands_by-upper : (old new : ℕ → ℕ) → SameUpper part_at difi old new → (lands later : ℕ → Spot → Type 0)
+  pub lands_by-upper : (old new : ℕ → ℕ) → SameUpper part_at difi selector old new → (lands later : ℕ → Spot → Type 0)
       → LandsAsBefore base.size lands later
       → LandsAsBefore (view_size difi) (ContentsLand old part_at difi selector lands) (ContentsLand new part_at difi selector later)
   lands_by-upper old new upper lands later as_before x below spot =

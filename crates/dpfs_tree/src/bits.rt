@@ -41,8 +41,8 @@ fn bit_at<S: Space>(base: &mut S, from: u64, k: u64) -> Result<u8, Bad>
     Ok(((word >> low) % 2) as u8)
 }
 
-// The copy of a block of level 2 that its bit in the chosen level 1 chooses.
-fn level2_copy<S: Space>(
+/// The copy of a block of level 2 that its bit in the chosen level 1 chooses.
+pub(crate) fn level2_copy<S: Space>(
     base: &mut S,
     part_at: u64,
     difi: &Difi,

@@ -5,6 +5,7 @@ mod bits;
 mod blocks;
 mod copy;
 mod places;
+mod seal;
 mod state;
 mod turns;
 mod view;

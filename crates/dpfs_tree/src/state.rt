@@ -1,12 +1,14 @@
 //! What a double-copy tree keeps between its views.
 
 ghost use Rattle.std.specs.Prelude.{◌≡◌, ℕ, ◌<◌, length, IfOk};
+ghost use Rattle.std.specs.Int.{div_ceil};
 ghost use Rattle.difi.specs.Sound.{HasBlockSizes};
 ghost use Rattle.difi.specs.declared.descriptor.Difi.{Difi};
 ghost use Rattle.dpfs_tree.specs.Picks.{chosen};
 ghost use Rattle.difi.specs.Contents.{view_size};
-ghost use Rattle.dpfs_tree.specs.Marks.{is_marked, place_of, IsFreshContents};
+ghost use Rattle.dpfs_tree.specs.Marks.{is_marked, some_marked, place_of, IsFreshContents};
 ghost use Rattle.dpfs_tree.specs.Puts.{IsMarked, IsSettled};
+ghost use Rattle.dpfs_tree.specs.Seals.{has_mark};
 
 use difi::Difi;
 use std::alloc::{AllocError, Global};
@@ -45,6 +47,33 @@ impl DpfsState {
         ensures { result ≡ is_marked self.now.touched.items block }
     {
         self.touched.get(block as usize).copied().unwrap_or(false)
+    }
+
+    /// Whether one of `n` blocks of level 3 from one on is touched.
+    fn some_touched(&self, from: u64, n: u64) -> bool
+        ensures { result ≡ some_marked (is_marked self.now.touched.items) from n }
+    {
+        let end = from.saturating_add(n).min(self.touched.len() as u64);
+        for block in from..end {
+            if self.touched(block) {
+                return true;
+            }
+        }
+        false
+    }
+
+    /// Whether a block of level 2, of so many bits, has that of a touched block.
+    pub(crate) fn has_mark(&self, bits: u64, block: u64) -> bool
+        ensures { result ≡ has_mark bits self.now block }
+    {
+        self.some_touched(bits.saturating_mul(block), bits)
+    }
+
+    /// How many 32-bit words have a bit for each block of level 3.
+    pub(crate) fn words(&self) -> u64
+        ensures { result ≡ div_ceil (length self.now.touched.items) 32 }
+    {
+        (self.touched.len() as u64).div_ceil(32)
     }
 
     /// Takes the selector that a seal answered, and clears each mark: so the view has the bytes that it chooses.

@@ -7,7 +7,7 @@ ghost use Rattle.dpfs_tree.specs.View.{HasPartition};
 
 use super::*;
 use difi::{Difi, Extent2, LevelPlace};
-use save_bytes::{MemSpace, Space};
+use save_bytes::{MemSpace, Space, space_copy};
 use std::alloc::{AllocError, Global};
 use std::test::Fail;
 
@@ -123,6 +123,60 @@ fn external_tree() -> Difi
     }
 }
 
+/// The tree of a new image with one partition of 64 blocks: levels 1, 2 and 3 have 4, 128 and 49,152 bytes.
+fn new_tree() -> Difi
+    ensures sound { HasSoundLevels result 106496 }
+    ensures size { view_size result ≡ 49152 }
+{
+    Difi {
+        place: 0,
+        ivfc_at: 0x44,
+        dpfs_at: 0xBC,
+        master: Extent2 {
+            at: 0x10C,
+            size: 32,
+        },
+        external: false,
+        external_at: 0,
+        selector: 0,
+        ivfc1: LevelPlace {
+            at: 0,
+            size: 32,
+            log: 9,
+        },
+        ivfc2: LevelPlace {
+            at: 4096,
+            size: 32,
+            log: 9,
+        },
+        ivfc3: LevelPlace {
+            at: 8192,
+            size: 288,
+            log: 12,
+        },
+        ivfc4: LevelPlace {
+            at: 12288,
+            size: 34816,
+            log: 12,
+        },
+        dpfs1: LevelPlace {
+            at: 0,
+            size: 4,
+            log: 0,
+        },
+        dpfs2: LevelPlace {
+            at: 4096,
+            size: 128,
+            log: 7,
+        },
+        dpfs3: LevelPlace {
+            at: 8192,
+            size: 49152,
+            log: 12,
+        },
+    }
+}
+
 /// The byte of a fresh view, or 0 where it is refused.
 fn byte_at(alloc: Global, bytes: &mut [u8], difi: &Difi, at: u64) -> Result<u8, AllocError>
     requires partition { HasPartition (memory_shape (length bytes.old) 4096) PART_AT difi.now }
@@ -198,6 +252,31 @@ fn shown_byte(bytes: &mut [u8], difi: &Difi, state: &mut DpfsState, at: u64) -> 
     }
 }
 
+/// Seals a view, and takes the selector that it answers, if it answers one.
+fn seal_at(bytes: &mut [u8], difi: &Difi, state: &mut DpfsState) -> Option<u8>
+    requires partition { HasPartition (memory_shape (length bytes.old) 4096) PART_AT difi.now }
+    requires made { IsMadeForContents difi.now state.old }
+    ensures { IsMadeForContents difi.now state.new }
+{
+    let mut space = MemSpace::new(bytes, 4096);
+    let mut view = DpfsView::new(&mut space, PART_AT, difi, state);
+    view.seal().ok()
+}
+
+/// The first bytes of a view, as many as are asked for, or zeros where it is refused.
+fn shown(bytes: &mut [u8], difi: &Difi, state: &mut DpfsState, out: &mut [u8])
+    requires partition { HasPartition (memory_shape (length bytes.old) 4096) PART_AT difi.now }
+    requires made { IsMadeForContents difi.now state.old }
+    requires inside { length out.old ≤ view_size difi.now }
+    ensures { IsMadeForContents difi.now state.new }
+{
+    let mut space = MemSpace::new(bytes, 4096);
+    let mut view = DpfsView::new(&mut space, PART_AT, difi, state);
+    if space_copy(&mut view, 0, out).is_err() {
+        out.fill(0);
+    }
+}
+
 fn zeros(alloc: Global, len: usize) -> Result<Vec<u8>, AllocError>
     ensures { IfOk result (λ bytes. vec_len bytes ≡ len) }
 {
@@ -208,6 +287,25 @@ fn fill(bytes: &mut [u8], start: usize, byte: u8)
     requires { start ≤ length bytes.old }
 {
     bytes[start..].fill(byte);
+}
+
+/// Puts bytes into a view and into a plain list, and says whether it was done.
+fn put_both(
+    bytes: &mut [u8],
+    list: &mut [u8],
+    difi: &Difi,
+    state: &mut DpfsState,
+    at: usize,
+    new: &[u8],
+) -> bool
+    requires partition { HasPartition (memory_shape (length bytes.old) 4096) PART_AT difi.now }
+    requires made { IsMadeForContents difi.now state.old }
+    requires inside { at + length new.now ≤ view_size difi.now }
+    requires list { length list.old ≡ view_size difi.now }
+    ensures { IsMadeForContents difi.now state.new }
+{
+    list[at..at + new.len()].copy_from_slice(new);
+    put_at(bytes, difi, state, at as u64, new)
 }
 
 fn write(bytes: &mut [u8], written: &[(usize, u8)]) {
@@ -443,6 +541,148 @@ fn external_bytes_are_put_in_place(rt: HostRuntime) -> Result<(), Fail> {
     }
     for (block, want) in [(0u64, false), (1, true), (2, false)] {
         assert_eq!(rt; state.touched(block), want);
+    }
+    Ok(())
+}
+
+#[test]
+fn a_seal_turns_the_bit_of_a_touched_block(rt: HostRuntime) -> Result<(), Fail> {
+    let difi = new_tree();
+    let mut memory = zeros(rt.alloc(), 106_512)?;
+    let bytes = &mut memory[..];
+    let mut state = DpfsState::new(rt.alloc(), &difi)?;
+    assert!(rt; put_at(bytes, &difi, &mut state, 0, &[7]));
+    assert_eq!(rt; seal_at(bytes, &difi, &mut state), Some(1));
+    // Each copy of level 1, the words of each copy of level 2, and the first byte of each copy of level 3.
+    for (place, want) in [
+        (16, [0, 0, 0, 0]),
+        (20, [0, 0, 0, 0x80]),
+        (4112, [0, 0, 0, 0]),
+        (4116, [0, 0, 0, 0]),
+        (4240, [0, 0, 0, 0x80]),
+        (4244, [0, 0, 0, 0]),
+        (8208, [0, 0, 0, 0]),
+        (57360, [7, 0, 0, 0]),
+    ] {
+        assert_eq!(rt; bytes.get(place..place + 4), Some(&want[..]));
+    }
+    Ok(())
+}
+
+#[test]
+fn a_seal_of_nothing_copies_level_1(rt: HostRuntime) -> Result<(), Fail> {
+    let difi = new_tree();
+    let mut memory = zeros(rt.alloc(), 106_512)?;
+    let bytes = &mut memory[..];
+    write(bytes, &[(16, 1), (17, 2), (18, 3), (19, 4), (4243, 9)]);
+    let mut state = DpfsState::new(rt.alloc(), &difi)?;
+    assert_eq!(rt; seal_at(bytes, &difi, &mut state), Some(1));
+    assert_eq!(rt; bytes.get(20..24), Some(&[1u8, 2, 3, 4][..]));
+    assert_eq!(rt; bytes.get(4240..4244), Some(&[0u8, 0, 0, 9][..]));
+    Ok(())
+}
+
+#[test]
+fn a_seal_writes_the_blocks_of_level_2_with_a_turned_bit(rt: HostRuntime) -> Result<(), Fail> {
+    let difi = internal_tree(0);
+    let mut memory = base_with(rt.alloc(), &[(239, 0x20), (295, 0x55)])?;
+    let bytes = &mut memory[..];
+    let mut state = DpfsState::new(rt.alloc(), &difi)?;
+    // Block 1,026 of level 3 has its bit in block 1 of level 2, which has one word.
+    assert!(rt; put_at(bytes, &difi, &mut state, 128 * 1026, &[7]));
+    assert_eq!(rt; seal_at(bytes, &difi, &mut state), Some(1));
+    for (place, want) in [
+        (16, [0u8, 0, 0, 0]),
+        (20, [0, 0, 0, 0x40]),
+        (32, [0, 0, 0, 0]),
+        (160, [0, 0, 0, 0]),
+        (164, [0, 0, 0, 0]),
+        (236, [0, 0, 0, 0x20]),
+        (292, [0, 0, 0, 0x20]),
+    ] {
+        assert_eq!(rt; bytes.get(place..place + 4), Some(&want[..]));
+    }
+    Ok(())
+}
+
+#[test]
+fn seals_go_from_copy_to_copy(rt: HostRuntime) -> Result<(), Fail> {
+    let mut memory = base_with(rt.alloc(), &[])?;
+    let bytes = &mut memory[..];
+    let mut wanted = zeros(rt.alloc(), 131_840)?;
+    let mut found = zeros(rt.alloc(), 131_840)?;
+    wanted.fill(1);
+    let mut sealed: u8 = 0;
+    for round in 1..9u8 {
+        let difi = internal_tree(sealed % 2);
+        let mut state = DpfsState::new(rt.alloc(), &difi)?;
+        let mut kept = zeros(rt.alloc(), 131_840)?;
+        shown(bytes, &difi, &mut state, &mut kept);
+        assert!(rt; kept == wanted);
+        // Puts straddle blocks, both blocks of level 2 are met, and the last two puts meet one block.
+        let near = 97 * usize::from(round);
+        assert!(rt; put_both(bytes, &mut wanted, &difi, &mut state, near, &[round; 300]));
+        assert!(rt;
+            put_both(
+                bytes,
+                &mut wanted,
+                &difi,
+                &mut state,
+                64_000 + near,
+                &[round; 300]
+            )
+        );
+        assert!(rt;
+            put_both(
+                bytes,
+                &mut wanted,
+                &difi,
+                &mut state,
+                131_000 + near / 2,
+                &[round; 300]
+            )
+        );
+        assert!(rt;
+            put_both(
+                bytes,
+                &mut wanted,
+                &difi,
+                &mut state,
+                131_700,
+                &[round; 140]
+            )
+        );
+        shown(bytes, &difi, &mut state, &mut found);
+        assert!(rt; found == wanted);
+        // Until the seal is settled the copies that are chosen have the bytes of the round before.
+        let mut fresh = DpfsState::new(rt.alloc(), &difi)?;
+        shown(bytes, &difi, &mut fresh, &mut found);
+        assert!(rt; found == kept);
+        if round % 3 == 0 {
+            // The round is dropped: the next one finds its bytes in copies that are not chosen.
+            wanted = kept;
+        } else {
+            assert_eq!(rt; seal_at(bytes, &difi, &mut state), Some(1 - sealed % 2));
+            let mut before = DpfsState::new(rt.alloc(), &difi)?;
+            shown(bytes, &difi, &mut before, &mut found);
+            assert!(rt; found == kept);
+            sealed = 1 - sealed % 2;
+        }
+    }
+    assert_eq!(rt; sealed, 0);
+    Ok(())
+}
+
+#[test]
+fn external_bytes_need_no_seal(rt: HostRuntime) -> Result<(), Fail> {
+    let difi = external_tree();
+    let mut memory = zeros(rt.alloc(), 2040)?;
+    let bytes = &mut memory[..];
+    let mut state = DpfsState::new(rt.alloc(), &difi)?;
+    assert!(rt; put_at(bytes, &difi, &mut state, 1100, &[5, 6]));
+    assert_eq!(rt; seal_at(bytes, &difi, &mut state), Some(1));
+    for (place, want) in [(20, [0, 0, 0, 0]), (36, [0, 0, 0, 0]), (1940, [5, 6, 0, 0])] {
+        assert_eq!(rt; bytes.get(place..place + 4), Some(&want[..]));
     }
     Ok(())
 }

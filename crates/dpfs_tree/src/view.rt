@@ -1,6 +1,6 @@
 //! A view through the double-copy tree.
 
-ghost use Rattle.std.specs.Prelude.{refl, ◌≤◌, length, IsTrue};
+ghost use Rattle.std.specs.Prelude.{refl, ◌≡◌, ◌≤◌, length, IsTrue};
 ghost use Rattle.std.specs.Result.{result_err};
 ghost use Rattle.save_bytes.specs.State.{IsInside, IsWritable, CanPut};
 ghost use Rattle.save_bytes.specs.Answers.{IsReady};
@@ -11,11 +11,14 @@ ghost use Rattle.dpfs_tree.specs.Puts.{PutsInto};
 ghost use Rattle.dpfs_tree.specs.View.{CanViewContents, IsLocated};
 ghost use Rattle.dpfs_tree.specs.Picks.{bytes_of};
 ghost use Rattle.dpfs_tree.specs.Marks.{place_of};
-ghost use Rattle.dpfs_tree.specs.Held.{shown_contents, IsContentsOf, ContentsKeep, contents_land};
+ghost use Rattle.dpfs_tree.specs.Held.{shown_contents, IsContentsOf, SameContents, ContentsKeep, contents_land};
+ghost use Rattle.dpfs_tree.specs.Seals.{IsSealed};
+ghost use Rattle.dpfs_tree.specs.Spares.{Spares};
 ghost use Rattle.save_bytes.specs.Spots.{Frame, MovesOnly};
 ghost use Rattle.dpfs_tree.specs.ViewLaws.{true-can_view_contents, contents_tree, view_size_fits, ContentsKeep-same, ContentsKeep-join, contents_shape, contents_cells, contents_lands};
 
 use crate::places::{locate, view_len};
+use crate::seal::seal_in;
 use crate::state::DpfsState;
 use crate::write::put_in;
 use difi::Difi;
@@ -62,6 +65,23 @@ impl<'a, S: Space> DpfsView<'a, S> {
     {
         let base = &mut *self.base;
         locate(base, self.part_at, self.difi, &*self.state, at, most)
+    }
+}
+
+impl<'a, S: Space> DpfsView<'a, S> {
+    /// Writes which copies hold the view's bytes, and answers the selector that chooses them: the other one. The copies that
+    /// are chosen keep their bytes, and so does the view. It is refused only where the disk below failed.
+    pub fn seal(&mut self) -> Result<u8, Bad>
+        requires { IsTrue (shown_contents S.state self.old).shape.sound }
+        ensures sealed { IsSealed S.state S.keeps S.lands self.old.part_at self.old.difi.now self.old.state.now self.old.base.now
+            self.new.base.now result }
+        ensures spares { Spares S.state self.old.part_at self.old.difi.now self.old.state.now.selector self.old.base.now self.new.base.now
+            (result_err result) }
+        ensures holds { SameContents self.old self.new }
+        ensures marks { self.new.state.now ≡ self.old.state.now }
+    {
+        let base = &mut *self.base;
+        seal_in(base, self.part_at, self.difi, &*self.state)
     }
 }
 
@@ -129,6 +149,8 @@ impl<S: Space> Space for DpfsView<'_, S> {
             (length bytes.now) self.new (result_err result) }
         ensures into { PutsInto S.state S.keeps S.lands self.old.part_at self.old.difi.now self.old.state.now self.new.state.now at
             bytes.now self.old.base.now self.new.base.now (result_err result) }
+        ensures spares { Spares S.state self.old.part_at self.old.difi.now self.old.state.now.selector self.old.base.now self.new.base.now
+            (result_err result) }
     {
         let base = &mut *self.base;
         let state = &mut *self.state;

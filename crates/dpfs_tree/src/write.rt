@@ -36,7 +36,7 @@ fn put_block<S: Space>(
         Ok(chosen) => chosen,
         Err(bad) => return Err(bad),
     };
-    let copies = block_copies(part_at, difi, chosen, at);
+    let copies = block_copies(part_at, &difi.dpfs3, chosen, at);
     let marked = state.touched(block);
     match fill_block(
         base,

@@ -13,8 +13,9 @@ pub fill_block-requires-clause-copies : goal.fill_block-requires-clause-copies
 fill_block-requires-clause-copies g c =
     let copies = c.block_copies-copies.result in
     subst (λ (shape : Shape). CanCopy shape copies.from copies.to copies.len) (sym c.in-Ok.ensures.reads.stays.space.shape)
-    (can_copy_block c.args.part_at c.args.difi.now c.args.at c.in-Ok.chosen copies c.block_copies-copies.ensures c.requires.below
-    (g.S.Space.state c.args.base.now).shape c.args.state.now.selector c.requires.tree c.in-Ok.ensures.one_of_two)
+    (can_copy_block c.args.part_at c.args.difi.now.dpfs3 c.args.at c.in-Ok.chosen copies c.block_copies-copies.ensures
+    c.requires.below (g.S.Space.state c.args.base.now).shape c.args.difi.now c.args.state.now.selector c.requires.tree
+    c.requires.tree.level3 c.in-Ok.ensures.one_of_two)
 
 pub fill_block-requires-clause-inside : goal.fill_block-requires-clause-inside
 fill_block-requires-clause-inside g c =

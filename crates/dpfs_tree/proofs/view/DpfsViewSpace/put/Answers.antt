@@ -3,6 +3,9 @@ use Rattle.std.specs.Result.{result_err}
 use Rattle.save_bytes.proofs.JoinLemmas.{IsReady-told}
 use Rattle.dpfs_tree.specs.ViewLaws.{true-can_view_contents, contents_tree}
 use Rattle.dpfs_tree.proofs.PieceLemmas.{bytes_ready}
+use Rattle.dpfs_tree.specs.Picks.{bytes_of}
+use Rattle.dpfs_tree.specs.Puts.{WritesIn}
+use Rattle.dpfs_tree.proofs.SpareLemmas.{put_spares, writes_spare}
 use Rattle.dpfs_tree.proofs.ViewLemmas.{view_puts, view_moves}
 use Rattle.dpfs_tree.proofs.view.DpfsViewSpace.put.Goals as goal
 
@@ -50,3 +53,17 @@ returns-clause-moves g c =
     view_moves space.state space.keeps space.lands view _
     (record { same_base = refl; same_place = refl; same_difi = refl; same_state = refl; marks = into.marks.marks; selector = into.marks.selector })
     tree c.args.at c.args.bytes.now (result_err c.put_in.result) into
+
+pub returns-clause-spares : goal.returns-clause-spares
+returns-clause-spares g c =
+    let space = g.S.Space in
+    let view = c.args.self.now in
+    let base = space.state view.base.now in
+    let selector = view.state.now.selector in
+    let n = length c.args.bytes.now in
+    let tree = contents_tree base.shape view.part_at view.difi.now view.state.now (g.met.S.Space.size_fits view.base.now)
+    c.requires.inside.sound in
+    writes_spare space.state space.keeps space.lands view.part_at view.difi.now selector
+    (WritesIn (bytes_of base.cells) view.part_at view.difi.now selector c.args.at n) view.base.now c.put_in.new.base
+    (result_err c.put_in.result)
+    (put_spares base.shape view.part_at view.difi.now selector tree (bytes_of base.cells) c.args.at n) c.put_in.ensures.writes
