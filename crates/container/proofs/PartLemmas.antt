@@ -1,7 +1,7 @@
 -- Parts and their descriptors.
 use Rattle.std.proofs.Common.{◌≡◌, ℕ, ◌<◌, ◌≤◌, List, Option, Some, None, IfSome, refl, sym, ◌∙◌, ap, subst, arith, ⊎_elim}
 use Rattle.std.proofs.lemmas.Bool.{cases_lt}
-use Rattle.container_header.specs.declared.header.Extent.{Extent}
+use Rattle.save_bytes.specs.declared.extent.Extent.{Extent}
 use Rattle.container_header.specs.declared.header.Header.{Header}
 use Rattle.container_header.specs.Sound.{IsSound}
 use Rattle.difi.specs.declared.descriptor.Difi.{Difi}

@@ -25,8 +25,8 @@ take-drop-take : (n off m : ℕ) (xs : List ℕ) → off + n ≤ m → take n (d
 take-drop-take n off m xs fits =
     let whole : off + (m - off) ≡ m = omega arith in
     ap (λ (k : ℕ). take n (drop off (take k xs))) (sym whole)
-        ∙ ap (λ (ys : List ℕ). take n ys) (drop-take off (m - off) xs)
-        ∙ take-take n (m - off) (drop off xs) (omega arith)
+    ∙ ap (λ (ys : List ℕ). take n ys) (drop-take off (m - off) xs)
+    ∙ take-take n (m - off) (drop off xs) (omega arith)
 
 module _ (image : List ℕ) where
   pub byte_at-raw : (at : ℕ) → at < 256 → byte_at image at ≡ get_or (raw_of image) at 0
@@ -105,15 +105,15 @@ module _ (one other : List ℕ) (same : raw_of one ≡ raw_of other) where
   reading_as_same None n = refl
   reading_as_same (Some kind) n =
       let outcome : ℕ → Header → Result Header HeaderFault =
-          λ version header. cond (eqb version (version_of kind))
-          (checked header (first_failing 1 (layout_faults header n))) (Err Version) in
+      λ version header. cond (eqb version (version_of kind))
+      (checked header (first_failing 1 (layout_faults header n))) (Err Version) in
       ap (λ (version : ℕ). outcome version (fields_of kind one)) version_same ∙ ap (λ (header : Header). outcome (word_at other 0x04) header) (fields_same kind)
 
   pub reading_same : (n : ℕ) → reading_of one n ≡ reading_of other n
   unfolding reading_of
   reading_same n =
       let by_kind : reading_as (kind_of one) one n ≡ reading_as (kind_of other) other n =
-          ap (λ (kind : Option Kind). reading_as kind one n) kind_same ∙ reading_as_same (kind_of other) n in
+      ap (λ (kind : Option Kind). reading_as kind one n) kind_same ∙ reading_as_same (kind_of other) n in
       ap (λ (answer : Result Header HeaderFault). cond (ltb n 512) (Err NotImage) answer) by_kind
 
 reading_of-short : (image : List ℕ) (n : ℕ) → n < 512 → reading_of image n ≡ Err NotImage

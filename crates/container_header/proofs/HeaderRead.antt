@@ -41,7 +41,7 @@ reading_as-ok : (found : Option Kind) (bytes : List ℕ) (n : ℕ) (header : Hea
 reading_as-ok None bytes n header long is e = cc
 reading_as-ok (Some kind) bytes n header long is e =
     let by_version = versioned (eqb (word_at bytes 0x04) (version_of kind))
-        (checked (fields_of kind bytes) (first_failing 1 (layout_faults (fields_of kind bytes) n))) header e in
+    (checked (fields_of kind bytes) (first_failing 1 (layout_faults (fields_of kind bytes) n))) header e in
     let by_fault = checked-ok (fields_of kind bytes) header (first_failing 1 (layout_faults (fields_of kind bytes) n)) by_version.1 in
     let same : kind ≡ header.kind = sym (kind_kept kind bytes) ∙ ap (λ (h : Header). h.kind) by_fault.0 in
     record {
@@ -123,14 +123,26 @@ reading-raw header image h long holds sound =
 pub reading-ok : (image : List ℕ) (header : Header) → reading image ≡ Ok header → IsHeaderOf header image
 reading-ok image header e =
     let h = reading_of-ok image (length image) header e in
-    record { longer = h.longer; kind_is = h.kind_is; version_is = h.version_is; fields_are = h.fields_are; sound =
-        sound_from header (length image) h.none_fails }
+    record {
+      longer = h.longer;
+      kind_is = h.kind_is;
+      version_is = h.version_is;
+      fields_are = h.fields_are;
+      sound =
+          sound_from header (length image) h.none_fails;
+    }
 
 pub reading-is : (image : List ℕ) (header : Header) → IsHeaderOf header image → reading image ≡ Ok header
 reading-is image header h =
     reading_of-is image (length image) header
-        (record { longer = h.longer; kind_is = h.kind_is; version_is = h.version_is; fields_are =
-        h.fields_are; none_fails = sound_to header (length image) h.sound })
+    (record {
+      longer = h.longer;
+      kind_is = h.kind_is;
+      version_is = h.version_is;
+      fields_are =
+          h.fields_are;
+      none_fails = sound_to header (length image) h.sound;
+    })
 
 pub ok_of_raw : (bytes : List ℕ) (n : ℕ) (result : Result Header HeaderFault) → 512 ≤ length bytes → result ≡ reading_of bytes n → IfOk result IsOfRaw
 ok_of_raw bytes n (Ok header) long e = read_of_raw bytes n header long (sym e)

@@ -1,13 +1,13 @@
 -- What a sound header is: the conditions over the whole image, in the order in which a fault is named.
 use Rattle.std.specs.Prelude.{ℕ, ◌+◌, ◌-◌, Bool, ◌&&◌, ◌||◌, not, ◌==◌, nat_lt, bytes_eq, List, [], ◌∷◌, ◌++◌, length}
 use Rattle.std.specs.Prelude.{take, replicate, Option, Some, None, Result, Ok, Err, if◌then◌else◌}
-use Rattle.container_header.specs.declared.header.Extent.{Extent}
+use Rattle.save_bytes.specs.declared.extent.Extent.{Extent}
 use Rattle.container_header.specs.declared.header.Kind.{Kind}
 use Rattle.container_header.specs.declared.header.Kind.TheVariants.{Disa, Diff}
 use Rattle.container_header.specs.declared.header.Header.{Header}
 use Rattle.container_header.specs.declared.fault.HeaderFault.{HeaderFault}
 use Rattle.container_header.specs.declared.fault.HeaderFault.TheVariants.{NotImage, Version, Layout}
-use Rattle.container_header.specs.Extents.{lies_inside, overlap, some_overlap}
+use Rattle.save_bytes.specs.Extents.{lies_inside, overlap, some_overlap}
 use Rattle.container_header.specs.Fields.{bytes_at, word_at, disa_fields, diff_fields}
 
 -- the kind that four bytes name: DISA or DIFF

@@ -2,7 +2,7 @@
 -- authentication field, so both lie in the first 512 bytes. Offsets below are counted from the header's first byte.
 use Rattle.std.specs.Prelude.{ℕ, ◌+◌, List, ◌==◌, take, drop, slice_index, if◌then◌else◌}
 use Rattle.save_bytes.specs.Fields.{number_at}
-use Rattle.container_header.specs.declared.header.Extent.{Extent}
+use Rattle.save_bytes.specs.declared.extent.Extent.{Extent}
 use Rattle.container_header.specs.declared.header.Kind.TheVariants.{Disa, Diff}
 use Rattle.container_header.specs.declared.header.Header.{Header}
 

@@ -1,4 +1,3 @@
-pub mod Extents
 pub mod Fields
 pub mod Conditions
 pub mod Sound

@@ -1,6 +1,7 @@
 -- What is known of a header once no condition of its layout fails. Sums are of whole numbers.
-use Rattle.std.specs.Prelude.{◌≡◌, ℕ, ◌+◌, ◌≤◌, ◌<◌, min, max, List, length, Some, ◌==◌, if◌then◌else◌}
-use Rattle.container_header.specs.declared.header.Extent.{Extent}
+use Rattle.std.specs.Prelude.{◌≡◌, ℕ, ◌≤◌, List, length, Some, ◌==◌, if◌then◌else◌}
+use Rattle.save_bytes.specs.declared.extent.Extent.{Extent}
+use Rattle.save_bytes.specs.Extents.{LiesInside, AreApart}
 use Rattle.container_header.specs.declared.header.Header.{Header}
 use Rattle.container_header.specs.Fields.{word_at}
 use Rattle.container_header.specs.Conditions.{table_at, max_length, kind_of, version_of, fields_of}
@@ -12,32 +13,15 @@ active_at header = if header.active == 0 then header.primary else header.seconda
 abbrev pub inactive_at : Header → ℕ
 inactive_at header = if header.active == 0 then header.secondary else header.primary
 
--- the place lies in the range
-abbrev pub Covers : Extent → ℕ → Type 0
-Covers extent place = (extent.at ≤ place) × (place < extent.at + extent.size)
-
--- the number lies in the range from low to high, both ends counted
-abbrev pub IsWithin : ℕ → ℕ → ℕ → Type 0
-IsWithin low high x = (low ≤ x) × (x ≤ high)
-
--- the beginning and the end of a range lie in the range from low to high
-pub record IsInside (extent : Extent) (low high : ℕ) : Type 0 where
-  pub begins : low ≤ extent.at
-  pub ends : extent.at + extent.size ≤ high
-
--- no place lies in both: the earlier end is not behind the later beginning
-abbrev pub IsApart : Extent → Extent → Type 0
-IsApart one other = min (one.at + one.size) (other.at + other.size) ≤ max one.at other.at
-
 -- a descriptor lies in the table, and is no shorter than its first part
 pub record IsDescriptor (descriptor : Extent) (table_size : ℕ) : Type 0 where
   pub shortest : 0x44 ≤ descriptor.size
-  pub inside : IsInside descriptor 0 table_size
+  pub inside : LiesInside descriptor 0 table_size
 
 -- a partition is not empty, and lies in the image behind its first 512 bytes
 pub record IsPartition (partition : Extent) (image_length : ℕ) : Type 0 where
   pub some : 1 ≤ partition.size
-  pub inside : IsInside partition 512 image_length
+  pub inside : LiesInside partition 512 image_length
 
 -- no condition of the layout fails, for an image of a length
 pub record IsSound (header : Header) (image_length : ℕ) : Type 0 where
@@ -47,27 +31,27 @@ pub record IsSound (header : Header) (image_length : ℕ) : Type 0 where
   pub active_byte : header.active ≤ 1
   pub least_table : 0x44 ≤ header.table_size
   pub largest_table : header.table_size ≤ 65536
-  pub primary_inside : IsInside (table_at header header.primary) 512 image_length
-  pub secondary_inside : IsInside (table_at header header.secondary) 512 image_length
+  pub primary_inside : LiesInside (table_at header header.primary) 512 image_length
+  pub secondary_inside : LiesInside (table_at header header.secondary) 512 image_length
   pub descriptor_a : IsDescriptor header.desc_a header.table_size
   pub descriptor_b : header.parts ≡ 2 → IsDescriptor header.desc_b header.table_size
   pub partition_a : IsPartition header.part_a image_length
   pub partition_b : header.parts ≡ 2 → IsPartition header.part_b image_length
-  pub descriptors_apart : header.parts ≡ 2 → IsApart header.desc_a header.desc_b
-  pub tables_apart : IsApart (table_at header header.primary) (table_at header header.secondary)
-  pub primary_a_apart : IsApart (table_at header header.primary) header.part_a
-  pub secondary_a_apart : IsApart (table_at header header.secondary) header.part_a
-  pub primary_b_apart : header.parts ≡ 2 → IsApart (table_at header header.primary) header.part_b
-  pub secondary_b_apart : header.parts ≡ 2 → IsApart (table_at header header.secondary) header.part_b
-  pub partitions_apart : header.parts ≡ 2 → IsApart header.part_a header.part_b
+  pub descriptors_apart : header.parts ≡ 2 → AreApart header.desc_a header.desc_b
+  pub tables_apart : AreApart (table_at header header.primary) (table_at header header.secondary)
+  pub primary_a_apart : AreApart (table_at header header.primary) header.part_a
+  pub secondary_a_apart : AreApart (table_at header header.secondary) header.part_a
+  pub primary_b_apart : header.parts ≡ 2 → AreApart (table_at header header.primary) header.part_b
+  pub secondary_b_apart : header.parts ≡ 2 → AreApart (table_at header header.secondary) header.part_b
+  pub partitions_apart : header.parts ≡ 2 → AreApart header.part_a header.part_b
   -- so of the active table and of the other one, whichever they are
-  pub active_inside : IsInside (table_at header (active_at header)) 512 image_length
-  pub inactive_inside : IsInside (table_at header (inactive_at header)) 512 image_length
-  pub active_inactive_apart : IsApart (table_at header (active_at header)) (table_at header (inactive_at header))
-  pub active_a_apart : IsApart (table_at header (active_at header)) header.part_a
-  pub inactive_a_apart : IsApart (table_at header (inactive_at header)) header.part_a
-  pub active_b_apart : header.parts ≡ 2 → IsApart (table_at header (active_at header)) header.part_b
-  pub inactive_b_apart : header.parts ≡ 2 → IsApart (table_at header (inactive_at header)) header.part_b
+  pub active_inside : LiesInside (table_at header (active_at header)) 512 image_length
+  pub inactive_inside : LiesInside (table_at header (inactive_at header)) 512 image_length
+  pub active_inactive_apart : AreApart (table_at header (active_at header)) (table_at header (inactive_at header))
+  pub active_a_apart : AreApart (table_at header (active_at header)) header.part_a
+  pub inactive_a_apart : AreApart (table_at header (inactive_at header)) header.part_a
+  pub active_b_apart : header.parts ≡ 2 → AreApart (table_at header (active_at header)) header.part_b
+  pub inactive_b_apart : header.parts ≡ 2 → AreApart (table_at header (inactive_at header)) header.part_b
 
 -- the header is that of the image, and sound
 pub record IsHeaderOf (header : Header) (image : List ℕ) : Type 0 where

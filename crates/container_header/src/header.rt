@@ -5,13 +5,7 @@ ghost use Rattle.container_header.specs.Raw.{other_table};
 
 use crate::fault::HeaderFault;
 use crate::reading::read_sector;
-
-/// A range of bytes: where it begins, and how many there are.
-#[derive(Clone, Copy, Debug, PartialEq, Eq)]
-pub struct Extent {
-    pub at: u64,
-    pub size: u64,
-}
+use save_bytes::Extent;
 
 /// The two kinds of image.
 #[derive(Clone, Copy, Debug, PartialEq, Eq)]

@@ -1,30 +1,10 @@
 //! What the definitions mean, for all values: each function's contract is a law, and its body is
 //! empty.
 
-ghost use Rattle.std.specs.Prelude.{◌≡◌, ℕ, ◌+◌, ◌<◌, Bool, true, false, List, length, slice_get, Some, None, Ok, IsTrue, ◌↔◌};
-ghost use Rattle.container_header.specs.declared.header.Extent.{Extent};
+ghost use Rattle.std.specs.Prelude.{◌≡◌, ℕ, ◌+◌, ◌<◌, Bool, true, false, List, length, slice_get, Some, None, Ok, ◌↔◌};
 ghost use Rattle.container_header.specs.declared.header.Header.{Header};
-ghost use Rattle.container_header.specs.Extents.{lies_inside, overlap};
 ghost use Rattle.container_header.specs.Conditions.{layout_faults, first_failing, reading};
-ghost use Rattle.container_header.specs.Sound.{Covers, IsWithin, IsApart, IsSound, IsHeaderOf};
-
-/// Two ranges overlap exactly where some place lies in both.
-pub fn overlap_is_a_shared_place()
-    ensures { (one other : Extent) → IsTrue (overlap one other)
-        ↔ ((place : ℕ) × Covers one place × Covers other place) }
-{}
-
-/// Two ranges are apart exactly where no place lies in both.
-pub fn apart_is_no_shared_place()
-    ensures { (one other : Extent) → IsApart one other
-        ↔ ((place : ℕ) → Covers one place → Covers other place → ⊥) }
-{}
-
-/// A range lies inside another exactly where its beginning and its end lie in that.
-pub fn inside_is_both_ends()
-    ensures { (extent : Extent) (low high : ℕ) → IsTrue (lies_inside extent low high)
-        ↔ (IsWithin low high extent.at × IsWithin low high (extent.at + extent.size)) }
-{}
+ghost use Rattle.container_header.specs.Sound.{IsSound, IsHeaderOf};
 
 /// The condition that is named fails, and none before it does.
 pub fn named_condition_is_the_first()

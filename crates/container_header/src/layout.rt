@@ -1,10 +1,11 @@
 //! The conditions that a header's fields have to meet.
 
-ghost use Rattle.std.specs.Prelude.{◌≡◌, ◌+◌, ◌||◌, ◌++◌};
-ghost use Rattle.container_header.specs.Extents.{lies_inside, overlap, some_overlap};
+ghost use Rattle.std.specs.Prelude.{◌≡◌, ◌||◌, ◌++◌};
+ghost use Rattle.save_bytes.specs.Extents.{overlap, some_overlap};
 ghost use Rattle.container_header.specs.Conditions.{table_at, regions, is_bad_descriptor, is_bad_partition, table_faults, descriptor_faults, partition_faults, first_failing};
 
-use crate::header::{Extent, Header};
+use crate::header::Header;
+use save_bytes::Extent;
 
 /// The bytes at an image's front in which no table and no partition may lie.
 pub(crate) const FRONT: u64 = 512;
@@ -14,27 +15,6 @@ const DESCRIPTOR: u64 = 0x44;
 
 /// The bytes of the longest table.
 const MAX_TABLE: u64 = 65536;
-
-impl Extent {
-    /// The place behind the last byte.
-    fn end(self) -> u128
-        ensures { result ≡ self.at + self.size }
-    {
-        u128::from(self.at) + u128::from(self.size)
-    }
-
-    fn lies_inside(self, low: u64, high: u64) -> bool
-        ensures { result ≡ lies_inside self low high }
-    {
-        low <= self.at && self.end() <= u128::from(high)
-    }
-
-    fn overlaps(self, other: Extent) -> bool
-        ensures { result ≡ overlap self other }
-    {
-        u128::from(self.at.max(other.at)) < self.end().min(other.end())
-    }
-}
 
 impl Header {
     /// The table that stands at a place of the image.
@@ -47,16 +27,16 @@ impl Header {
         }
     }
 
-    fn is_bad_descriptor(&self, descriptor: Extent) -> bool
-        ensures { result ≡ is_bad_descriptor self.now descriptor }
+    fn is_bad_descriptor(&self, descriptor: &Extent) -> bool
+        ensures { result ≡ is_bad_descriptor self.now descriptor.now }
     {
         !descriptor.lies_inside(0, self.table_size) || descriptor.size < DESCRIPTOR
     }
 
     /// The range overlaps one of the tables.
-    fn meets_table(&self, extent: Extent) -> bool
-        ensures { result ≡ (overlap (table_at self.now self.now.primary) extent
-            || overlap (table_at self.now self.now.secondary) extent) }
+    fn meets_table(&self, extent: &Extent) -> bool
+        ensures { result ≡ (overlap (table_at self.now self.now.primary) extent.now
+            || overlap (table_at self.now self.now.secondary) extent.now) }
     {
         self.table(self.primary).overlaps(extent) || self.table(self.secondary).overlaps(extent)
     }
@@ -66,10 +46,10 @@ impl Header {
         ensures { result ≡ some_overlap (regions self.now) }
     {
         self.table(self.primary)
-            .overlaps(self.table(self.secondary))
-            || self.meets_table(self.part_a)
+            .overlaps(&self.table(self.secondary))
+            || self.meets_table(&self.part_a)
             || self.parts == 2
-                && (self.meets_table(self.part_b) || self.part_a.overlaps(self.part_b))
+                && (self.meets_table(&self.part_b) || self.part_a.overlaps(&self.part_b))
     }
 
     /// The first of the conditions 3 to 12 that fails, for an image of `len` bytes.
@@ -104,13 +84,13 @@ impl Header {
     fn descriptor_fault(&self) -> Option<u8>
         ensures { result ≡ first_failing 7 (descriptor_faults self.now) }
     {
-        if self.is_bad_descriptor(self.desc_a) {
+        if self.is_bad_descriptor(&self.desc_a) {
             return Some(7);
         }
-        if self.parts == 2 && self.is_bad_descriptor(self.desc_b) {
+        if self.parts == 2 && self.is_bad_descriptor(&self.desc_b) {
             return Some(8);
         }
-        if self.parts == 2 && self.desc_a.overlaps(self.desc_b) {
+        if self.parts == 2 && self.desc_a.overlaps(&self.desc_b) {
             return Some(9);
         }
         None
@@ -120,10 +100,10 @@ impl Header {
     fn partition_fault(&self, len: u64) -> Option<u8>
         ensures { result ≡ first_failing 10 (partition_faults self.now len) }
     {
-        if is_bad_partition(self.part_a, len) {
+        if is_bad_partition(&self.part_a, len) {
             return Some(10);
         }
-        if self.parts == 2 && is_bad_partition(self.part_b, len) {
+        if self.parts == 2 && is_bad_partition(&self.part_b, len) {
             return Some(11);
         }
         if self.has_overlap() {
@@ -133,8 +113,8 @@ impl Header {
     }
 }
 
-fn is_bad_partition(partition: Extent, len: u64) -> bool
-    ensures { result ≡ is_bad_partition partition len }
+fn is_bad_partition(partition: &Extent, len: u64) -> bool
+    ensures { result ≡ is_bad_partition partition.now len }
 {
     partition.size == 0 || !partition.lies_inside(FRONT, len)
 }

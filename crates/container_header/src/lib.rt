@@ -9,7 +9,8 @@ mod reading;
 mod sector;
 
 pub use fault::HeaderFault;
-pub use header::{Extent, Header, Kind};
+pub use header::{Header, Kind};
+pub use save_bytes::Extent;
 
 #[cfg(test)]
 mod tests;

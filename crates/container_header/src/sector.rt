@@ -4,8 +4,8 @@ ghost use Rattle.std.specs.Prelude.{◌≡◌, ◌+◌, ◌≤◌, take, drop};
 ghost use Rattle.container_header.specs.Fields.{bytes_at, word_at, extent_at, disa_fields, diff_fields};
 ghost use Rattle.container_header.specs.Conditions.{kind_of, version_of};
 
-use crate::header::{Extent, Header, Kind};
-use save_bytes::{u32_at, u64_at};
+use crate::header::{Header, Kind};
+use save_bytes::{Extent, u32_at, u64_at};
 
 /// Where the header stands in the image.
 const HEADER: usize = 0x100;

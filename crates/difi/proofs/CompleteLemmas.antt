@@ -2,17 +2,19 @@
 use Rattle.std.proofs.Common.{◌≡◌, ℕ, ◌+◌, ◌<◌, ◌≤◌, Bool, true, false, ◌&&◌, ◌||◌, not, List, [], ◌∷◌, take, cond, Ok, refl}
 use Rattle.std.specs.List.{list_any}
 use Rattle.std.proofs.lemmas.Bool.{or_from, le-ltb}
-use Rattle.difi.specs.declared.places.Extent2.{Extent2}
+use Rattle.save_bytes.specs.declared.extent.Extent.{Extent}
 use Rattle.difi.specs.declared.places.LevelPlace.{LevelPlace}
 use Rattle.difi.specs.declared.descriptor.Difi.{Difi}
-use Rattle.difi.specs.Places.{lies_inside, overlap, some_outside, extent_of, copies_of}
+use Rattle.difi.specs.Places.{some_outside, extent_of, copies_of}
 use Rattle.difi.specs.Fields.{fields, ivfc_extent, dpfs_extent, master_extent, ivfc_place, dpfs_place}
 use Rattle.difi.specs.Conditions.{reading, parts, difi_tests, name_tests, level_tests, verdict, has_bad_log}
 use Rattle.difi.specs.Conditions.{has_no_place, has_bad_copies, has_short_bitmap, has_overlapping_copies, pairs}
 use Rattle.difi.specs.Conditions.{inner_levels, has_bad_level, has_overlapping_levels, external_extent}
 use Rattle.difi.specs.Conditions.{has_bad_external, has_too_few_entries}
-use Rattle.difi.specs.Sound.{AreApart, HasParts, HasBlockSizes, IsPlaced, HasCopies, HasHashLevels, HasExternalLevel, HasSoundLevels, IsSound, IsDescriptor}
-use Rattle.difi.proofs.TestLemmas.{AllApart, some_overlap-apart, list_any-apart, not-lies_inside, is_outside-between}
+use Rattle.difi.specs.Sound.{HasParts, HasBlockSizes, IsPlaced, HasCopies, HasHashLevels, HasExternalLevel, HasSoundLevels, IsSound, IsDescriptor}
+use Rattle.save_bytes.specs.Extents.{lies_inside, overlap, AreApart}
+use Rattle.save_bytes.proofs.ExtentLemmas.{AllApart, some_overlap-apart, list_any-apart}
+use Rattle.difi.proofs.TestLemmas.{not-ends_inside, is_outside-between}
 use Rattle.difi.proofs.TestLemmas.{eqb-not_empty, ltb-enough_entries, is_bad_part-inside, ltb-one_of_two, not-named}
 use Rattle.difi.proofs.TestLemmas.{not-numbered}
 use Rattle.difi.proofs.Verdicts.{passes, reading-ok}
@@ -31,7 +33,7 @@ has_bad_log-none difi h =
     (is_outside-between 9 16 _ h.ivfc4)
 
 has_no_place-placed : (level : LevelPlace) (part_len : ℕ) → IsPlaced level part_len → has_no_place level part_len ≡ false
-has_no_place-placed level part_len h = or_from _ _ (eqb-not_empty level.size h.some) (not-lies_inside (copies_of level) part_len h.inside)
+has_no_place-placed level part_len h = or_from _ _ (eqb-not_empty level.size h.some) (not-ends_inside (copies_of level) part_len h.inside)
 
 has_bad_copies-none : (difi : Difi) (part_len : ℕ) → HasCopies difi part_len → has_bad_copies difi part_len ≡ false
 unfolding has_bad_copies
@@ -49,34 +51,34 @@ unfolding has_overlapping_copies
 has_overlapping_copies-none difi part_len h = some_overlap-apart (pairs difi) ((h.apart12, (h.apart13, tt)), ((h.apart23, tt), (tt, tt)))
 
 -- four levels, of which the last is not looked at where it is external
-abbrev inner : Bool → Extent2 → Extent2 → Extent2 → Extent2 → List Extent2
+abbrev inner : Bool → Extent → Extent → Extent → Extent → List Extent
 inner external one two three four = take (cond external 3 4) (one ∷ two ∷ three ∷ four ∷ [])
 
-inner_apart : (external : Bool) (one two three four : Extent2) → AreApart one two → AreApart one three
+inner_apart : (external : Bool) (one two three four : Extent) → AreApart one two → AreApart one three
     → AreApart two three → (external ≡ false → AreApart one four) → (external ≡ false → AreApart two four)
     → (external ≡ false → AreApart three four) → AllApart (inner external one two three four)
 inner_apart true one two three four a b c d e f = ((a, (b, tt)), ((c, tt), (tt, tt)))
 inner_apart false one two three four a b c d e f = ((a, (b, (d refl, tt))), ((c, (e refl, tt)), ((f refl, tt), (tt, tt))))
 
-inner_inside : (external : Bool) (one two three four : Extent2) (end : ℕ) → one.at + one.size ≤ end
+inner_inside : (external : Bool) (one two three four : Extent) (end : ℕ) → one.at + one.size ≤ end
     → two.at + two.size ≤ end → three.at + three.size ≤ end → (external ≡ false → four.at + four.size ≤ end)
     → some_outside (inner external one two three four) end ≡ false
 inner_inside true one two three four end a b c d =
-    or_from _ _ (not-lies_inside one end a) (or_from _ _ (not-lies_inside two end b) (or_from _ _ (not-lies_inside three end c) refl))
+    or_from _ _ (not-ends_inside one end a) (or_from _ _ (not-ends_inside two end b) (or_from _ _ (not-ends_inside three end c) refl))
 inner_inside false one two three four end a b c d =
-    or_from _ _ (not-lies_inside one end a)
-        (or_from _ _ (not-lies_inside two end b)
-        (or_from _ _ (not-lies_inside three end c) (or_from _ _ (not-lies_inside four end (d refl)) refl)))
+    or_from _ _ (not-ends_inside one end a)
+    (or_from _ _ (not-ends_inside two end b)
+    (or_from _ _ (not-ends_inside three end c) (or_from _ _ (not-ends_inside four end (d refl)) refl)))
 
 pub has_bad_level-none : (difi : Difi) → HasHashLevels difi → has_bad_level difi ≡ false
 unfolding has_bad_level
 has_bad_level-none difi h =
     or_from _ _
     (or_from _ _ (eqb-not_empty _ h.some1)
-        (or_from _ _ (eqb-not_empty _ h.some2)
-        (or_from _ _ (eqb-not_empty _ h.some3) (or_from _ _ (eqb-not_empty _ h.some4) refl))))
+    (or_from _ _ (eqb-not_empty _ h.some2)
+    (or_from _ _ (eqb-not_empty _ h.some3) (or_from _ _ (eqb-not_empty _ h.some4) refl))))
     (inner_inside difi.external (extent_of difi.ivfc1) (extent_of difi.ivfc2) (extent_of difi.ivfc3)
-        (extent_of difi.ivfc4) difi.dpfs3.size h.inside1 h.inside2 h.inside3 h.inside4)
+    (extent_of difi.ivfc4) difi.dpfs3.size h.inside1 h.inside2 h.inside3 h.inside4)
 
 pub has_overlapping_levels-none : (difi : Difi) → HasHashLevels difi → has_overlapping_levels difi ≡ false
 unfolding has_overlapping_levels
@@ -94,11 +96,11 @@ has_too_few_entries-none difi h =
     (ltb-enough_entries _ _ h.entries3))
     (ltb-enough_entries _ _ h.entries4)
 
-external_inside : (external : Bool) (level : Extent2) (others : List Extent2) (part_len : ℕ)
+external_inside : (external : Bool) (level : Extent) (others : List Extent) (part_len : ℕ)
     → (external ≡ true → level.at + level.size ≤ part_len)
     → (external ≡ true → list_any (overlap level) others ≡ false)
     → (external && (not (lies_inside level 0 part_len) || list_any (overlap level) others)) ≡ false
-external_inside true level others part_len inside apart = or_from _ _ (not-lies_inside level part_len (inside refl)) (apart refl)
+external_inside true level others part_len inside apart = or_from _ _ (not-ends_inside level part_len (inside refl)) (apart refl)
 external_inside false level others part_len inside apart = refl
 
 has_bad_external-none : (difi : Difi) (part_len : ℕ) → (difi.external ≡ true → HasExternalLevel difi part_len) → has_bad_external difi part_len ≡ false
@@ -136,11 +138,12 @@ difi_passes table place size h p selector =
     (passes _ _ _ (not-numbered _ _ h.difi_version)
     (passes _ _ _ (is_bad_part-inside (ivfc_extent table place) 0x78 size h.ivfc_long h.ivfc_inside)
     (passes _ _ _ (is_bad_part-inside (dpfs_extent table place) 0x50 size h.dpfs_long h.dpfs_inside)
-    (passes _ _ _ (not-lies_inside (master_extent table place) size p.master)
+    (passes _ _ _ (not-ends_inside (master_extent table place) size p.master)
     (passes _ _ _ (some_overlap-apart
-        (parts (ivfc_extent table place).at (dpfs_extent table place).at (master_extent table place))
-        ((p.difi_ivfc, (p.difi_dpfs, (p.difi_master, tt))),
-        ((p.ivfc_dpfs, (p.ivfc_master, tt)), ((p.dpfs_master, tt), (tt, tt)))))
+    (parts (ivfc_extent table place).at (dpfs_extent table place).at (master_extent table place)) (
+      (p.difi_ivfc, (p.difi_dpfs, (p.difi_master, tt))),
+      ((p.ivfc_dpfs, (p.ivfc_master, tt)), ((p.dpfs_master, tt), (tt, tt))),
+    ))
     (passes _ _ _ (ltb-one_of_two _ selector) refl))))))
 
 -- a sound descriptor is read

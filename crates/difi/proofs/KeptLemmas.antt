@@ -3,7 +3,7 @@ use Rattle.std.proofs.Common.{◌≡◌, ℕ, ◌+◌, ◌-◌, ◌<◌, ◌≤�
 use Rattle.std.proofs.lemmas.List.{ext_get_or, length-take, length-drop, length-set, get_or-take, get_or-drop, get_or-set_same, get_or-set_other}
 use Rattle.save_bytes.specs.Fields.{number_at}
 use Rattle.save_bytes.proofs.FieldLemmas.{number_at-same}
-use Rattle.difi.specs.declared.places.Extent2.{Extent2}
+use Rattle.save_bytes.specs.declared.extent.Extent.{Extent}
 use Rattle.difi.specs.declared.descriptor.Difi.{Difi}
 use Rattle.difi.specs.Fields.{extent_at, level_at, ivfc_place, dpfs_place, fields}
 use Rattle.difi.specs.Conditions.{reading}
@@ -63,14 +63,33 @@ with_selector difi size part_len selector h chosen =
     let c = h.levels.copies in
     let t = h.levels.hash_levels in
     record {
-      parts = record { ivfc = p.ivfc; dpfs = p.dpfs; master = p.master; difi_ivfc = p.difi_ivfc; difi_dpfs =
-          p.difi_dpfs; difi_master = p.difi_master; ivfc_dpfs = p.ivfc_dpfs; ivfc_master =
-          p.ivfc_master; dpfs_master = p.dpfs_master };
+      parts = record {
+        ivfc = p.ivfc;
+        dpfs = p.dpfs;
+        master = p.master;
+        difi_ivfc = p.difi_ivfc;
+        difi_dpfs =
+            p.difi_dpfs;
+        difi_master = p.difi_master;
+        ivfc_dpfs = p.ivfc_dpfs;
+        ivfc_master =
+            p.ivfc_master;
+        dpfs_master = p.dpfs_master;
+      };
       levels = record {
         selector = chosen;
         block_sizes = record { dpfs2 = b.dpfs2; dpfs3 = b.dpfs3; ivfc1 = b.ivfc1; ivfc2 = b.ivfc2; ivfc3 = b.ivfc3; ivfc4 = b.ivfc4 };
-        copies = record { level1 = c.level1; level2 = c.level2; level3 = c.level3; bits1 = c.bits1; bits2 =
-            c.bits2; apart12 = c.apart12; apart13 = c.apart13; apart23 = c.apart23 };
+        copies = record {
+          level1 = c.level1;
+          level2 = c.level2;
+          level3 = c.level3;
+          bits1 = c.bits1;
+          bits2 =
+              c.bits2;
+          apart12 = c.apart12;
+          apart13 = c.apart13;
+          apart23 = c.apart23;
+        };
         hash_levels = record {
           some1 = t.some1;
           some2 = t.some2;
@@ -149,10 +168,10 @@ module _ (old new : List ℕ) (place : ℕ) (front : KeepsBytes old new place 0x
           dpfs_version = ap (λ at. number_at 4 new (at + 4)) dpfs_place_kept
               ∙ number_kept old new (dpfs_place old place) 0x50 dpfs 4 (dpfs_place old place + 4) (omega arith)
               (omega arith) ∙ h.dpfs_version;
-          ivfc_long = subst (λ (e : Extent2). 0x78 ≤ e.size) (sym ivfc_extent_kept) h.ivfc_long;
-          ivfc_inside = subst (λ (e : Extent2). e.at + e.size ≤ size) (sym ivfc_extent_kept) h.ivfc_inside;
-          dpfs_long = subst (λ (e : Extent2). 0x50 ≤ e.size) (sym dpfs_extent_kept) h.dpfs_long;
-          dpfs_inside = subst (λ (e : Extent2). e.at + e.size ≤ size) (sym dpfs_extent_kept) h.dpfs_inside;
+          ivfc_long = subst (λ (e : Extent). 0x78 ≤ e.size) (sym ivfc_extent_kept) h.ivfc_long;
+          ivfc_inside = subst (λ (e : Extent). e.at + e.size ≤ size) (sym ivfc_extent_kept) h.ivfc_inside;
+          dpfs_long = subst (λ (e : Extent). 0x50 ≤ e.size) (sym dpfs_extent_kept) h.dpfs_long;
+          dpfs_inside = subst (λ (e : Extent). e.at + e.size ≤ size) (sym dpfs_extent_kept) h.dpfs_inside;
         }
 
 -- where the fields of a descriptor at its own place begin the other parts
@@ -206,7 +225,7 @@ reading-set table size part_len selector difi inside chosen h =
     let new = set table (difi.place + 0x39) selector in
     let sound = (is_read table difi.place size part_len difi h).sound in
     let kept = keeps_parts table new size part_len difi sound (length-set table (difi.place + 0x39) selector)
-        (λ x other _. get_or-set_other table (difi.place + 0x39) x selector 0 other) in
+    (λ x other _. get_or-set_other table (difi.place + 0x39) x selector 0 other) in
     let is_set : slice_index new (difi.place + 0x39) ≡ selector = get_or-set_same table (difi.place + 0x39) selector 0 inside in
     reading-kept table new size part_len difi kept (rw is_set chosen) h
     ∙ ap (λ s. Ok (record difi { selector = s })) is_set

@@ -1,7 +1,7 @@
 -- A descriptor on which no test fails is sound.
 use Rattle.std.proofs.Common.{◌≡◌, ℕ, ◌+◌, ◌<◌, ◌≤◌, Bool, true, false, List, [], ◌∷◌, take, drop, codes, cond, Result, Ok, Err, IfOk, IsOk, refl}
 use Rattle.std.proofs.lemmas.Bool.{or_parts, ltb-false}
-use Rattle.difi.specs.declared.places.Extent2.{Extent2}
+use Rattle.save_bytes.specs.declared.extent.Extent.{Extent}
 use Rattle.difi.specs.declared.places.LevelPlace.{LevelPlace}
 use Rattle.difi.specs.declared.descriptor.Difi.{Difi}
 use Rattle.difi.specs.declared.fault.DifiFault.{DifiFault}
@@ -11,8 +11,10 @@ use Rattle.difi.specs.Conditions.{reading, parts, difi_tests, name_tests, level_
 use Rattle.difi.specs.Conditions.{has_no_place, has_bad_copies, has_short_bitmap, has_overlapping_copies, pairs}
 use Rattle.difi.specs.Conditions.{inner_levels, has_bad_level, has_overlapping_levels, external_extent}
 use Rattle.difi.specs.Conditions.{has_bad_external, has_too_few_entries}
-use Rattle.difi.specs.Sound.{AreApart, HasParts, HasBlockSizes, IsPlaced, HasCopies, HasHashLevels, HasExternalLevel, IsSound, IsDescriptor}
-use Rattle.difi.proofs.TestLemmas.{AllApart, all_apart, apart_from, ends_inside, between, not_empty, enough_entries}
+use Rattle.difi.specs.Sound.{HasParts, HasBlockSizes, IsPlaced, HasCopies, HasHashLevels, HasExternalLevel, IsSound, IsDescriptor}
+use Rattle.save_bytes.specs.Extents.{AreApart}
+use Rattle.save_bytes.proofs.ExtentLemmas.{AllApart, all_apart, apart_from}
+use Rattle.difi.proofs.TestLemmas.{ends_inside, between, not_empty, enough_entries}
 use Rattle.difi.proofs.TestLemmas.{part_inside, part_size, one_of_two, named, numbered}
 use Rattle.difi.proofs.Verdicts.{holds, all_pass}
 
@@ -58,10 +60,10 @@ copies difi part_len in_partition long_enough none_overlap =
     }
 
 -- four levels, of which the last is not looked at where it is external
-abbrev inner : Bool → Extent2 → Extent2 → Extent2 → Extent2 → List Extent2
+abbrev inner : Bool → Extent → Extent → Extent → Extent → List Extent
 inner external one two three four = take (cond external 3 4) (one ∷ two ∷ three ∷ four ∷ [])
 
-record InnerApart (external : Bool) (one two three four : Extent2) : Type 0 where
+record InnerApart (external : Bool) (one two three four : Extent) : Type 0 where
   apart12 : AreApart one two
   apart13 : AreApart one three
   apart23 : AreApart two three
@@ -69,21 +71,35 @@ record InnerApart (external : Bool) (one two three four : Extent2) : Type 0 wher
   apart24 : external ≡ false → AreApart two four
   apart34 : external ≡ false → AreApart three four
 
-inner_apart : (external : Bool) (one two three four : Extent2) → AllApart (inner external one two three four) → InnerApart external one two three four
+inner_apart : (external : Bool) (one two three four : Extent) → AllApart (inner external one two three four) → InnerApart external one two three four
 inner_apart true one two three four h =
-    record { apart12 = h.0.0; apart13 = h.0.1.0; apart23 = h.1.0.0; apart14 = λ e. cc; apart24 = λ e. cc; apart34 =
-    λ e. cc }
+    record {
+      apart12 = h.0.0;
+      apart13 = h.0.1.0;
+      apart23 = h.1.0.0;
+      apart14 = λ e. cc;
+      apart24 = λ e. cc;
+      apart34 =
+          λ e. cc;
+    }
 inner_apart false one two three four h =
-    record { apart12 = h.0.0; apart13 = h.0.1.0; apart23 = h.1.0.0; apart14 = λ e. h.0.1.1.0; apart24 =
-    λ e. h.1.0.1.0; apart34 = λ e. h.1.1.0.0 }
+    record {
+      apart12 = h.0.0;
+      apart13 = h.0.1.0;
+      apart23 = h.1.0.0;
+      apart14 = λ e. h.0.1.1.0;
+      apart24 =
+          λ e. h.1.0.1.0;
+      apart34 = λ e. h.1.1.0.0;
+    }
 
-record InnerInside (external : Bool) (one two three four : Extent2) (end : ℕ) : Type 0 where
+record InnerInside (external : Bool) (one two three four : Extent) (end : ℕ) : Type 0 where
   inside1 : one.at + one.size ≤ end
   inside2 : two.at + two.size ≤ end
   inside3 : three.at + three.size ≤ end
   inside4 : external ≡ false → four.at + four.size ≤ end
 
-inner_inside : (external : Bool) (one two three four : Extent2) (end : ℕ)
+inner_inside : (external : Bool) (one two three four : Extent) (end : ℕ)
     → some_outside (inner external one two three four) end ≡ false → InnerInside external one two three four end
 inner_inside true one two three four end h =
     let first = or_parts _ _ h in
@@ -95,8 +111,13 @@ inner_inside false one two three four end h =
     let second = or_parts _ _ first.1 in
     let third = or_parts _ _ second.1 in
     let fourth = or_parts _ _ third.1 in
-    record { inside1 = ends_inside one end first.0; inside2 = ends_inside two end second.0; inside3 =
-        ends_inside three end third.0; inside4 = λ e. ends_inside four end fourth.0 }
+    record {
+      inside1 = ends_inside one end first.0;
+      inside2 = ends_inside two end second.0;
+      inside3 =
+          ends_inside three end third.0;
+      inside4 = λ e. ends_inside four end fourth.0;
+    }
 
 pub hash_tree : (difi : Difi) → has_bad_level difi ≡ false → has_overlapping_levels difi ≡ false → has_too_few_entries difi ≡ false → HasHashLevels difi
 unfolding has_bad_level has_overlapping_levels has_too_few_entries
@@ -107,9 +128,9 @@ hash_tree difi in_level3 none_overlap enough =
     let some3 = or_parts _ _ some2.1 in
     let some4 = or_parts _ _ some3.1 in
     let inside = inner_inside difi.external (extent_of difi.ivfc1) (extent_of difi.ivfc2) (extent_of difi.ivfc3)
-        (extent_of difi.ivfc4) difi.dpfs3.size parts.1 in
+    (extent_of difi.ivfc4) difi.dpfs3.size parts.1 in
     let apart = inner_apart difi.external (extent_of difi.ivfc1) (extent_of difi.ivfc2) (extent_of difi.ivfc3)
-        (extent_of difi.ivfc4) (all_apart (inner_levels difi) none_overlap) in
+    (extent_of difi.ivfc4) (all_apart (inner_levels difi) none_overlap) in
     let fourth = or_parts _ _ enough in
     let third = or_parts _ _ fourth.0 in
     let second = or_parts _ _ third.0 in

@@ -51,8 +51,8 @@ module _ (table : List ℕ) (place size part_len : ℕ) where
       let names = name_tests table (ivfc_place table place) (dpfs_place table place) in
       let levels = level_tests (fields table place) part_len in
       ap (with_value (fields table place))
-          (verdict-append (difi_tests table place size) (names ++ levels)
-          ∙ ap (then_verdict (verdict (difi_tests table place size))) (verdict-append names levels))
+      (verdict-append (difi_tests table place size) (names ++ levels)
+      ∙ ap (then_verdict (verdict (difi_tests table place size))) (verdict-append names levels))
 
   pub reading-difi_fault : (fault : DifiFault) → verdict (difi_tests table place size) ≡ Err fault → reading table place size part_len ≡ Err fault
   reading-difi_fault fault on_difi = rw on_difi at by_groups

@@ -1,12 +1,13 @@
 -- Which conditions of a descriptor fail, in the order in which a fault is named.
 use Rattle.std.specs.Prelude.{ℕ, ◌+◌, Bool, ◌&&◌, ◌||◌, not, ◌==◌, nat_lt, List, [], ◌∷◌, ◌++◌, take, codes, Result, Ok, Err, if◌then◌else◌}
 use Rattle.std.specs.List.{list_any}
-use Rattle.difi.specs.declared.places.Extent2.{Extent2}
+use Rattle.save_bytes.specs.declared.extent.Extent.{Extent}
+use Rattle.save_bytes.specs.Extents.{lies_inside, overlap, some_overlap}
 use Rattle.difi.specs.declared.places.LevelPlace.{LevelPlace}
 use Rattle.difi.specs.declared.descriptor.Difi.{Difi}
 use Rattle.difi.specs.declared.fault.DifiFault.{DifiFault}
 use Rattle.difi.specs.declared.fault.DifiFault.TheVariants.{Magic, Version, Layout}
-use Rattle.difi.specs.Places.{lies_inside, overlap, some_empty, some_outside, some_overlap, extent_of, copies_of, blocks_of, bitmap_size, entries_in}
+use Rattle.difi.specs.Places.{some_empty, some_outside, extent_of, copies_of, blocks_of, bitmap_size, entries_in}
 use Rattle.difi.specs.Fields.{has_name, word_at, ivfc_extent, dpfs_extent, master_extent, selector_at, ivfc_place, dpfs_place, fields}
 
 -- the bytes of each part that are read
@@ -20,7 +21,7 @@ abbrev pub dpfs_size : ℕ
 dpfs_size = 0x50
 
 -- the parts and the master hash, as places in the descriptor
-abbrev pub parts : ℕ → ℕ → Extent2 → List Extent2
+abbrev pub parts : ℕ → ℕ → Extent → List Extent
 parts ivfc_at dpfs_at master =
     record { at = 0; size = difi_size }
     ∷ record { at = ivfc_at; size = ivfc_size }
@@ -29,7 +30,7 @@ parts ivfc_at dpfs_at master =
     ∷ []
 
 -- a part does not lie inside the descriptor, or is shorter than what is read of it
-abbrev pub is_bad_part : Extent2 → ℕ → ℕ → Bool
+abbrev pub is_bad_part : Extent → ℕ → ℕ → Bool
 is_bad_part part least size = not (lies_inside part 0 size) || nat_lt part.size least
 
 -- whether each condition on DIFI fails: its name and version, the two parts and the master hash inside the
@@ -75,20 +76,20 @@ unfoldable pub has_short_bitmap : Difi → Bool
 has_short_bitmap difi = nat_lt difi.dpfs1.size (bitmap_size difi.dpfs2) || nat_lt difi.dpfs2.size (bitmap_size difi.dpfs3)
 
 -- the three pairs of copies in the partition
-abbrev pub pairs : Difi → List Extent2
+abbrev pub pairs : Difi → List Extent
 pairs difi = copies_of difi.dpfs1 ∷ copies_of difi.dpfs2 ∷ copies_of difi.dpfs3 ∷ []
 
 unfoldable pub has_overlapping_copies : Difi → Bool
 has_overlapping_copies difi = some_overlap (pairs difi)
 
-abbrev pub hash_levels : Difi → List Extent2
+abbrev pub hash_levels : Difi → List Extent
 hash_levels difi = extent_of difi.ivfc1 ∷ extent_of difi.ivfc2 ∷ extent_of difi.ivfc3 ∷ extent_of difi.ivfc4 ∷ []
 
 abbrev pub inner_count : Difi → ℕ
 inner_count difi = if difi.external then 3 else 4
 
 -- the IVFC levels in DPFS level 3: all but level 4 where that is external
-abbrev pub inner_levels : Difi → List Extent2
+abbrev pub inner_levels : Difi → List Extent
 inner_levels difi = take (inner_count difi) (hash_levels difi)
 
 -- an IVFC level is empty, or one of those in DPFS level 3 does not lie inside it
@@ -99,7 +100,7 @@ unfoldable pub has_overlapping_levels : Difi → Bool
 has_overlapping_levels difi = some_overlap (inner_levels difi)
 
 -- level four where it is external: a range of the partition
-abbrev pub external_extent : Difi → Extent2
+abbrev pub external_extent : Difi → Extent
 external_extent difi = record { at = difi.external_at; size = difi.ivfc4.size }
 
 -- external level four does not lie inside the partition, or overlaps a DPFS level's copies

@@ -2,7 +2,7 @@
 -- other two parts stand, IVFC and DPFS. Those have the levels of the hash tree and of the double-copy tree.
 use Rattle.std.specs.Prelude.{ℕ, ◌+◌, Bool, not, ◌==◌, List, take, drop, slice_index, bytes_eq}
 use Rattle.save_bytes.specs.Fields.{number_at}
-use Rattle.difi.specs.declared.places.Extent2.{Extent2}
+use Rattle.save_bytes.specs.declared.extent.Extent.{Extent}
 use Rattle.difi.specs.declared.places.LevelPlace.{LevelPlace}
 use Rattle.difi.specs.declared.descriptor.Difi.{Difi}
 
@@ -18,7 +18,7 @@ abbrev pub long_at : List ℕ → ℕ → ℕ
 long_at table at = number_at 8 table at
 
 -- an offset field and the size field behind it
-abbrev pub extent_at : List ℕ → ℕ → Extent2
+abbrev pub extent_at : List ℕ → ℕ → Extent
 extent_at table at = record { at = long_at table at; size = long_at table (at + 8) }
 
 -- a level's offset, its size, and the logarithm of its block size
@@ -26,13 +26,13 @@ abbrev pub level_at : List ℕ → ℕ → LevelPlace
 level_at table at = record { at = long_at table at; size = long_at table (at + 8); log = word_at table (at + 16) }
 
 -- DIFI stands at the descriptor's own place. These three are relative to it: the other two parts, and the master hash
-abbrev pub ivfc_extent : List ℕ → ℕ → Extent2
+abbrev pub ivfc_extent : List ℕ → ℕ → Extent
 ivfc_extent table place = extent_at table (place + 0x08)
 
-abbrev pub dpfs_extent : List ℕ → ℕ → Extent2
+abbrev pub dpfs_extent : List ℕ → ℕ → Extent
 dpfs_extent table place = extent_at table (place + 0x18)
 
-abbrev pub master_extent : List ℕ → ℕ → Extent2
+abbrev pub master_extent : List ℕ → ℕ → Extent
 master_extent table place = extent_at table (place + 0x28)
 
 abbrev pub selector_at : List ℕ → ℕ → ℕ

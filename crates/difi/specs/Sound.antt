@@ -1,27 +1,24 @@
 -- What a descriptor that was read keeps, as plain facts: no condition of it fails.
 use Rattle.std.specs.Prelude.{◌≡◌, ℕ, ◌+◌, ◌*◌, ◌^◌, ◌<◌, ◌≤◌, true, false, List, take, drop, codes}
-use Rattle.difi.specs.declared.places.Extent2.{Extent2}
+use Rattle.save_bytes.specs.declared.extent.Extent.{Extent}
+use Rattle.save_bytes.specs.Extents.{AreApart}
 use Rattle.difi.specs.declared.places.LevelPlace.{LevelPlace}
 use Rattle.difi.specs.declared.descriptor.Difi.{Difi}
 use Rattle.difi.specs.Places.{extent_of, copies_of, blocks_of, bitmap_size}
 use Rattle.difi.specs.Fields.{word_at, ivfc_extent, dpfs_extent, ivfc_place, dpfs_place}
 use Rattle.difi.specs.Conditions.{external_extent}
 
--- no place lies in both
-abbrev pub AreApart : Extent2 → Extent2 → Type 0
-AreApart one other = (x : ℕ) → one.at ≤ x → x < one.at + one.size → other.at ≤ x → x < other.at + other.size → ⊥
-
 abbrev pub IsBetween : ℕ → ℕ → ℕ → Type 0
 IsBetween low high n = (low ≤ n) × (n ≤ high)
 
 -- the parts of the descriptor that are read, as places in it
-abbrev pub difi_part : Extent2
+abbrev pub difi_part : Extent
 difi_part = record { at = 0; size = 0x44 }
 
-abbrev pub ivfc_part : Difi → Extent2
+abbrev pub ivfc_part : Difi → Extent
 ivfc_part difi = record { at = difi.ivfc_at; size = 0x78 }
 
-abbrev pub dpfs_part : Difi → Extent2
+abbrev pub dpfs_part : Difi → Extent
 dpfs_part difi = record { at = difi.dpfs_at; size = 0x50 }
 
 -- the parts and the master hash lie inside the descriptor, apart from each other

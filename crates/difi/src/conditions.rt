@@ -4,14 +4,14 @@ ghost use Rattle.std.specs.Prelude.{◌≡◌, ◌+◌, ◌≤◌, length, OnOk}
 ghost use Rattle.std.specs.Bool.{OnFalse};
 ghost use Rattle.difi.specs.Fields.{has_name, ivfc_extent, dpfs_extent};
 ghost use Rattle.difi.specs.Conditions.{difi_tests, name_tests, level_tests, verdict, has_no_place, is_bad_part, is_outside, has_bad_log, has_bad_copies, has_short_bitmap, has_overlapping_copies, has_bad_level, has_overlapping_levels, has_bad_external, has_too_few_entries, hash_levels, inner_count, pairs, parts};
-ghost use Rattle.difi.specs.Places.{some_overlap};
+ghost use Rattle.save_bytes.specs.Extents.{some_overlap};
 ghost use Rattle.difi.specs.Sound.{HasBlockSizes, CopiesFit};
 
 use crate::descriptor::Difi;
 use crate::fault::DifiFault;
 use crate::fields::extent_at;
-use crate::places::{Extent2, LevelPlace, some_empty, some_outside, some_overlap};
-use save_bytes::u32_at;
+use crate::places::{LevelPlace, some_empty, some_outside};
+use save_bytes::{Extent, some_overlap, u32_at};
 
 /// The bytes of each part that are read.
 const DIFI_SIZE: u64 = 0x44;
@@ -30,14 +30,12 @@ fn has_name(table: &[u8], at: usize, name: &[u8]) -> bool
     &table[at..at + 4] == name
 }
 
-impl Extent2 {
-    /// Whether it does not lie inside a descriptor of a size, or is shorter than what is read of it.
-    fn is_bad_part(&self, least: u64, size: u64) -> bool
-        ensures exact { result ≡ is_bad_part self.now least size }
-        ensures holds { OnFalse result (self.now.at + least ≤ size) }
-    {
-        !self.lies_inside(0, size) || self.size < least
-    }
+/// Whether a part does not lie inside a descriptor of a size, or is shorter than what is read of it.
+fn is_bad_part(part: &Extent, least: u64, size: u64) -> bool
+    ensures exact { result ≡ is_bad_part part.now least size }
+    ensures holds { OnFalse result (part.now.at + least ≤ size) }
+{
+    !part.lies_inside(0, size) || part.size < least
 }
 
 impl LevelPlace {
@@ -56,19 +54,19 @@ impl LevelPlace {
     }
 }
 
-fn parts_overlap(ivfc_at: u64, dpfs_at: u64, master: Extent2) -> bool
+fn parts_overlap(ivfc_at: u64, dpfs_at: u64, master: Extent) -> bool
     ensures { result ≡ some_overlap (parts ivfc_at dpfs_at master) }
 {
     some_overlap(&[
-        Extent2 {
+        Extent {
             at: 0,
             size: DIFI_SIZE,
         },
-        Extent2 {
+        Extent {
             at: ivfc_at,
             size: IVFC_SIZE,
         },
-        Extent2 {
+        Extent {
             at: dpfs_at,
             size: DPFS_SIZE,
         },
@@ -94,10 +92,10 @@ pub(crate) fn check_difi(table: &[u8], place: usize, size: u64) -> Result<(), Di
     let ivfc = extent_at(table, place + 0x08);
     let dpfs = extent_at(table, place + 0x18);
     let master = extent_at(table, place + 0x28);
-    if ivfc.is_bad_part(IVFC_SIZE, size) {
+    if is_bad_part(&ivfc, IVFC_SIZE, size) {
         return Err(DifiFault::Layout { condition: 1 });
     }
-    if dpfs.is_bad_part(DPFS_SIZE, size) {
+    if is_bad_part(&dpfs, DPFS_SIZE, size) {
         return Err(DifiFault::Layout { condition: 2 });
     }
     if !master.lies_inside(0, size) {
@@ -167,7 +165,7 @@ impl Difi {
             || u128::from(self.dpfs2.size) < self.dpfs3.bitmap_size()
     }
 
-    fn pairs(&self) -> [Extent2; 3]
+    fn pairs(&self) -> [Extent; 3]
         requires { CopiesFit self.now }
         ensures { result ≡ pairs self.now }
     {
@@ -186,7 +184,7 @@ impl Difi {
         some_overlap(&self.pairs())
     }
 
-    fn hash_levels(&self) -> [Extent2; 4]
+    fn hash_levels(&self) -> [Extent; 4]
         ensures { result ≡ hash_levels self.now }
     {
         [
@@ -224,7 +222,7 @@ impl Difi {
         requires { CopiesFit self.now }
         ensures { result ≡ has_bad_external self.now part_len }
     {
-        let level = Extent2 {
+        let level = Extent {
             at: self.external_at,
             size: self.ivfc4.size,
         };

@@ -8,7 +8,8 @@ ghost use Rattle.difi.specs.Sound.{IsSound, IsDescriptor};
 use crate::conditions::{check_difi, check_names};
 use crate::fault::DifiFault;
 use crate::fields::fields_of;
-use crate::places::{Extent2, LevelPlace};
+use crate::places::LevelPlace;
+use save_bytes::Extent;
 
 /// The fields of a descriptor.
 #[derive(Clone, Copy, Debug, PartialEq, Eq)]
@@ -20,7 +21,7 @@ pub struct Difi {
     /// Where the DPFS part stands, relative to the descriptor.
     pub dpfs_at: u64,
     /// The master hash, relative to the descriptor.
-    pub master: Extent2,
+    pub master: Extent,
     /// Whether level four lies plainly in the partition, and not in DPFS level 3.
     pub external: bool,
     /// Where level four lies in the partition where it is external.

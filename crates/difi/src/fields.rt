@@ -4,14 +4,14 @@ ghost use Rattle.std.specs.Prelude.{◌≡◌, ◌+◌, ◌≤◌, length};
 ghost use Rattle.difi.specs.Fields.{extent_at, level_at, ivfc_extent, dpfs_extent, ivfc_place, dpfs_place, fields};
 
 use crate::descriptor::Difi;
-use crate::places::{Extent2, LevelPlace};
-use save_bytes::{u32_at, u64_at};
+use crate::places::LevelPlace;
+use save_bytes::{Extent, u32_at, u64_at};
 
-pub(crate) fn extent_at(table: &[u8], at: usize) -> Extent2
+pub(crate) fn extent_at(table: &[u8], at: usize) -> Extent
     requires { at + 16 ≤ length table.now }
     ensures { result ≡ extent_at table.now at }
 {
-    Extent2 {
+    Extent {
         at: u64_at(table, at),
         size: u64_at(table, at + 8),
     }

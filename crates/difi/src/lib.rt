@@ -10,7 +10,8 @@ mod places;
 
 pub use descriptor::Difi;
 pub use fault::DifiFault;
-pub use places::{Extent2, LevelPlace};
+pub use places::LevelPlace;
+pub use save_bytes::Extent as Extent2;
 
 #[cfg(test)]
 mod tests;

@@ -8,7 +8,7 @@ use Rattle.difi.specs.declared.places.LevelPlace.{LevelPlace}
 use Rattle.difi.specs.declared.descriptor.Difi.{Difi}
 use Rattle.difi.specs.Places.{copies_of}
 use Rattle.difi.specs.Conditions.{external_extent}
-use Rattle.difi.specs.Sound.{AreApart}
+use Rattle.save_bytes.specs.Extents.{AreApart}
 use Rattle.difi.specs.Contents.{view_size}
 use Rattle.save_bytes.specs.Writes.{IsWithin}
 use Rattle.dpfs_tree.specs.declared.blocks.BlockCopies.{BlockCopies}

@@ -7,7 +7,8 @@ use Rattle.save_bytes.specs.Refusals.{NeverDamaged}
 use Rattle.difi.specs.declared.descriptor.Difi.{Difi}
 use Rattle.difi.specs.Places.{blocks_of, bitmap_size, copies_of}
 use Rattle.difi.specs.Conditions.{level_tests, verdict, external_extent}
-use Rattle.difi.specs.Sound.{AreApart, IsBetween, HasSoundLevels}
+use Rattle.save_bytes.specs.Extents.{AreApart}
+use Rattle.difi.specs.Sound.{IsBetween, HasSoundLevels}
 use Rattle.dpfs_tree.specs.declared.state.DpfsState.{DpfsState}
 use Rattle.dpfs_tree.specs.Picks.{bytes_of}
 use Rattle.difi.specs.Contents.{view_size}

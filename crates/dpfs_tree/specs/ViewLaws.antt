@@ -4,12 +4,13 @@ use Rattle.std.proofs.lemmas.Bool.{and_parts, and_from, cases_lt, lt-ltb, le-leb
 use Rattle.save_bytes.specs.State.{Shape, State}
 use Rattle.save_bytes.specs.Stays.{SameCells, SameTwins}
 use Rattle.save_bytes.specs.Spots.{Spot, Mark, Frame, LandsAsBefore}
-use Rattle.difi.specs.declared.places.Extent2.{Extent2}
+use Rattle.save_bytes.specs.declared.extent.Extent.{Extent}
 use Rattle.difi.specs.declared.descriptor.Difi.{Difi}
 use Rattle.difi.specs.declared.fault.DifiFault.{DifiFault}
 use Rattle.difi.specs.Places.{copies_of}
 use Rattle.difi.specs.Conditions.{external_extent}
-use Rattle.difi.specs.Sound.{AreApart, HasCopies, HasExternalLevel, HasSoundLevels}
+use Rattle.save_bytes.specs.Extents.{AreApart}
+use Rattle.difi.specs.Sound.{HasCopies, HasExternalLevel, HasSoundLevels}
 use Rattle.difi.proofs.SoundLemmas.{on_levels}
 use Rattle.difi.proofs.CompleteLemmas.{levels_pass}
 use Rattle.dpfs_tree.specs.declared.state.DpfsState.{DpfsState}
@@ -106,7 +107,7 @@ true-can_view_contents base part_at difi state h =
     }
 
 -- two ranges that lie apart in a partition fit into it side by side
-fit_apart : (one other : Extent2) (n : ℕ) → AreApart one other → 0 < one.size → 0 < other.size → one.at + one.size ≤ n → other.at + other.size ≤ n → one.size + other.size ≤ n
+fit_apart : (one other : Extent) (n : ℕ) → AreApart one other → 0 < one.size → 0 < other.size → one.at + one.size ≤ n → other.at + other.size ≤ n → one.size + other.size ≤ n
 fit_apart one other n apart some_one some_other one_in other_in =
     ⊎_elim
     (λ (before : one.at < other.at).

@@ -11,7 +11,8 @@ use Rattle.difi.specs.declared.descriptor.Difi.{Difi}
 use Rattle.difi.specs.Places.{extent_of, block_size, blocks_of}
 use Rattle.difi.specs.Contents.{view_size}
 use Rattle.difi.specs.Conditions.{has_bad_log, has_bad_level, has_overlapping_levels, has_too_few_entries}
-use Rattle.difi.specs.Sound.{AreApart, IsBetween, HasBlockSizes, HasHashLevels}
+use Rattle.save_bytes.specs.Extents.{AreApart}
+use Rattle.difi.specs.Sound.{IsBetween, HasBlockSizes, HasHashLevels}
 use Rattle.ivfc_tree.specs.declared.path.BlockState.{BlockState}
 use Rattle.ivfc_tree.specs.declared.path.BlockState.TheVariants.{Good, Blank as BlankAt, Bad as BadAt}
 use Rattle.ivfc_tree.specs.declared.state.IvfcState.{IvfcState}

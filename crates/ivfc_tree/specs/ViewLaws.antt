@@ -9,7 +9,8 @@ use Rattle.difi.specs.declared.places.LevelPlace.{LevelPlace}
 use Rattle.difi.specs.declared.descriptor.Difi.{Difi}
 use Rattle.difi.specs.Places.{extent_of, block_size, blocks_of}
 use Rattle.difi.specs.Contents.{view_size}
-use Rattle.difi.specs.Sound.{AreApart, IsBetween, HasHashLevels}
+use Rattle.save_bytes.specs.Extents.{AreApart}
+use Rattle.difi.specs.Sound.{IsBetween, HasHashLevels}
 use Rattle.difi.proofs.SoundLemmas.{block_sizes, hash_tree}
 use Rattle.difi.proofs.CompleteLemmas.{has_bad_log-none, has_bad_level-none, has_overlapping_levels-none, has_too_few_entries-none}
 use Rattle.difi.proofs.PlaceLemmas.{block_below}

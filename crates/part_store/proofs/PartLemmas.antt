@@ -17,7 +17,7 @@ use Rattle.save_bytes.specs.Refusals.{NeverDamaged}
 use Rattle.save_bytes.specs.Answers.{IsPiece}
 use Rattle.save_bytes.specs.Stays.{SameCells, SameTwins, Stays}
 use Rattle.save_bytes.proofs.SpaceLemmas.{UnlessDisk-map, Stays-join}
-use Rattle.difi.proofs.TestLemmas.{apart, overlap-apart}
+use Rattle.save_bytes.proofs.ExtentLemmas.{apart, overlap-apart}
 use Rattle.difi.specs.Contents.{view_size}
 use Rattle.save_bytes.specs.Reads.{Reads}
 use Rattle.save_bytes.specs.Spots.{Spot, Frame, Hold, LandsAsBefore}

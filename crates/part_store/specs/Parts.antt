@@ -6,8 +6,9 @@ use Rattle.save_bytes.specs.Refusals.{IfDamaged}
 use Rattle.save_bytes.specs.Cells.{Blames}
 use Rattle.save_bytes.specs.State.{Shape, State}
 use Rattle.difi.specs.declared.descriptor.Difi.{Difi}
-use Rattle.difi.specs.Places.{overlap, blocks_of}
-use Rattle.difi.specs.Sound.{AreApart, difi_part}
+use Rattle.difi.specs.Places.{blocks_of}
+use Rattle.save_bytes.specs.Extents.{overlap, AreApart}
+use Rattle.difi.specs.Sound.{difi_part}
 use Rattle.dpfs_tree.specs.View.{contents_state, CanViewContents, can_view_contents}
 use Rattle.ivfc_tree.specs.Marks.{IsMadeFor}
 use Rattle.ivfc_tree.specs.View.{view_state as hashed_state}

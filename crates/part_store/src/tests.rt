@@ -2,7 +2,8 @@
 
 ghost use Rattle.std.specs.Prelude.{◌≡◌, ◌+◌, ◌<◌, length, IfOk};
 ghost use Rattle.save_bytes.specs.Memory.{memory_shape};
-ghost use Rattle.difi.specs.Sound.{HasSoundLevels, AreApart, difi_part};
+ghost use Rattle.save_bytes.specs.Extents.{AreApart};
+ghost use Rattle.difi.specs.Sound.{HasSoundLevels, difi_part};
 ghost use Rattle.ivfc_tree.specs.Levels.{HasBlock};
 ghost use Rattle.part_store.specs.Parts.{CanView};
 

@@ -36,7 +36,7 @@ copy_more old mid size at done n out part fits same long inside some front next 
     let shorter : length (take done out) ≡ done = length-take-le done out inside in
     let in_part : (k : ℕ) → k < length (take n part) → k < length part = λ k h. omega (arith, length-take-le n part some) in
     let back : AreBytesAt old (at + length (take done out)) (take n part) =
-        λ k within. rw shorter (sym (same (at + done + k) (omega (arith, in_part k within))) ∙ next k within) in
+    λ k within. rw shorter (sym (same (at + done + k) (omega (arith, in_part k within))) ∙ next k within) in
     rw (take-put_mid_more done n out part inside long some) (AreBytesAt-append old at (take done out) (take n part) front back)
 
 -- the values of cells that are bytes
@@ -88,8 +88,8 @@ bytes_in-part cells at size from n fits =
     let rest : List ℕ = bytes_in cells (at + from + n) (size - (from + n)) in
     let split : bytes_in cells at size ≡ bytes_in cells at from ++ (bytes_in cells (at + from) n ++ rest) =
     ap (bytes_in cells at) parts ∙ bytes_in-append cells at from (n + (size - (from + n)))
-        ∙ ap (λ (l : List ℕ). bytes_in cells at from ++ l) (bytes_in-append cells (at + from) n (size - (from + n)))
-        in
+    ∙ ap (λ (l : List ℕ). bytes_in cells at from ++ l) (bytes_in-append cells (at + from) n (size - (from + n)))
+    in
     ap (λ (l : List ℕ). take n (drop from l)) split
     ∙ ap (λ (l : List ℕ). take n l) (drop_front _ _ from (length-bytes_in cells at from))
     ∙ take_front _ _ n (length-bytes_in cells (at + from) n)

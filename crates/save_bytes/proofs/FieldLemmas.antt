@@ -15,7 +15,7 @@ little_from-same zero i j xs ys same = refl
 little_from-same (suc n) i j xs ys same =
     let first : get_or xs i 0 ≡ get_or ys j 0 = simp add-zero at (same 0 (omega arith)) in
     let rest : little_from (suc i) n xs ≡ little_from (suc j) n ys =
-        little_from-same n (suc i) (suc j) xs ys (λ k h. simp (add-suc, ← suc-add) at (same (suc k) (omega arith))) in
+    little_from-same n (suc i) (suc j) xs ys (λ k h. simp (add-suc, ← suc-add) at (same (suc k) (omega arith))) in
     cc
 
 behind : (xs ys : List ℕ) (n k : ℕ) → length xs ≡ n → get_or (xs ++ ys) (n + k) 0 ≡ get_or ys k 0
@@ -49,8 +49,8 @@ number_at-put n x xs at fits small =
     let rest = drop (at + length piece) xs in
     let moved : little_from at n (with_bytes xs at piece) ≡ little_from 0 n (piece ++ rest) =
     little_from-same n at 0 (with_bytes xs at piece) (piece ++ rest)
-        (λ k h. rw (append_assoc (take at xs) piece rest, zero-add) (behind (take at xs) (piece ++ rest) at k long))
-        in
+    (λ k h. rw (append_assoc (take at xs) piece rest, zero-add) (behind (take at xs) (piece ++ rest) at k long))
+    in
     moved ∙ little_number-reads_back n x rest small
 
 -- what a field's read gives of the rest of the list
@@ -65,6 +65,6 @@ pub field_put : (at n : ℕ) (xs piece part : List ℕ) → length piece ≡ n �
 field_put at n xs piece part long fits is =
     let k : at + n - at ≡ n = omega arith in
     let none : drop n (take (at + n - at) (drop at xs)) ≡ [] =
-        drop_all n (take (at + n - at) (drop at xs)) (omega (arith, length-take (at + n - at) (drop at xs))) in
+    drop_all n (take (at + n - at) (drop at xs)) (omega (arith, length-take (at + n - at) (drop at xs))) in
     let whole : part ≡ piece = is ∙ ap (λ (l : List ℕ). piece ++ l) none ∙ append-nil piece in
     rw (k, whole, long, drop-drop, append_assoc) refl

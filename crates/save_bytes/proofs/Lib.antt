@@ -1,4 +1,5 @@
 pub mod FieldLemmas
+pub mod ExtentLemmas
 pub mod MemoryLemmas
 pub mod SpaceLemmas
 pub mod CellLemmas

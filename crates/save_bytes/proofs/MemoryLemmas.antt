@@ -82,9 +82,12 @@ pub bytes_moved : (s t : MemSpace) (at n : ℕ) (piece : List ℕ) → length pi
     → t.bytes.ghost_name ≡ s.bytes.ghost_name → t.block ≡ s.block → IsWrite s.bytes.now at piece t.bytes.now
     → MovesOnly MemoryKeeps (λ _. MemoryLands) (memory_state s) s at n t None
 bytes_moved s t at n piece long same_reference same_block write =
-    let same : SameMemory s t = record
-        { same_reference = same_reference; same_size = same_size s.bytes.now at piece t.bytes.now write; same_block =
-        same_block } in
+    let same : SameMemory s t = record {
+      same_reference = same_reference;
+      same_size = same_size s.bytes.now at piece t.bytes.now write;
+      same_block =
+          same_block;
+    } in
     record {
       hold = (same, tt);
       spots = λ told spot misses. (same, same_spot s t at piece write spot (rw long misses));

@@ -70,7 +70,7 @@ module _ (was : State) (at : ℕ) (bytes : List ℕ) (new : ℕ → Cell) (put :
   HasPut-cases =
       ⊎_elim
       (λ (found : (k : ℕ) × (k < length bytes) × (was.bottom x ≡ was.bottom (at + k))). inl
-          (found.0, found.1, found.2, put.written x found.0 inside found.1 found.2))
+      (found.0, found.1, found.2, put.written x found.0 inside found.1 found.2))
       (λ (apart : (k : ℕ) → k < length bytes → was.bottom x ≢ was.bottom (at + k)). inr (apart, put.others x inside apart))
       (find_value (λ k. was.bottom (at + k)) (was.bottom x) (length bytes))
 
@@ -80,8 +80,8 @@ module _ (was : State) (at : ℕ) (bytes : List ℕ) (new : ℕ → Cell) (put :
       ⊎_elim
       (λ (found : (k : ℕ) × (k < length bytes) × (was.bottom x ≡ was.bottom (at + k)) × (new x ≡ Byte (get_or bytes k 0))). rw found.3 tt)
       (λ (softer : ((k : ℕ) → k < length bytes → was.bottom x ≢ was.bottom (at + k))
-          × Softens was at (length bytes) x (new x)). SoftensFrom-unspoilt was at (length bytes) x (was.cells x)
-          (new x) softer.1 ok)
+      × Softens was at (length bytes) x (new x)). SoftensFrom-unspoilt was at (length bytes) x (was.cells x)
+      (new x) softer.1 ok)
       HasPut-cases
 
   pub HasPut-clearable : IsClearable (was.cells x) → IsClearable (new x)
@@ -89,8 +89,8 @@ module _ (was : State) (at : ℕ) (bytes : List ℕ) (new : ℕ → Cell) (put :
       ⊎_elim
       (λ (found : (k : ℕ) × (k < length bytes) × (was.bottom x ≡ was.bottom (at + k)) × (new x ≡ Byte (get_or bytes k 0))). rw found.3 tt)
       (λ (softer : ((k : ℕ) → k < length bytes → was.bottom x ≢ was.bottom (at + k))
-          × Softens was at (length bytes) x (new x)). SoftensFrom-clearable was at (length bytes) x (was.cells x)
-          (new x) softer.1 ok)
+      × Softens was at (length bytes) x (new x)). SoftensFrom-clearable was at (length bytes) x (was.cells x)
+      (new x) softer.1 ok)
       HasPut-cases
 
   HasPut-blank : IsBlank (new x) → IsBlank (was.cells x)
@@ -98,8 +98,8 @@ module _ (was : State) (at : ℕ) (bytes : List ℕ) (new : ℕ → Cell) (put :
       ⊎_elim
       (λ (found : (k : ℕ) × (k < length bytes) × (was.bottom x ≡ was.bottom (at + k)) × (new x ≡ Byte (get_or bytes k 0))). absurd (rw found.3 at blank))
       (λ (softer : ((k : ℕ) → k < length bytes → was.bottom x ≢ was.bottom (at + k))
-          × Softens was at (length bytes) x (new x)). SoftensFrom-blank was at (length bytes) x (was.cells x) (new x)
-          softer.1 blank)
+      × Softens was at (length bytes) x (new x)). SoftensFrom-blank was at (length bytes) x (was.cells x) (new x)
+      softer.1 blank)
       HasPut-cases
 
 -- no cell of the n from a place on is spoilt
@@ -130,8 +130,8 @@ same_block_len shape blocks x y in_x in_y same =
     ⊎_elim
     (λ (near : x < shape.block_start y + shape.block_len y). blocks.same_len y x in_y (omega (arith, blocks.starts x in_x)) near)
     (λ (far : shape.block_start y + shape.block_len y ≤ x). sym
-        (blocks.same_len x y in_x (omega (arith, blocks.starts y in_y))
-        (omega (arith, blocks.ends y in_y, blocks.ends x in_x))))
+    (blocks.same_len x y in_x (omega (arith, blocks.starts y in_y))
+    (omega (arith, blocks.ends y in_y, blocks.ends x in_x))))
     (cases_lt x (shape.block_start y + shape.block_len y))
 
 -- each cell of a block that was cleared is zero
@@ -179,8 +179,8 @@ module _ (was mid : State) (at : ℕ) (xs ys : List ℕ) (new : ℕ → Cell) (s
       let place : at + k ≡ at + length xs + (k - length xs) = omega arith in
       let there : was.bottom x ≡ was.bottom (at + length xs + (k - length xs)) = rw place at same in
       rw (get_or-append_right xs ys (length xs) k 0 refl behind)
-          (second.written x (k - length xs) (omega (arith, same_size)) (back behind)
-          (mid_twin x (k - length xs) below (back behind) there)))
+      (second.written x (k - length xs) (omega (arith, same_size)) (back behind)
+      (mid_twin x (k - length xs) below (back behind) there)))
       (cases_lt k (length xs))
 
   -- a place that the second range meets in its own block, and one that it does not
@@ -242,7 +242,7 @@ module _ (was mid : State) (at : ℕ) (xs ys : List ℕ) (new : ℕ → Cell) (s
       now)
       (λ (missed : (k : ℕ) → k < length xs → was.shape.block_start (was.bottom x) ≢ was.shape.block_start (was.bottom (at + k))).
       second_met x part level block (met_later x below met missed) (mid.cells x)
-          (soft.unmet (λ first_met. missed first_met.0 first_met.1 first_met.2)) then_soft)
+      (soft.unmet (λ first_met. missed first_met.0 first_met.1 first_met.2)) then_soft)
       (find_value (λ k. was.shape.block_start (was.bottom (at + k))) (was.shape.block_start (was.bottom x)) (length xs))
 
   both_blank_unmet : (x part level block : ℕ) → x < was.shape.size → was.cells x ≡ Blank part level block
@@ -256,16 +256,17 @@ module _ (was mid : State) (at : ℕ) (xs ys : List ℕ) (new : ℕ → Cell) (s
       (λ (same : mid.cells x ≡ Blank part level block).
       let now : SoftensFrom mid (at + length xs) (length ys) x (Blank part level block) (new x) = rw same at then_soft in
       ⊎_elim inl (λ (later : HasBlank mid (at + length xs) (length ys) part level block
-          × IsDeeper part level (new x)). inr (blank_in_both x part level block below same was_is later.0, later.1))
-          (now.unmet unmet_second))
+      × IsDeeper part level (new x)). inr (blank_in_both x part level block below same was_is later.0, later.1))
+      (now.unmet unmet_second))
       (λ (deeper : HasBlank was at (length xs) part level block × IsDeeper part level (mid.cells x)).
       let now : SoftensFrom mid (at + length xs) (length ys) x (Blank part deeper.1.0 deeper.1.1) (new x) = rw deeper.1.3 at then_soft in
       ⊎_elim
       (λ (stays : new x ≡ Blank part deeper.1.0 deeper.1.1). inr (blank_by_first part level block deeper.0, (deeper.1.0, deeper.1.1, deeper.1.2, stays)))
       (λ (later : HasBlank mid (at + length xs) (length ys) part deeper.1.0 deeper.1.1
-          × IsDeeper part deeper.1.0 (new x)). inr
-          (blank_by_first part level block deeper.0,
-          (later.1.0, later.1.1, omega (arith, deeper.1.2, later.1.2), later.1.3)))
+      × IsDeeper part deeper.1.0 (new x)). inr (
+        blank_by_first part level block deeper.0,
+        (later.1.0, later.1.1, omega (arith, deeper.1.2, later.1.2), later.1.3),
+      ))
       (now.unmet unmet_second))
       (soft.unmet (λ met. unmet (met_by_first x met)))
 
@@ -290,8 +291,8 @@ module _ (was mid : State) (at : ℕ) (xs ys : List ℕ) (new : ℕ → Cell) (s
       let missed_first : (k : ℕ) → k < length xs → was.bottom x ≢ was.bottom (at + k) = λ k h. missed k (omega (arith, length-append xs ys)) in
       let missed_second : (k : ℕ) → k < length ys → mid.bottom x ≢ mid.bottom (at + length xs + k) = λ k h e.
       (let place : at + (length xs + k) ≡ at + length xs + k =
-          omega arith in missed (length xs + k) (omega (arith, length-append xs ys))
-          (rw place (was_twin x k below h e))) in
+      omega arith in missed (length xs + k) (omega (arith, length-append xs ys))
+      (rw place (was_twin x k below h e))) in
       both_soften x below (was.cells x) refl (first.others x below missed_first) (second.others x (omega (arith, same_size)) missed_second)
 
   -- they put both pieces

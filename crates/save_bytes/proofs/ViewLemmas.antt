@@ -76,15 +76,15 @@ shown_put base view place at bytes base_new view_new shows fits run new put = re
       new x below ∙ put.written (place x) k (shows.inside x below) within there);
   others = λ x below apart.
       (let missed : (k : ℕ) → k < length bytes
-          → base.bottom (place x) ≢ base.bottom (place at + k) =
-          λ k within same. apart k within
-          (rw (shows.bottom x below, run_bottom base view place shows at (length bytes) fits run k within) same) in
+      → base.bottom (place x) ≢ base.bottom (place at + k) =
+      λ k within same. apart k within
+      (rw (shows.bottom x below, run_bottom base view place shows at (length bytes) fits run k within) same) in
       let soft = put.others (place x) (shows.inside x below) missed in
       rw (shows.cells x below, new x below)
-          (shown_softens base view place shows at (length bytes) fits run x below (base.cells (place x))
-          (base_new (place x)) soft));
+      (shown_softens base view place shows at (length bytes) fits run x below (base.cells (place x))
+      (base_new (place x)) soft));
   joined = λ x y in_x in_y blank same.
       (let there = put.joined (place x) (place y) (shows.inside x in_x) (shows.inside y in_y)
-          (rw (new x in_x) at blank) (rw (new x in_x, new y in_y) at same) in
+      (rw (new x in_x) at blank) (rw (new x in_x, new y in_y) at same) in
       rw (shows.cells x in_x, shows.cells y in_y) there);
 }

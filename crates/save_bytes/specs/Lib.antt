@@ -10,5 +10,6 @@ pub mod Puts
 pub mod Spots
 pub mod Reads
 pub mod Writes
+pub mod Extents
 pub mod Memory
 pub mod MemoryLaws

@@ -1,6 +1,7 @@
 //! What every layer shares: the fields of a format, the words of a command line, and spaces, which are lists of cells.
 #![tactic(auto)]
 
+mod extent;
 mod fields;
 mod memory;
 mod name;
@@ -8,6 +9,7 @@ mod reading;
 mod space;
 mod words;
 
+pub use extent::{Extent, some_overlap};
 pub use fields::{set_u32, set_u64, u32_at, u64_at};
 pub use memory::MemSpace;
 pub use name::Name;

@@ -1,5 +1,5 @@
 use Rattle.std.proofs.Common.{sym, ◌∙◌, ap, Ok}
-use Rattle.container_header.specs.declared.header.Extent.{Extent}
+use Rattle.save_bytes.specs.declared.extent.Extent.{Extent}
 use Rattle.difi.specs.declared.descriptor.Difi.{Difi}
 use Rattle.container.proofs.PartLemmas.{fields_place, reading_at, sound_at}
 use Rattle.container.proofs.table.open_part.Goals as goal

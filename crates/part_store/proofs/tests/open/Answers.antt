@@ -1,7 +1,8 @@
 use Rattle.std.proofs.Common.{◌≡◌, ◌+◌, Result, Ok, Err, IfOk, refl, sym, subst, arith}
 use Rattle.save_bytes.specs.Memory.{memory_shape}
 use Rattle.difi.specs.declared.descriptor.Difi.{Difi}
-use Rattle.difi.specs.Sound.{HasSoundLevels, AreApart, difi_part}
+use Rattle.save_bytes.specs.Extents.{AreApart}
+use Rattle.difi.specs.Sound.{HasSoundLevels, difi_part}
 use Rattle.dpfs_tree.specs.Marks.{IsFreshContents}
 use Rattle.ivfc_tree.specs.Marks.{IsMadeFor}
 use Rattle.part_store.specs.declared.part.Part.{Part}

@@ -15,7 +15,7 @@ returns-clause-flipped c =
     let inside : at < length header.raw = omega arith in
     let size : length c.args.hash.now ≡ 32 = omega arith in
     let bytes = flip_bytes header.raw c.args.hash.now c.copy_from_slice.new.self at place c.other_table-active.result
-        inside size c.copy_from_slice.ensures.after in
+    inside size c.copy_from_slice.ensures.after in
     let by_at = c.active_place.ensures in
     let by_place = c.hash_place-hash_place.ensures in
     let by_active = c.other_table-active.ensures in

@@ -5,7 +5,7 @@ use Rattle.save_bytes.proofs.memory.MemSpaceSpace.put.Goals as goal
 pub returns-clause-puts : goal.returns-clause-puts
 returns-clause-puts c =
     bytes_put c.args.self.now.bytes.now c.args.at c.args.bytes.now c.write_part.new.bytes
-        (record { fits = c.requires.inside.inside; is = c.write_part.ensures }) c.args.self.now.block
+    (record { fits = c.requires.inside.inside; is = c.write_part.ensures }) c.args.self.now.block
 
 pub returns-clause-moves : goal.returns-clause-moves
 returns-clause-moves c =

@@ -1,7 +1,7 @@
 use Rattle.std.proofs.Common.{sym, ◌∙◌}
 use Rattle.std.proofs.lemmas.List.{take_rest}
-use Rattle.difi.proofs.PlaceLemmas.{overlap_here, no_overlap_here, no_overlap_behind}
-use Rattle.difi.proofs.places.some_overlap.Goals as goal
+use Rattle.save_bytes.proofs.ExtentLemmas.{overlap_here, no_overlap_here, no_overlap_behind}
+use Rattle.save_bytes.proofs.extent.some_overlap.Goals as goal
 
 pub returns-then-overlaps_any : goal.returns-then-overlaps_any
 returns-then-overlaps_any c =
