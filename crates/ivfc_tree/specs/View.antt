@@ -23,11 +23,13 @@ use Rattle.ivfc_tree.specs.Marks.{IsMadeFor}
 use Rattle.ivfc_tree.specs.Paths.{block_state, cell_in}
 
 -- what a view needs of its base, its descriptor, its master hash and its state: the base is laid out as the double-copy
--- tree's contents, never answers that a cell is damaged, and has neither twins nor fixed places
+-- tree's contents, each place of it may be written, it never answers that a cell is damaged, and it has neither twins nor fixed
+-- places
 pub record CanView (base : Shape) (difi : Difi) (master_len : ℕ) (state : IvfcState) : Type 0 where
   pub sound : IsTrue base.sound
   pub plain : IsTrue base.plain
   pub single : IsFalse base.doubled
+  pub first : base.first ≡ 0
   pub base_len : base.size ≡ view_size difi
   pub whole_master : master_len ≡ difi.master.size
   pub block_sizes : HasBlockSizes difi
@@ -37,10 +39,10 @@ pub record CanView (base : Shape) (difi : Difi) (master_len : ℕ) (state : Ivfc
 -- the same as a test
 unfoldable pub can_view : Shape → Difi → ℕ → IvfcState → Bool
 can_view base difi master_len state =
-    base.sound && (base.plain && (not base.doubled && ((base.size == view_size difi) && ((master_len == difi.master.size)
+    base.sound && (base.plain && (not base.doubled && ((base.first == 0) && ((base.size == view_size difi) && ((master_len == difi.master.size)
     && (not (has_bad_log difi) && (not (has_bad_level difi) && (not (has_overlapping_levels difi) && (not (has_too_few_entries difi)
     && ((length state.put1.items == blocks_of difi.ivfc1) && ((length state.put2.items == blocks_of difi.ivfc2)
-    && ((length state.put3.items == blocks_of difi.ivfc3) && (length state.put4.items == blocks_of difi.ivfc4))))))))))))
+    && ((length state.put3.items == blocks_of difi.ivfc3) && (length state.put4.items == blocks_of difi.ivfc4)))))))))))))
 
 -- what follows where the base's size is a number of 64 bits: the levels lie in the base, apart from each other, in blocks
 -- of 2 ^ 9 to 2 ^ 16 bytes
@@ -48,6 +50,7 @@ pub record HasLevels (base : Shape) (difi : Difi) : Type 0 where
   pub sound : IsTrue base.sound
   pub plain : IsTrue base.plain
   pub single : IsFalse base.doubled
+  pub first : base.first ≡ 0
   pub small : base.size < 2 ^ 64
   pub logs : (level : ℕ) → IsLevel level → IsBetween 9 16 (level_of difi level).log
   pub inside : (level : ℕ) → IsLevel level → (level_of difi level).at + (level_of difi level).size ≤ base.size

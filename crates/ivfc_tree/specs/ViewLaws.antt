@@ -89,6 +89,7 @@ can_view-true base difi master_len state h =
     and_from _ _ h.sound
     (and_from _ _ h.plain
     (and_from _ _ (ap not h.single)
+    (and_from _ _ (eq-eqb _ _ h.first)
     (and_from _ _ (eq-eqb _ _ h.base_len)
     (and_from _ _ (eq-eqb _ _ h.whole_master)
     (and_from _ _ (ap not (has_bad_log-none difi h.block_sizes))
@@ -97,7 +98,7 @@ can_view-true base difi master_len state h =
     (and_from _ _ (ap not (has_too_few_entries-none difi h.hash_levels))
     (and_from _ _ (eq-eqb _ _ h.made.marks1)
     (and_from _ _ (eq-eqb _ _ h.made.marks2)
-    (and_from _ _ (eq-eqb _ _ h.made.marks3) (eq-eqb _ _ h.made.marks4))))))))))))
+    (and_from _ _ (eq-eqb _ _ h.made.marks3) (eq-eqb _ _ h.made.marks4)))))))))))))
 
 -- and only there
 pub true-can_view : (base : Shape) (difi : Difi) (master_len : ℕ) (state : IvfcState)
@@ -108,7 +109,8 @@ true-can_view base difi master_len state h =
     let sound = and_parts _ _ h in
     let plain = and_parts _ _ sound.1 in
     let single = and_parts _ _ plain.1 in
-    let base_len = and_parts _ _ single.1 in
+    let first = and_parts _ _ single.1 in
+    let base_len = and_parts _ _ first.1 in
     let master = and_parts _ _ base_len.1 in
     let logs = and_parts _ _ master.1 in
     let level = and_parts _ _ logs.1 in
@@ -121,6 +123,7 @@ true-can_view base difi master_len state h =
       sound = sound.0;
       plain = plain.0;
       single = not-true _ single.0;
+      first = eqb-true _ _ first.0;
       base_len = eqb-true _ _ base_len.0;
       whole_master = eqb-true _ _ master.0;
       block_sizes = block_sizes difi (not-true _ logs.0);
@@ -146,6 +149,7 @@ tree_of base difi master_len state small h =
         sound = h.sound;
         plain = h.plain;
         single = h.single;
+        first = h.first;
         small = small;
         logs = by_level (λ level. IsBetween 9 16 (level_of difi level).log) h.block_sizes.ivfc1 h.block_sizes.ivfc2
             h.block_sizes.ivfc3

@@ -56,6 +56,7 @@ hash_view base part table view =
       sound = contents_pass base.shape part.at difi part.dpfs view.contents;
       plain = view.contents.plain;
       single = refl;
+      first = refl;
       base_len = refl;
       whole_master = length-take-le difi.master.size (drop from table) (omega (arith, length-drop from table, view.master));
       block_sizes = levels.block_sizes;
