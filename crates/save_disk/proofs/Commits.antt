@@ -50,7 +50,7 @@ module _ (grain : ℕ) (image : List ℕ) (sector : ℕ) (bytes : List ℕ) (beg
       ∙ ⊎_elim
       (λ (lower : other < sector). with_sector-before grain image sector bytes begins whole (other * grain + k) (below_sector other sector k lower small))
       (λ (upper : sector ≤ other). with_sector-behind grain image sector bytes begins whole (other * grain + k)
-          (behind_sector other sector k upper (λ same. apart (sym same))) inside)
+      (behind_sector other sector k upper (λ same. apart (sym same))) inside)
       (cases_lt other sector)
       ∙ sym (sector_cut-byte grain image other k small))
     where
@@ -71,16 +71,16 @@ module _ (grain : ℕ) (start : List ℕ) (events : List Event) (sector : ℕ) (
       → (sector_cut grain left n ≡ sector_cut grain image n) ⊎ ((n ≡ sector) × (sector_cut grain left n ≡ take (length image - n * grain) bytes))
   old_or_new image is same n below =
       let all : synced (events ++ Write sector bytes ∷ []) ≡ events =
-          synced-open (Write sector bytes ∷ []) refl events ∙ sym (append-nil (synced events))
-          ∙ ap (λ (l : List Event). synced events ++ l) (sym kept) ∙ synced-unsynced events in
+      synced-open (Write sector bytes ∷ []) refl events ∙ sym (append-nil (synced events))
+      ∙ ap (λ (l : List Event). synced events ++ l) (sym kept) ∙ synced-unsynced events in
       let one : unsynced (events ++ Write sector bytes ∷ []) ≡ Write sector bytes ∷ [] =
-          unsynced-open (Write sector bytes ∷ []) refl events
-          ∙ ap (λ (l : List Event). l ++ Write sector bytes ∷ []) kept in
+      unsynced-open (Write sector bytes ∷ []) refl events
+      ∙ ap (λ (l : List Event). l ++ Write sector bytes ∷ []) kept in
       ⊎_elim
       (λ (old : sector_cut grain left n ≡ sector_cut grain (image_after grain start (synced (events ++ Write sector bytes ∷ []))) n).
       inl (old ∙ ap (λ (l : List Event). sector_cut grain (image_after grain start l) n) all ∙ ap (λ (l : List ℕ). sector_cut grain l n) (sym is)))
       (λ (new : (written : List ℕ) × HasWrite (unsynced (events ++ Write sector bytes ∷ [])) n written
-          × (sector_cut grain left n ≡ take (length start - n * grain) written)).
+      × (sector_cut grain left n ≡ take (length start - n * grain) written)).
       ⊎_elim
       (λ (here : Write sector bytes ≡ Write n new.0).
       let same_bytes : bytes ≡ new.0 = cc in
@@ -99,18 +99,18 @@ module _ (grain : ℕ) (start : List ℕ) (events : List Event) (sector : ℕ) (
       (λ (old : sector_cut grain left sector ≡ sector_cut grain image sector).
       inl (same_from_sectors grain left image some (leaves.size ∙ sym same) (λ n below.
       ⊎_elim (λ e. e) (λ (here : (n ≡ sector) × (sector_cut grain left n ≡ take (length image - n * grain) bytes)).
-          rw here.0 old) (old_or_new image is same n (omega arith)))))
+      rw here.0 old) (old_or_new image is same n (omega arith)))))
       (λ (new : (sector ≡ sector) × (sector_cut grain left sector ≡ take (length image - sector * grain) bytes)).
       inr (same_from_sectors grain left (with_sector grain image sector bytes) some
-          (leaves.size ∙ sym same ∙ sym (length-with_sector grain image sector bytes begins fit.0)) (λ n below.
+      (leaves.size ∙ sym same ∙ sym (length-with_sector grain image sector bytes begins fit.0)) (λ n below.
       ⊎_elim
       (λ (here : n ≡ sector). rw here (new.1 ∙ sym (cut_own grain image sector bytes begins fit.0)))
       (λ (apart : n ≢ sector).
       ⊎_elim (λ (e : sector_cut grain left n ≡ sector_cut grain image n). e
-          ∙ sym (cut_other grain image sector bytes begins fit.0 n apart))
-          (λ (here : (n ≡ sector) × (sector_cut grain left n ≡ take (length image - n * grain) bytes)). absurd
-          (apart here.0)) (old_or_new image is same n
-          (omega (arith, length-with_sector grain image sector bytes begins fit.0))))
+      ∙ sym (cut_other grain image sector bytes begins fit.0 n apart))
+      (λ (here : (n ≡ sector) × (sector_cut grain left n ≡ take (length image - n * grain) bytes)). absurd
+      (apart here.0)) (old_or_new image is same n
+      (omega (arith, length-with_sector grain image sector bytes begins fit.0))))
       (cases_eq n sector))))
       (old_or_new image is same sector fit.1)
 
@@ -118,10 +118,10 @@ module _ (grain : ℕ) (start : List ℕ) (events : List Event) (sector : ℕ) (
   one_write_leaves =
       let image = image_after grain start events in
       let same : length (image_after grain start events) ≡ length start =
-          length-image_after grain start events
-          (each_write-front (Fits grain (length start)) events (Write sector bytes ∷ []) fits) in
+      length-image_after grain start events
+      (each_write-front (Fits grain (length start)) events (Write sector bytes ∷ []) fits) in
       ⊎_elim inl (λ new. inr (new ∙ sym (image_after-append grain start events (Write sector bytes ∷ []))))
-          (whole_write (image_after grain start events) refl same)
+      (whole_write (image_after grain start events) refl same)
 
 take_empty : (k : ℕ) → take {A = Event} k [] ≡ []
 take_empty zero = refl
@@ -137,7 +137,7 @@ module _ (events writes : List Event) (sector : ℕ) (bytes : List ℕ) where
   pub none_since : HasNoWrite (unsynced (events ++ committing writes sector bytes))
   none_since number written has =
       let none : unsynced (events ++ committing writes sector bytes) ≡ [] = ap unsynced ends_synced
-          ∙ unsynced-sync (events ++ (writes ++ Sync ∷ Write sector bytes ∷ [])) in
+      ∙ unsynced-sync (events ++ (writes ++ Sync ∷ Write sector bytes ∷ [])) in
       subst (λ (l : List Event). HasWrite l number written) none has
 
   all_kept : synced (events ++ committing writes sector bytes) ≡ (events ++ (writes ++ Sync ∷ Write sector bytes ∷ [])) ++ Sync ∷ []
@@ -192,28 +192,28 @@ module _ (places : ℕ → Bool) (image : List ℕ) (grain : ℕ) (start : List 
   safe_written fits left leaves =
       let middle : List Event = events ++ (writes ++ Sync ∷ []) in
       let whole : (events ++ (writes ++ Sync ∷ [])) ++ Write sector
-          bytes ∷ [] ≡ events ++ (writes ++ Sync ∷ Write sector bytes ∷ []) =
-          append_assoc events (writes ++ Sync ∷ []) (Write sector bytes ∷ [])
-          ∙ ap (λ (l : List Event). events ++ l) synced_front in
+      bytes ∷ [] ≡ events ++ (writes ++ Sync ∷ Write sector bytes ∷ []) =
+      append_assoc events (writes ++ Sync ∷ []) (Write sector bytes ∷ [])
+      ∙ ap (λ (l : List Event). events ++ l) synced_front in
       let split : events ++ (writes ++ Sync ∷ []) ≡ (events ++ writes) ++ Sync ∷ [] = sym (append_assoc events writes (Sync ∷ [])) in
       let fits_whole : EachWrite (Fits grain (length start))
-          ((events ++ (writes ++ Sync ∷ [])) ++ Write sector bytes ∷ []) =
-          subst (EachWrite (Fits grain (length start))) (sym whole) fits in
+      ((events ++ (writes ++ Sync ∷ [])) ++ Write sector bytes ∷ []) =
+      subst (EachWrite (Fits grain (length start))) (sym whole) fits in
       let leaves_whole : CrashMayLeave grain start ((events ++ (writes ++ Sync ∷ [])) ++ Write sector bytes ∷ [])
-          left = subst (λ (l : List Event). CrashMayLeave grain start l left) (sym whole) leaves in
+      left = subst (λ (l : List Event). CrashMayLeave grain start l left) (sym whole) leaves in
       let none : unsynced (events ++ (writes ++ Sync ∷ [])) ≡ [] = ap unsynced split ∙ unsynced-sync (events ++ writes) in
       let fits_middle : EachWrite (Fits grain (length start)) (events ++ (writes ++ Sync ∷ [])) =
-          each_write-front (Fits grain (length start)) (events ++ (writes ++ Sync ∷ [])) (Write sector bytes ∷ [])
-          fits_whole in
+      each_write-front (Fits grain (length start)) (events ++ (writes ++ Sync ∷ [])) (Write sector bytes ∷ [])
+      fits_whole in
       let kept : Keeps places image grain start (events ++ (writes ++ Sync ∷ [])) =
-          keeps_more places image grain start events (writes ++ Sync ∷ []) fits_middle
-          (each_write-append (HoldsAll places grain image) writes (Sync ∷ []) holds no_write_in_sync) keeps in
+      keeps_more places image grain start events (writes ++ Sync ∷ []) fits_middle
+      (each_write-append (HoldsAll places grain image) writes (Sync ∷ []) holds no_write_in_sync) keeps in
       ⊎_elim
       (λ (old : left ≡ image_after grain start (events ++ (writes ++ Sync ∷ []))). inl
-          (subst (Agree places image) (sym old)
-          (keeps_now places image grain start (events ++ (writes ++ Sync ∷ [])) fits_middle kept)))
+      (subst (Agree places image) (sym old)
+      (keeps_now places image grain start (events ++ (writes ++ Sync ∷ [])) fits_middle kept)))
       (λ (new : left ≡ image_after grain start ((events ++ (writes ++ Sync ∷ [])) ++ Write sector bytes ∷ [])). inr
-          (new ∙ ap (image_after grain start) whole ∙ image_synced grain start events writes sector bytes))
+      (new ∙ ap (image_after grain start) whole ∙ image_synced grain start events writes sector bytes))
       (one_write_leaves grain start (events ++ (writes ++ Sync ∷ [])) sector bytes left some fits_whole none leaves_whole)
 
   -- with the sync behind that
@@ -233,8 +233,8 @@ module _ (places : ℕ → Bool) (image : List ℕ) (grain : ℕ) (start : List 
   commit_leaves moment =
       ⊎_elim
       (λ (early : moment < length writes). subst IsSafe
-          (sym (take-append-le moment writes (Sync ∷ Write sector bytes ∷ Sync ∷ []) (omega arith)))
-          (safe_held (take moment writes) (each_write-take (HoldsAll places grain image) moment writes holds)))
+      (sym (take-append-le moment writes (Sync ∷ Write sector bytes ∷ Sync ∷ []) (omega arith)))
+      (safe_held (take moment writes) (each_write-take (HoldsAll places grain image) moment writes holds)))
       (λ (late : length writes ≤ moment).
       let k : length writes + (moment - length writes) ≡ moment = omega arith in
       subst (λ (m : ℕ). IsSafe (take m (committing writes sector bytes))) k
@@ -248,8 +248,8 @@ pub held_leaves :
     → EachStop (Agree places image) grain start events added
 held_leaves places image grain start events added some keeps holds moment fits left leaves =
     kept_leaves places image grain start (events ++ take moment added) some
-        (keeps_more places image grain start events (take moment added) fits
-        (each_write-take (HoldsAll places grain image) moment added holds) keeps) left leaves
+    (keeps_more places image grain start events (take moment added) fits
+    (each_write-take (HoldsAll places grain image) moment added holds) keeps) left leaves
 
 -- stops while events come, and while more come behind them
 pub stops-append :
@@ -258,9 +258,9 @@ pub stops-append :
     → EachStop P grain start events (xs ++ ys)
 stops-append P grain start events xs ys first second =
     moments_join (λ front. EachWrite (Fits grain (length start)) (events ++ front) → (left : List ℕ)
-        → CrashMayLeave grain start (events ++ front) left → P left) xs ys first
+    → CrashMayLeave grain start (events ++ front) left → P left) xs ys first
     (λ moment. subst (λ (l : List Event). EachWrite (Fits grain (length start)) l → (left : List ℕ)
-        → CrashMayLeave grain start l left → P left) (append_assoc events xs (take moment ys)) (second moment))
+    → CrashMayLeave grain start l left → P left) (append_assoc events xs (take moment ys)) (second moment))
 
 pub stops-map :
     (P Q : List ℕ → Type 0) (grain : ℕ) (start : List ℕ) (events added : List Event)

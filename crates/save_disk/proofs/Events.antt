@@ -68,5 +68,5 @@ module _ (Q : ℕ → List ℕ → Type 0) where
       → now ≡ events ++ event ∷ [] → EachWrite Q (event_of event ∷ []) → EachWrite Q (map event_of now)
   each_write_more events now event was more such =
       let whole : map event_of events ++ event_of event ∷ [] ≡ map event_of now = sym (map_push event_of events event)
-          ∙ ap (λ (l : List KeptEvent). map event_of l) (sym more) in
+      ∙ ap (λ (l : List KeptEvent). map event_of l) (sym more) in
       subst (EachWrite Q) whole (each_write-append Q (map event_of events) (event_of event ∷ []) was such)

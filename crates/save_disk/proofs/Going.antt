@@ -17,8 +17,8 @@ front_of_front moment n all =
     ⊎_elim
     (λ (early : moment < n). let found : (k : ℕ) × (take moment (take n all) ≡ take k all) = (moment, take-take moment n all (omega arith)) in found)
     (λ (late : n ≤ moment). let found : (k : ℕ)
-        × (take moment (take n all) ≡ take k all) =
-        (n, take_all moment (take n all) (omega (arith, length-take n all))) in found)
+    × (take moment (take n all) ≡ take k all) =
+    (n, take_all moment (take n all) (omega (arith, length-take n all))) in found)
     (cases_lt moment n)
 
 -- where each write fits, what holds at each moment of a list holds at each of its fronts
@@ -30,11 +30,11 @@ front_stops P told all added (n, is) fits stops moment left leaves =
     let found = front_of_front moment n all in
     let same : take moment added ≡ take found.0 all = ap (take moment) is ∙ found.1 in
     let whole : (told.events ++ take moment added) ++ drop moment added ≡ told.events ++ added =
-        append_assoc told.events (take moment added) (drop moment added)
-        ∙ ap (λ (l : List Event). told.events ++ l) (take-append-drop moment added) in
+    append_assoc told.events (take moment added) (drop moment added)
+    ∙ ap (λ (l : List Event). told.events ++ l) (take-append-drop moment added) in
     let fit : EachWrite (Fits told.grain (length told.start)) (told.events ++ take moment added) =
-        each_write-front (Fits told.grain (length told.start)) (told.events ++ take moment added) (drop moment added)
-        (subst (EachWrite (Fits told.grain (length told.start))) (sym whole) fits) in
+    each_write-front (Fits told.grain (length told.start)) (told.events ++ take moment added) (drop moment added)
+    (subst (EachWrite (Fits told.grain (length told.start))) (sym whole) fits) in
     (rw (← same) at (stops found.0)) fit left leaves
 
 module _ (places : ℕ → Bool) (image : List ℕ) (before after : State) (told : Told) (writes : List Event) (sector : ℕ) (bytes : List ℕ) where

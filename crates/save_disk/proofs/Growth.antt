@@ -71,9 +71,12 @@ module _ (P : List Event → Type 0) where
   happened : (event : Event) (o p : Option Told) → p ≡ option_map (then_event event) o → P (event ∷ [])
       → MatchOption o (p ≡ None) (λ told. (next : Told) × (p ≡ Some next) × GrewBy P told next)
   happened event None p is such = is
-  happened event (Some told) p is such =
-      (then_event event told, is, record
-      { start = refl; grain = refl; left = refl; added = event ∷ []; events = refl; such = such })
+  happened event (Some told) p is such = (
+    then_event event told,
+    is,
+    record
+        { start = refl; grain = refl; left = refl; added = event ∷ []; events = refl; such = such },
+  )
 
   -- one event
   pub grew_happens : (event : Event) (one two : State) → Happens event one two → P (event ∷ []) → GoesOn (GrewBy P) one two
@@ -83,11 +86,25 @@ module _ (P : List Event → Type 0) where
   failed sector bytes a b fails none such =
       ⊎_elim
       (λ (same : b.events ≡ a.events). let grew : GrewBy P a b =
-          record { start = fails.start; grain = fails.grain; left = fails.left; added = []; events = same
-          ∙ sym (append-nil a.events); such = none } in grew)
+      record {
+        start = fails.start;
+        grain = fails.grain;
+        left = fails.left;
+        added = [];
+        events = same
+            ∙ sym (append-nil a.events);
+        such = none;
+      } in grew)
       (λ (more : b.events ≡ a.events ++ Write sector bytes ∷ []). let grew : GrewBy P a b =
-          record { start = fails.start; grain = fails.grain; left = fails.left; added =
-          Write sector bytes ∷ []; events = more; such = such } in grew)
+      record {
+        start = fails.start;
+        grain = fails.grain;
+        left = fails.left;
+        added =
+            Write sector bytes ∷ [];
+        events = more;
+        such = such;
+      } in grew)
       fails.events
 
   went_failed : (sector : ℕ) (bytes : List ℕ) (o p : Option Told)

@@ -43,7 +43,7 @@ agree_after places image other grain (Write sector bytes ∷ events) long fits h
     let hold = holds sector bytes (inl refl) in
     let same : length (with_sector grain other sector bytes) ≡ length image = length-with_sector grain other sector bytes (omega (arith, fit.1)) fit.0 ∙ long in
     agree_after places image (with_sector grain other sector bytes) grain events same (λ s b has. fits s b (inr has))
-        (λ s b has. holds s b (inr has)) (agree_written places image other grain sector bytes long fit hold agree)
+    (λ s b has. holds s b (inr has)) (agree_written places image other grain sector bytes long fit hold agree)
 agree_after places image other grain (Sync ∷ events) long fits holds agree =
     agree_after places image other grain events long (λ s b has. fits s b (inr has)) (λ s b has. holds s b (inr has))
     agree
@@ -86,7 +86,7 @@ module _ (places : ℕ → Bool) (image : List ℕ) (grain : ℕ) (start : List 
       let fit : EachWrite (Fits grain (length image)) (unsynced events) = rw keeps.size (fits_unsynced grain start events fits) in
       rw (image_unsynced grain start events fits)
       (agree_after places image (image_after grain start (synced events)) grain (unsynced events)
-          (length-synced grain start events fits ∙ sym keeps.size) fit keeps.since keeps.synced)
+      (length-synced grain start events fits ∙ sym keeps.size) fit keeps.since keeps.synced)
 
   keeps_sync :
       (events : List Event) → EachWrite (Fits grain (length start)) events → Keeps places image grain start events
@@ -130,13 +130,13 @@ module _ (places : ℕ → Bool) (image : List ℕ) (grain : ℕ) (start : List 
       let whole : x / grain * grain + x % grain ≡ x = div-add-mod' x grain in
       let small : x % grain < grain = mod_below x grain some in
       let place : (l : List ℕ) → get_or (sector_cut grain l (x / grain)) (x % grain) 0 ≡ get_or l x 0 =
-          λ l. sector_cut-byte grain l (x / grain) (x % grain) small ∙ ap (λ (y : ℕ). get_or l y 0) whole in
+      λ l. sector_cut-byte grain l (x / grain) (x % grain) small ∙ ap (λ (y : ℕ). get_or l y 0) whole in
       sym (place left)
       ∙ ⊎_elim
       (λ (kept : sector_cut grain left (x / grain) ≡ sector_cut grain (image_after grain start (synced events)) (x / grain)).
       ap (λ (l : List ℕ). get_or l (x % grain) 0) kept ∙ place (image_after grain start (synced events)) ∙ keeps.synced x inside live)
       (λ (later : (bytes : List ℕ) × HasWrite (unsynced events) (x / grain) bytes
-          × (sector_cut grain left (x / grain) ≡ take (length start - x / grain * grain) bytes)).
+      × (sector_cut grain left (x / grain) ≡ take (length start - x / grain * grain) bytes)).
       let offset : x - x / grain * grain ≡ x % grain = omega arith in
       ap (λ (l : List ℕ). get_or l (x % grain) 0) later.2
       ∙ get_or-take (length start - x / grain * grain) later.0 (x % grain) 0 (omega (arith, keeps.size))

@@ -67,8 +67,8 @@ length-image_after grain image (Write sector bytes ∷ events) fits =
     let fit = fits sector bytes (inl refl) in
     let same : length (with_sector grain image sector bytes) ≡ length image = length-with_sector grain image sector bytes fit.1 fit.0 in
     length-image_after grain (with_sector grain image sector bytes) events
-        (λ number written has. subst (λ (n : ℕ). Fits grain n number written) (sym same)
-        (fits number written (inr has))) ∙ same
+    (λ number written has. subst (λ (n : ℕ). Fits grain n number written) (sym same)
+    (fits number written (inr has))) ∙ same
 length-image_after grain image (Sync ∷ events) fits = length-image_after grain image events (λ number written has. fits number written (inr has))
 length-image_after grain image (Said bytes ∷ events) fits = length-image_after grain image events (λ number written has. fits number written (inr has))
 
@@ -104,7 +104,7 @@ module _ (ys : List Event) (none : has_sync ys ≡ false) where
   synced-open [] = synced_none ys none
   synced-open (event ∷ xs) =
       ap (λ (b : Bool). cond b (event ∷ synced (xs ++ ys)) []) (same_test (event ∷ xs))
-          ∙ ap (λ (l : List Event). cond (has_sync (event ∷ xs)) (event ∷ l) []) (synced-open xs)
+      ∙ ap (λ (l : List Event). cond (has_sync (event ∷ xs)) (event ∷ l) []) (synced-open xs)
 
   pub unsynced-open : (xs : List Event) → unsynced (xs ++ ys) ≡ unsynced xs ++ ys
   unsynced-open [] = unsynced_whole ys none
@@ -192,8 +192,12 @@ opened event events free so_far = both (has_sync events) refl
     both :
         (b : Bool) → has_sync events ≡ b
         → cond (has_sync events) (event ∷ synced events) [] ≡ until_sync (event ∷ events) (0 + syncs events)
-    both true has = rw (has, zero-add (syncs events), until_open event events (syncs events) free
-        (some_counted events has)) (ap (λ (l : List Event). event ∷ l) so_far)
+    both true has = rw (
+      has,
+      zero-add (syncs events),
+      until_open event events (syncs events) free
+          (some_counted events has),
+    ) (ap (λ (l : List Event). event ∷ l) so_far)
     both false none = rw (none, zero-add (syncs events), none_counted events none) refl
 
 one-add : (n : ℕ) → 1 + n ≡ suc n

@@ -11,8 +11,8 @@ pub piece_of_sector : (grain image_size : ℕ) (image : List ℕ) (sector from n
 piece_of_sector grain image_size image sector from n at long place inside fits =
     let cut : List ℕ = sector_cut grain image sector in
     let size : length cut ≡ min grain (length image - sector * grain) =
-        length-take grain (drop (sector * grain) image)
-        ∙ ap (λ (k : ℕ). min grain k) (length-drop (sector * grain) image) in
+    length-take grain (drop (sector * grain) image)
+    ∙ ap (λ (k : ℕ). min grain k) (length-drop (sector * grain) image) in
     let whole : from + n ≤ length cut = omega arith in
     let count : from + n - from ≡ n = omega arith in
     let zeros : List ℕ = replicate (grain - length cut) 0 in
@@ -20,11 +20,11 @@ piece_of_sector grain image_size image sector from n at long place inside fits =
     let second : take n (drop from cut ++ zeros) ≡ take n (drop from cut) = take-append-le n (drop from cut) zeros (omega (arith, length-drop from cut)) in
     let split : grain ≡ from + (grain - from) = omega arith in
     let third : drop from cut ≡ take (grain - from) (drop from (drop (sector * grain) image)) =
-        ap (λ (k : ℕ). drop from (take k (drop (sector * grain) image))) split
-        ∙ drop-take from (grain - from) (drop (sector * grain) image) in
+    ap (λ (k : ℕ). drop from (take k (drop (sector * grain) image))) split
+    ∙ drop-take from (grain - from) (drop (sector * grain) image) in
     let fourth : take n (take (grain - from) (drop from (drop (sector * grain) image))) ≡ take n
-        (drop from (drop (sector * grain) image)) =
-        take-take n (grain - from) (drop from (drop (sector * grain) image)) (omega arith) in
+    (drop from (drop (sector * grain) image)) =
+    take-take n (grain - from) (drop from (drop (sector * grain) image)) (omega arith) in
     let fifth : drop from (drop (sector * grain) image) ≡ drop at image = drop-drop from (sector * grain) image ∙ ap (λ (k : ℕ). drop k image) place in
     ap (λ (k : ℕ). take k (drop from (sector_of grain image sector))) count
     ∙ ap (λ (l : List ℕ). take n l) first
@@ -39,10 +39,10 @@ pub read_fresh : (state : State) (told : Told) (sector : ℕ) (bytes : List ℕ)
 read_fresh state told sector bytes sound is fresh read =
     let grain : told.grain ≡ state.grain = subst (λ (o : Option Told). IfSome o (λ t. t.grain ≡ state.grain)) is sound.told_grain in
     let given : bytes ≡ sector_of told.grain (image_now told) sector =
-        subst (λ (o : Option Told). IfSome o
-        (λ t. IsTrue (t.sure sector) → bytes ≡ sector_of t.grain (image_now t) sector)) is read (fresh.sure sector) in
+    subst (λ (o : Option Told). IfSome o
+    (λ t. IsTrue (t.sure sector) → bytes ≡ sector_of t.grain (image_now t) sector)) is read (fresh.sure sector) in
     given ∙ ap (λ (events : _). sector_of told.grain (image_after told.grain told.start events) sector) fresh.silent
-        ∙ ap (λ (k : ℕ). sector_of k told.start sector) grain
+    ∙ ap (λ (k : ℕ). sector_of k told.start sector) grain
 
 pub start_size : (state : State) (told : Told) → IsSound state → state.told ≡ Some told → length told.start ≡ state.size
 start_size state told sound is = subst (λ (o : Option Told). IfSome o (λ t. length t.start ≡ state.size)) is sound.told_size

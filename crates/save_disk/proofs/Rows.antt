@@ -60,17 +60,17 @@ either_write grain some left = (there, back)
         ⊎_elim
         (λ (old : left ≡ sector_cut grain (replicate grain 0) 0). inl (old ∙ first_piece grain 0))
         (λ (new : (bytes : List ℕ) × ((Write 0 (replicate grain 1) ≡ Write 0 bytes) ⊎
-            ((Write 0 (replicate grain 2) ≡ Write 0 bytes) ⊎ ⊥))
-            × (left ≡ take (length (replicate grain 0) - 0 * grain) bytes)).
+        ((Write 0 (replicate grain 2) ≡ Write 0 bytes) ⊎ ⊥))
+        × (left ≡ take (length (replicate grain 0) - 0 * grain) bytes)).
         ⊎_elim
         (λ (first : Write 0 (replicate grain 1) ≡ Write 0 new.0). let same : replicate grain 1 ≡ new.0 =
-            cc in inr (inl (new.2 ∙ ap (take (length (replicate grain 0) - 0 * grain)) (sym same)
-            ∙ whole_piece grain 1 0)))
+        cc in inr (inl (new.2 ∙ ap (take (length (replicate grain 0) - 0 * grain)) (sym same)
+        ∙ whole_piece grain 1 0)))
         (λ (others : (Write 0 (replicate grain 2) ≡ Write 0 new.0) ⊎ ⊥).
         ⊎_elim
         (λ (second : Write 0 (replicate grain 2) ≡ Write 0 new.0). let same : replicate grain 2 ≡ new.0 =
-            cc in inr (inr (new.2 ∙ ap (take (length (replicate grain 0) - 0 * grain)) (sym same)
-            ∙ whole_piece grain 2 0)))
+        cc in inr (inr (new.2 ∙ ap (take (length (replicate grain 0) - 0 * grain)) (sym same)
+        ∙ whole_piece grain 2 0)))
         (λ none. absurd none) others)
         new.1)
         (one_sector grain (replicate grain 0) (Write 0 (replicate grain 1) ∷ Write 0 (replicate grain 2) ∷ []) left some (length-replicate grain 0) leaves).1
@@ -81,17 +81,17 @@ either_write grain some left = (there, back)
     back =
         ⊎_elim
         (λ (old : left ≡ replicate grain 0). of_one_sector grain (replicate grain 0)
-            (Write 0 (replicate grain 1) ∷ Write 0 (replicate grain 2) ∷ []) left some (length-replicate grain 0)
-            (ap length old ∙ length-replicate grain 0) (inl (old ∙ sym (first_piece grain 0))))
+        (Write 0 (replicate grain 1) ∷ Write 0 (replicate grain 2) ∷ []) left some (length-replicate grain 0)
+        (ap length old ∙ length-replicate grain 0) (inl (old ∙ sym (first_piece grain 0))))
         (⊎_elim
         (λ (first : left ≡ replicate grain 1). of_one_sector grain (replicate grain 0)
-            (Write 0 (replicate grain 1) ∷ Write 0 (replicate grain 2) ∷ []) left some (length-replicate grain 0)
-            (ap length first ∙ length-replicate grain 1)
-            (inr (replicate grain 1, inl refl, first ∙ sym (whole_piece grain 1 0))))
+        (Write 0 (replicate grain 1) ∷ Write 0 (replicate grain 2) ∷ []) left some (length-replicate grain 0)
+        (ap length first ∙ length-replicate grain 1)
+        (inr (replicate grain 1, inl refl, first ∙ sym (whole_piece grain 1 0))))
         (λ (second : left ≡ replicate grain 2). of_one_sector grain (replicate grain 0)
-            (Write 0 (replicate grain 1) ∷ Write 0 (replicate grain 2) ∷ []) left some (length-replicate grain 0)
-            (ap length second ∙ length-replicate grain 2)
-            (inr (replicate grain 2, inr (inl refl), second ∙ sym (whole_piece grain 2 0)))))
+        (Write 0 (replicate grain 1) ∷ Write 0 (replicate grain 2) ∷ []) left some (length-replicate grain 0)
+        (ap length second ∙ length-replicate grain 2)
+        (inr (replicate grain 2, inr (inl refl), second ∙ sym (whole_piece grain 2 0)))))
 
 pub synced_or_later : (grain : ℕ) → 1 ≤ grain → LeavesSyncedOrLater grain
 synced_or_later grain some left = (there, back)
@@ -110,10 +110,10 @@ synced_or_later grain some left = (there, back)
         (λ (new : (bytes : List ℕ) × ((Write 0 (replicate grain 2) ≡ Write 0 bytes) ⊎ ⊥) × (left ≡ take (length (replicate grain 0) - 0 * grain) bytes)).
         ⊎_elim
         (λ (second : Write 0 (replicate grain 2) ≡ Write 0 new.0). let same : replicate grain 2 ≡ new.0 =
-            cc in inr (new.2 ∙ ap (take (length (replicate grain 0) - 0 * grain)) (sym same) ∙ whole_piece grain 2 0))
+        cc in inr (new.2 ∙ ap (take (length (replicate grain 0) - 0 * grain)) (sym same) ∙ whole_piece grain 2 0))
         (λ none. absurd none) new.1)
         (one_sector grain (replicate grain 0) (Write 0 (replicate grain 1) ∷ Sync ∷ Write 0 (replicate grain 2) ∷ [])
-            left some (length-replicate grain 0) leaves).1
+        left some (length-replicate grain 0) leaves).1
 
     back :
         (left ≡ replicate grain 1) ⊎ (left ≡ replicate grain 2)
@@ -121,12 +121,12 @@ synced_or_later grain some left = (there, back)
     back =
         ⊎_elim
         (λ (first : left ≡ replicate grain 1). of_one_sector grain (replicate grain 0)
-            (Write 0 (replicate grain 1) ∷ Sync ∷ Write 0 (replicate grain 2) ∷ []) left some
-            (length-replicate grain 0) (ap length first ∙ length-replicate grain 1) (inl (first ∙ sym kept)))
+        (Write 0 (replicate grain 1) ∷ Sync ∷ Write 0 (replicate grain 2) ∷ []) left some
+        (length-replicate grain 0) (ap length first ∙ length-replicate grain 1) (inl (first ∙ sym kept)))
         (λ (second : left ≡ replicate grain 2). of_one_sector grain (replicate grain 0)
-            (Write 0 (replicate grain 1) ∷ Sync ∷ Write 0 (replicate grain 2) ∷ []) left some
-            (length-replicate grain 0) (ap length second ∙ length-replicate grain 2)
-            (inr (replicate grain 2, inl refl, second ∙ sym (whole_piece grain 2 0))))
+        (Write 0 (replicate grain 1) ∷ Sync ∷ Write 0 (replicate grain 2) ∷ []) left some
+        (length-replicate grain 0) (ap length second ∙ length-replicate grain 2)
+        (inr (replicate grain 2, inl refl, second ∙ sym (whole_piece grain 2 0))))
 
 -- the image with the short sector written
 short_written :
@@ -140,9 +140,9 @@ short_written grain some =
     let front : take (1 * grain) (replicate (grain + 3) 0) ≡ replicate grain 0 = rw (one-mul grain) (take-replicate grain (grain + 3) 0 (omega arith)) in
     let middle : take (length (replicate {A = ℕ} (grain + 3) 0) - 1 * grain) (replicate grain 7) ≡ replicate 3 7 = rw three (take-replicate 3 grain 7 some) in
     let rest : drop (1 * grain + grain) (replicate (grain + 3) 0) ≡ [] =
-        drop-replicate (1 * grain + grain) (grain + 3) 0 ∙ ap (λ (n : ℕ). replicate n 0) none in
+    drop-replicate (1 * grain + grain) (grain + 3) 0 ∙ ap (λ (n : ℕ). replicate n 0) none in
     ap (λ (l : List ℕ). (l ++ take (length (replicate {A = ℕ} (grain + 3) 0) - 1 * grain) (replicate grain 7)) ++ drop
-        (1 * grain + grain) (replicate (grain + 3) 0)) front
+    (1 * grain + grain) (replicate (grain + 3) 0)) front
     ∙ ap (λ (l : List ℕ). (replicate grain 0 ++ l) ++ drop (1 * grain + grain) (replicate (grain + 3) 0)) middle
     ∙ ap (λ (l : List ℕ). (replicate grain 0 ++ replicate 3 7) ++ l) rest
     ∙ append-nil (replicate grain 0 ++ replicate 3 7)
@@ -150,8 +150,8 @@ short_written grain some =
 pub short_sector : (grain : ℕ) → 3 ≤ grain → LeavesShortSector grain
 short_sector grain some left leaves =
     let fits : EachWrite (Fits grain (length (replicate {A = ℕ} (grain + 3) 0))) (Write 1 (replicate grain 7) ∷ []) =
-        one_write (Fits grain (length (replicate {A = ℕ} (grain + 3) 0))) 1 (replicate grain 7)
-        (length-replicate grain 7, omega (arith, one-mul grain, length-replicate {A = ℕ} (grain + 3) 0)) in
+    one_write (Fits grain (length (replicate {A = ℕ} (grain + 3) 0))) 1 (replicate grain 7)
+    (length-replicate grain 7, omega (arith, one-mul grain, length-replicate {A = ℕ} (grain + 3) 0)) in
     ⊎_elim inl
     (λ (new : left ≡ with_sector grain (replicate (grain + 3) 0) 1 (replicate grain 7)). inr (new ∙ short_written grain some))
     (one_write_leaves grain (replicate (grain + 3) 0) [] 1 (replicate grain 7) left (omega arith) fits refl leaves)
@@ -172,7 +172,7 @@ pub holds_live_bytes : (grain : ℕ) → 1 ≤ grain → HoldsLiveBytes grain
 holds_live_bytes grain some =
     let Q : ℕ → List ℕ → Type 0 = HoldsAll is_live grain (replicate grain 5) in
     held_leaves is_live (replicate grain 5) grain (replicate grain 5) []
-        (Write 0 (5 ∷ 5 ∷ replicate (grain - 2) 9) ∷ Sync ∷ Write 0 (5 ∷ 5 ∷ replicate (grain - 2) 8) ∷ []) some
+    (Write 0 (5 ∷ 5 ∷ replicate (grain - 2) 9) ∷ Sync ∷ Write 0 (5 ∷ 5 ∷ replicate (grain - 2) 8) ∷ []) some
     (synced_keeps is_live grain (replicate grain 5) [] (λ sector bytes has. absurd has) (λ sector bytes has. has))
     (each_write-append Q (Write 0 (5 ∷ 5 ∷ replicate (grain - 2) 9) ∷ []) (Sync ∷ Write 0 (5 ∷ 5 ∷ replicate (grain - 2) 8) ∷ [])
     (one_write Q 0 (5 ∷ 5 ∷ replicate (grain - 2) 9) (holds_live grain (replicate (grain - 2) 9)))
@@ -196,24 +196,24 @@ pub two_commits :
     → EachWrite (HoldsAll kept grain start) one
     → EachWrite (HoldsAll next grain (image_committed grain start [] one sector bytes)) two
     → EachStop (λ left. Agree kept start left ⊎
-        (Agree next (image_committed grain start [] one sector bytes) left ⊎
-        (left ≡ image_committed grain start (committing one sector bytes) two other more))) grain start []
-        (committing one sector bytes ++ committing two other more)
+    (Agree next (image_committed grain start [] one sector bytes) left ⊎
+    (left ≡ image_committed grain start (committing one sector bytes) two other more))) grain start []
+    (committing one sector bytes ++ committing two other more)
 two_commits grain start kept next one two sector other bytes more some fits holds holds_next =
     let middle = image_committed grain start [] one sector bytes in
     let last = image_committed grain start (committing one sector bytes) two other more in
     let Any : List ℕ → Type 0 = λ left. Agree kept start left ⊎
-        (Agree next (image_committed grain start [] one sector bytes) left ⊎
-        (left ≡ image_committed grain start (committing one sector bytes) two other more)) in
+    (Agree next (image_committed grain start [] one sector bytes) left ⊎
+    (left ≡ image_committed grain start (committing one sector bytes) two other more)) in
     let begin : Keeps kept start grain start [] = synced_keeps kept grain start [] (λ s b has. absurd has) (λ s b has. has) in
     let then_kept : Keeps next (image_committed grain start [] one sector bytes) grain start
-        (committing one sector bytes) = commit_keeps grain start [] one sector bytes next fits in
+    (committing one sector bytes) = commit_keeps grain start [] one sector bytes next fits in
     stops-append Any grain start [] (committing one sector bytes) (committing two other more)
     (stops-map (λ left. Agree kept start left ⊎ (left ≡ image_committed grain start [] one sector bytes)) Any grain start [] (committing one sector bytes)
     (λ left. ⊎_elim inl (λ new. inr (inl (λ x inside live. ap (λ (l : List ℕ). get_or l x 0) new))))
     (commit_leaves kept start grain start [] one sector bytes some begin holds))
     (stops-map (λ left. Agree next (image_committed grain start [] one sector bytes) left ⊎
-        (left ≡ image_committed grain start (committing one sector bytes) two other more)) Any grain start
-        (committing one sector bytes) (committing two other more)
+    (left ≡ image_committed grain start (committing one sector bytes) two other more)) Any grain start
+    (committing one sector bytes) (committing two other more)
     (λ left. inr)
     (commit_leaves next (image_committed grain start [] one sector bytes) grain start (committing one sector bytes) two other more some then_kept holds_next))

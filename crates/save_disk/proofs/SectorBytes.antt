@@ -17,8 +17,8 @@ padded-byte xs n k =
     (λ (past : length xs ≤ k).
     get_or-append_right xs (replicate n 0) (length xs) k 0 refl past
     ∙ ⊎_elim (λ (below : k - length xs < n). get_or-replicate n (k - length xs) 0 0 below)
-        (λ (behind : n ≤ k - length xs). get_or_past (replicate n 0) (k - length xs) 0
-        (omega (arith, length-replicate {A = ℕ} n 0, behind))) (cases_lt (k - length xs) n)
+    (λ (behind : n ≤ k - length xs). get_or_past (replicate n 0) (k - length xs) 0
+    (omega (arith, length-replicate {A = ℕ} n 0, behind))) (cases_lt (k - length xs) n)
     ∙ sym (get_or_past xs k 0 past))
     (cases_lt k (length xs))
 

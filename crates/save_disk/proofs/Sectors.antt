@@ -34,13 +34,13 @@ pub in_unsynced : (events : List Event) (sector : ℕ) (bytes : List ℕ) → Ha
 in_unsynced [] sector bytes has = has
 in_unsynced (event ∷ events) sector bytes has =
     pick (has_sync (event ∷ events)) (λ l. HasWrite l sector bytes → HasWrite (event ∷ events) sector bytes)
-        (λ h. inr (in_unsynced events sector bytes h)) (λ h. h) has
+    (λ h. inr (in_unsynced events sector bytes h)) (λ h. h) has
 
 pub in_synced : (events : List Event) (sector : ℕ) (bytes : List ℕ) → HasWrite (synced events) sector bytes → HasWrite events sector bytes
 in_synced [] sector bytes has = has
 in_synced (event ∷ events) sector bytes has =
     pick (has_sync (event ∷ events)) (λ l. HasWrite l sector bytes → HasWrite (event ∷ events) sector bytes)
-        (λ h. ⊎_elim (λ e. inl e) (λ later. inr (in_synced events sector bytes later)) h) (λ h. absurd h) has
+    (λ h. ⊎_elim (λ e. inl e) (λ later. inr (in_synced events sector bytes later)) h) (λ h. absurd h) has
 
 -- events without a write leave an image as it is
 pub image_unwritten : (grain : ℕ) (image : List ℕ) (events : List Event) → HasNoWrite events → image_after grain image events ≡ image
@@ -54,20 +54,20 @@ pub unwritten_leaves : (grain : ℕ) (start : List ℕ) (events : List Event) (i
     → HasNoWrite events → CrashMayLeave grain start events image → image ≡ start
 unwritten_leaves grain start events image some none leaves =
     let kept : image_after grain start (synced events) ≡ start =
-        image_unwritten grain start (synced events)
-        (λ sector bytes has. none sector bytes (in_synced events sector bytes has)) in
+    image_unwritten grain start (synced events)
+    (λ sector bytes has. none sector bytes (in_synced events sector bytes has)) in
     same_from_sectors grain image start some leaves.size (λ sector h.
     ⊎_elim (λ e. e ∙ ap (λ (l : List ℕ). sector_cut grain l sector) kept)
-        (λ written. absurd (none sector written.0 (in_unsynced events sector written.0 written.1)))
-        (leaves.sectors sector h))
+    (λ written. absurd (none sector written.0 (in_unsynced events sector written.0 written.1)))
+    (leaves.sectors sector h))
 
 -- and it may leave that
 pub unwritten_may_leave : (grain : ℕ) (start : List ℕ) (events : List Event) (image : List ℕ) → HasNoWrite events
     → image ≡ start → CrashMayLeave grain start events image
 unwritten_may_leave grain start events image none is =
     let kept : image_after grain start (synced events) ≡ start =
-        image_unwritten grain start (synced events)
-        (λ sector bytes has. none sector bytes (in_synced events sector bytes has)) in
+    image_unwritten grain start (synced events)
+    (λ sector bytes has. none sector bytes (in_synced events sector bytes has)) in
     record {
       size = ap length is;
       sectors = λ sector h. inl (ap (λ (l : List ℕ). sector_cut grain l sector) (is ∙ sym kept));

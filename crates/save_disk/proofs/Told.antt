@@ -59,6 +59,6 @@ pub read_sure : (state : State) (told : Told) (sector : ℕ) (bytes : List ℕ) 
     → IsTrue (told.sure sector) → IsRead state sector bytes → bytes ≡ sector_of state.grain (image_now told) sector
 read_sure state told sector bytes sound is sure read =
     let given : bytes ≡ sector_of told.grain (image_now told) sector =
-        subst (λ (o : Option Told). IfSome o
-        (λ t. IsTrue (t.sure sector) → bytes ≡ sector_of t.grain (image_now t) sector)) is read sure in
+    subst (λ (o : Option Told). IfSome o
+    (λ t. IsTrue (t.sure sector) → bytes ≡ sector_of t.grain (image_now t) sector)) is read sure in
     given ∙ ap (λ (k : ℕ). sector_of k (image_now told) sector) (told_grain state told sound is)

@@ -26,7 +26,7 @@ pub record Keeps (places : ℕ → Bool) (image : List ℕ) (grain : ℕ) (start
 abbrev pub EachStop : (List ℕ → Type 0) → ℕ → List ℕ → List Event → List Event → Type 0
 EachStop P grain start events added =
     AtEachMoment (λ front. EachWrite (Fits grain (length start)) (events ++ front) → (left : List ℕ)
-        → CrashMayLeave grain start (events ++ front) left → P left) added
+    → CrashMayLeave grain start (events ++ front) left → P left) added
 
 -- the same of a trace, where each write fits
 abbrev pub StopsLeave : (List ℕ → Type 0) → Told → List Event → Type 0

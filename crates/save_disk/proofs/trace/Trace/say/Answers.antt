@@ -17,4 +17,4 @@ pub invariant_of-self-clause-fits : goal.invariant_of-self-clause-fits
 invariant_of-self-clause-fits c =
     let s = c.args.self.now in
     each_write_more (Fits s.grain (length s.start.items)) s.events.items _ _ s.fits c.add.ensures
-        (no_write (Fits s.grain (length s.start.items)) _ (λ sector bytes same. cc))
+    (no_write (Fits s.grain (length s.start.items)) _ (λ sector bytes same. cc))
