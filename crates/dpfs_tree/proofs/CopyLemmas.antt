@@ -1,14 +1,8 @@
 -- Copies within a base, one after another.
-use Rattle.std.proofs.Common.{◌≡◌, ℕ, ◌+◌, ◌-◌, ◌<◌, ◌≤◌, Option, Some, None, ◌∙◌, arith, ⊎_elim}
+use Rattle.std.proofs.Common.{◌≡◌, ℕ, ◌+◌, ◌-◌, ◌<◌, ◌≤◌, ◌∙◌, arith, ⊎_elim}
 use Rattle.std.proofs.lemmas.Bool.{cases_lt}
-use Rattle.save_bytes.specs.declared.space.Bad.{Bad}
 use Rattle.save_bytes.specs.Cells.{Cell}
-use Rattle.save_bytes.specs.State.{State}
-use Rattle.save_bytes.specs.Refusals.{IfDone, UnlessDisk}
-use Rattle.save_bytes.specs.Spots.{Spot, Frame, Hold}
-use Rattle.save_bytes.specs.Reads.{Reads}
-use Rattle.save_bytes.specs.Writes.{IsWithin, Writes}
-use Rattle.save_bytes.proofs.WriteLemmas.{Writes-read, Writes-wider, Writes-join}
+use Rattle.save_bytes.specs.Writes.{IsWithin}
 use Rattle.dpfs_tree.specs.Copies.{IsCopied, IsCopiedAround}
 
 -- the cells that are in no range are as before

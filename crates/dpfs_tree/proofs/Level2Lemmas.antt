@@ -1,5 +1,5 @@
 -- Blocks of level 2, their bits, and what sealing one of them leaves.
-use Rattle.std.proofs.Common.{◌≡◌, ℕ, ◌+◌, ◌-◌, ◌*◌, ◌/◌, ◌%◌, ◌^◌, ◌<◌, ◌≤◌, min, Bool, true, false, List, length, refl, sym, ◌∙◌, ap, subst, arith, ⊎_elim}
+use Rattle.std.proofs.Common.{◌≡◌, ℕ, ◌+◌, ◌-◌, ◌*◌, ◌/◌, ◌^◌, ◌<◌, ◌≤◌, min, Bool, true, false, List, length, refl, sym, ◌∙◌, ap, subst, arith, ⊎_elim}
 use Rattle.std.specs.Int.{div_ceil}
 use Rattle.std.proofs.Math.Nat.{mul-div-mul_left, div-div-eq-div-mul, div-eq_of_eq-mul_left}
 use Rattle.std.proofs.lemmas.Bool.{cases_lt}
@@ -13,7 +13,7 @@ use Rattle.difi.specs.Places.{blocks_of}
 use Rattle.difi.proofs.PlaceLemmas.{block_begins}
 use Rattle.dpfs_tree.specs.declared.state.DpfsState.{DpfsState}
 use Rattle.dpfs_tree.specs.declared.blocks.BlockCopies.{BlockCopies}
-use Rattle.dpfs_tree.specs.Picks.{bytes_of, bit_of, copy_place, pick1, pick2}
+use Rattle.dpfs_tree.specs.Picks.{bytes_of, bit_of, copy_place, pick1}
 use Rattle.dpfs_tree.specs.Marks.{is_marked, copy_read, IsMadeForContents}
 use Rattle.dpfs_tree.specs.View.{HasContents}
 use Rattle.dpfs_tree.specs.Puts.{AreCopiesAt}

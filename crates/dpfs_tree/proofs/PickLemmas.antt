@@ -1,5 +1,6 @@
 -- Where chosen bytes lie.
-use Rattle.std.proofs.Common.{◌≡◌, ℕ, ◌+◌, ◌-◌, ◌*◌, ◌/◌, ◌%◌, ◌^◌, ◌<◌, ◌≤◌, min, Bool, true, false, List, replicate, cond, ltb, refl, sym, ◌∙◌, ap, arith, ⊎_elim}
+use Rattle.std.proofs.Common.{◌≡◌, ℕ, ◌+◌, ◌-◌, ◌*◌, ◌/◌, ◌%◌, ◌^◌, ◌<◌, ◌≤◌, min, Bool}
+use Rattle.std.proofs.Common.{true, false, List, replicate, cond, ltb, refl, sym, ◌∙◌, ap, arith, ⊎_elim}
 use Rattle.std.proofs.lemmas.Nat.{pow_pos, pow-add, div-add-mod', div-mul-add, mod_below}
 use Rattle.std.proofs.lemmas.List.{get_or-replicate, get_or_past, length-replicate}
 use Rattle.std.proofs.lemmas.Bool.{cases_lt, lt-ltb, le-ltb}
@@ -22,7 +23,9 @@ unmarked touched n clear block =
     (cases_lt block n))
 
 -- with no mark the bytes at their places are the chosen ones
-pub place_of-chosen : (bytes : ℕ → ℕ) (part_at : ℕ) (difi : Difi) (state : DpfsState) (x : ℕ) → ((block : ℕ) → is_marked state.touched.items block ≡ false) → bytes (place_of bytes part_at difi state x) ≡ chosen bytes part_at difi state.selector x
+pub place_of-chosen : (bytes : ℕ → ℕ) (part_at : ℕ) (difi : Difi) (state : DpfsState) (x : ℕ)
+    → ((block : ℕ) → is_marked state.touched.items block ≡ false)
+    → bytes (place_of bytes part_at difi state x) ≡ chosen bytes part_at difi state.selector x
 unfolding place_by chosen pick3
 place_of-chosen bytes part_at difi state x unmarked =
     cond_out bytes (ltb x difi.dpfs3.size) _ _ ∙ rw (unmarked (x / 2 ^ difi.dpfs3.log)) refl
@@ -49,10 +52,13 @@ word_in_block m i log least h =
     let some : 0 < 2 ^ log = pow_pos log in
     let split = div-add-mod' (4 * m) (2 ^ log) in
     let inside = mod_below (4 * m) (2 ^ log) some in
-    same_block (4 * m) i (2 ^ log) some (rw four (four_in m i c (4 * m / (4 * c) * c) (4 * m % (4 * c)) (omega (arith, rw four at split)) (omega (arith, rw four at inside)) h))
+    same_block (4 * m) i (2 ^ log) some
+    (rw four (four_in m i c (4 * m / (4 * c) * c) (4 * m % (4 * c)) (omega (arith, rw four at split))
+    (omega (arith, rw four at inside)) h))
 
 -- a run lies in one piece
-pub place_of-run : (bytes : ℕ → ℕ) (part_at : ℕ) (difi : Difi) (state : DpfsState) (at k : ℕ) → k < run_of difi at → place_of bytes part_at difi state (at + k) ≡ place_of bytes part_at difi state at + k
+pub place_of-run : (bytes : ℕ → ℕ) (part_at : ℕ) (difi : Difi) (state : DpfsState) (at k : ℕ) → k < run_of difi at
+    → place_of bytes part_at difi state (at + k) ≡ place_of bytes part_at difi state at + k
 unfolding place_by run_of
 place_of-run bytes part_at difi state at k h =
     ⊎_elim
@@ -64,13 +70,17 @@ place_of-run bytes part_at difi state at k h =
     (cases_lt at difi.dpfs3.size)
 
 -- the place of a byte of level 3, by its block's copy
-pub place_of-copy : (bytes : ℕ → ℕ) (part_at : ℕ) (difi : Difi) (state : DpfsState) (at chosen copy from : ℕ) → at < difi.dpfs3.size → chosen ≡ bit_of (pick2 bytes part_at difi state.selector) (at / 2 ^ difi.dpfs3.log) → copy ≡ copy_read (is_marked state.touched.items (at / 2 ^ difi.dpfs3.log)) chosen → from ≡ part_at + difi.dpfs3.at + copy * difi.dpfs3.size → from + at ≡ place_of bytes part_at difi state at
+pub place_of-copy : (bytes : ℕ → ℕ) (part_at : ℕ) (difi : Difi) (state : DpfsState) (at chosen copy from : ℕ)
+    → at < difi.dpfs3.size → chosen ≡ bit_of (pick2 bytes part_at difi state.selector) (at / 2 ^ difi.dpfs3.log)
+    → copy ≡ copy_read (is_marked state.touched.items (at / 2 ^ difi.dpfs3.log)) chosen
+    → from ≡ part_at + difi.dpfs3.at + copy * difi.dpfs3.size → from + at ≡ place_of bytes part_at difi state at
 unfolding place_by
 place_of-copy bytes part_at difi state at chosen copy from below by_bit by_mark begins =
     rw (lt-ltb at difi.dpfs3.size below, ← by_bit, ← by_mark, begins) refl
 
 -- the place of a byte behind level 3
-pub place_of-external : (bytes : ℕ → ℕ) (part_at : ℕ) (difi : Difi) (state : DpfsState) (at : ℕ) → difi.dpfs3.size ≤ at → external_place part_at difi at ≡ place_of bytes part_at difi state at
+pub place_of-external : (bytes : ℕ → ℕ) (part_at : ℕ) (difi : Difi) (state : DpfsState) (at : ℕ) → difi.dpfs3.size ≤ at
+    → external_place part_at difi at ≡ place_of bytes part_at difi state at
 unfolding place_by
 place_of-external bytes part_at difi state at behind = rw (le-ltb at difi.dpfs3.size behind) refl
 
@@ -88,5 +98,11 @@ run_of-is difi at inside =
     let block = pow_pos difi.dpfs3.log in
     let rest = mod_below at (2 ^ difi.dpfs3.log) block in
     rw (lt-ltb at difi.dpfs3.size below) (record { some = omega (arith, rest, below); in_view = omega (arith, below); in_level3 = λ _. omega arith }))
-    (λ (behind : difi.dpfs3.size ≤ at). rw (le-ltb at difi.dpfs3.size behind) (record { some = omega (arith, inside); in_view = omega (arith, inside); in_level3 = λ below. absurd (omega (arith, behind, below)) }))
+    (λ (behind : difi.dpfs3.size ≤ at). rw (le-ltb at difi.dpfs3.size behind)
+    (record {
+      some = omega (arith, inside);
+      in_view = omega (arith, inside);
+      in_level3 =
+          λ below. absurd (omega (arith, behind, below));
+    }))
     (cases_lt at difi.dpfs3.size)

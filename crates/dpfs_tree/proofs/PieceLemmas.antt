@@ -17,7 +17,10 @@ use Rattle.dpfs_tree.proofs.PickLemmas.{run_of-is, place_of-run}
 
 module _ (base : State) (part_at : ℕ) (difi : Difi) (state : DpfsState) (at : ℕ) where
   -- the place of a byte with its run, cut to as many bytes as are asked for
-  pub located : (most place run : ℕ) → 1 ≤ most → at + 1 ≤ view_size difi → run ≡ min (run_of difi at) most → place + run_of difi at ≤ base.shape.size → (IsTrue base.told → place ≡ place_of (bytes_of base.cells) part_at difi state at) → IsLocated base part_at difi state at most (Ok (place, run))
+  pub located : (most place run : ℕ) → 1 ≤ most → at + 1 ≤ view_size difi → run ≡ min (run_of difi at) most
+      → place + run_of difi at ≤ base.shape.size
+      → (IsTrue base.told → place ≡ place_of (bytes_of base.cells) part_at difi state at)
+      → IsLocated base part_at difi state at most (Ok (place, run))
   located most place run some inside is in_base there =
       let whole = run_of-is difi at (omega (arith, inside)) in
       record {
@@ -35,16 +38,22 @@ module _ (base : State) (part_at : ℕ) (difi : Difi) (state : DpfsState) (at : 
     same_size = ap (λ (shape : Shape). shape.size) stays.space.shape
 
     pub run_inside : IsTrue base.shape.sound → IsInside mid.shape place 1
-    run_inside sound = record { sound = subst (λ (shape : Shape). IsTrue shape.sound) (sym stays.space.shape) sound; inside = omega (arith, same_size, run.some, run.in_base) }
+    run_inside sound = record {
+      sound = subst (λ (shape : Shape). IsTrue shape.sound) (sym stays.space.shape) sound;
+      inside =
+          omega (arith, same_size, run.some, run.in_base);
+    }
 
-    view_bytes : (bytes : List ℕ) → length bytes ≤ n → (IsTrue mid.told → AreBytesAt mid.cells place bytes) → IsTrue base.told → AreBytesAt (contents_state base part_at difi state).cells at bytes
+    view_bytes : (bytes : List ℕ) → length bytes ≤ n → (IsTrue mid.told → AreBytesAt mid.cells place bytes)
+        → IsTrue base.told → AreBytesAt (contents_state base part_at difi state).cells at bytes
     view_bytes bytes bounded are told k h =
         ap base.cells (run.places told k (omega (arith, h, bounded)))
         ∙ sym (stays.cells told (place + k) (omega (arith, h, bounded, run.in_base)))
         ∙ are (stays.space.told told) k h
 
     -- a piece of the run in the base is one of the view
-    pub view_piece : IsTrue base.shape.plain → (result : Result (Bor (List ℕ)) Bad) → IsPiece mid place n result → IsPiece (contents_state base part_at difi state) at most result
+    pub view_piece : IsTrue base.shape.plain → (result : Result (Bor (List ℕ)) Bad) → IsPiece mid place n result
+        → IsPiece (contents_state base part_at difi state) at most result
     view_piece plain (Ok piece) h = record {
       some = h.some;
       bounded = omega (arith, h.bounded, run.bounded);

@@ -1,8 +1,9 @@
 -- What is left by sealing all blocks of level 2, and level 1.
-use Rattle.std.proofs.Common.{◌≡◌, ◌≢◌, ◌⊎◌, ℕ, ◌+◌, ◌-◌, ◌*◌, ◌/◌, ◌^◌, ◌<◌, ◌≤◌, Bool, true, false, IsTrue, Option, refl, sym, ◌∙◌, ap, subst, arith, inl, inr, ⊎_elim}
+use Rattle.std.proofs.Common.{◌≡◌, ℕ, ◌+◌, ◌-◌, ◌*◌, ◌/◌, ◌^◌, ◌<◌, ◌≤◌, Bool}
+use Rattle.std.proofs.Common.{true, false, IsTrue, Option, refl, sym, ◌∙◌, ap, subst, arith, inl, inr, ⊎_elim}
 use Rattle.std.specs.Int.{div_ceil}
 use Rattle.std.proofs.lemmas.Bool.{cases_lt, cases_Bool}
-use Rattle.std.proofs.lemmas.Nat.{pow_pos, same_from_place}
+use Rattle.std.proofs.lemmas.Nat.{pow_pos}
 use Rattle.save_bytes.specs.declared.space.Bad.{Bad}
 use Rattle.save_bytes.specs.Cells.{Cell}
 use Rattle.save_bytes.specs.CellNumbers.{value_of}
@@ -12,10 +13,8 @@ use Rattle.save_bytes.specs.Stays.{SameCells}
 use Rattle.save_bytes.specs.Spots.{Spot}
 use Rattle.save_bytes.specs.Writes.{Writes}
 use Rattle.save_bytes.proofs.SpaceLemmas.{UnlessDisk-map}
-use Rattle.difi.specs.declared.places.LevelPlace.{LevelPlace}
 use Rattle.difi.specs.declared.descriptor.Difi.{Difi}
-use Rattle.difi.specs.Places.{blocks_of, copies_of}
-use Rattle.difi.specs.Sound.{AreApart}
+use Rattle.difi.specs.Places.{blocks_of}
 use Rattle.difi.specs.Contents.{view_size}
 use Rattle.difi.proofs.PlaceLemmas.{block_below}
 use Rattle.dpfs_tree.specs.declared.state.DpfsState.{DpfsState}

@@ -1,5 +1,5 @@
 -- No byte of a chosen copy is written by a put, or by a seal.
-use Rattle.std.proofs.Common.{◌≡◌, ◌≢◌, ℕ, ◌+◌, ◌-◌, ◌*◌, ◌/◌, ◌^◌, ◌<◌, ◌≤◌, Bool, true, false, IsTrue, Option, refl, sym, ◌∙◌, ap, subst, arith, ⊎_elim}
+use Rattle.std.proofs.Common.{◌≡◌, ◌≢◌, ℕ, ◌+◌, ◌-◌, ◌*◌, ◌/◌, ◌^◌, ◌<◌, ◌≤◌, true, false, Option, refl, sym, ◌∙◌, ap, subst, arith, ⊎_elim}
 use Rattle.std.proofs.lemmas.Bool.{cases_lt}
 use Rattle.save_bytes.specs.declared.space.Bad.{Bad}
 use Rattle.save_bytes.specs.State.{Shape, State}
@@ -9,8 +9,8 @@ use Rattle.save_bytes.proofs.SpaceLemmas.{UnlessDisk-map}
 use Rattle.difi.specs.declared.descriptor.Difi.{Difi}
 use Rattle.difi.specs.Contents.{view_size}
 use Rattle.dpfs_tree.specs.declared.state.DpfsState.{DpfsState}
-use Rattle.dpfs_tree.specs.Picks.{bytes_of, bit_of, copy_place, pick1, pick2}
-use Rattle.dpfs_tree.specs.Spares.{place2, place3, IsChosenPlace, Spares}
+use Rattle.dpfs_tree.specs.Picks.{bytes_of, bit_of, pick1, pick2}
+use Rattle.dpfs_tree.specs.Spares.{place3, IsChosenPlace, Spares}
 use Rattle.dpfs_tree.specs.Marks.{place_by, other_place}
 use Rattle.dpfs_tree.specs.View.{HasContents}
 use Rattle.dpfs_tree.specs.Puts.{WritesIn}

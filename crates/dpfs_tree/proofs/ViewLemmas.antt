@@ -1,16 +1,16 @@
 -- Puts into a view, one after another, and as calls of a space.
-use Rattle.std.proofs.Common.{◌≡◌, ℕ, ◌+◌, ◌-◌, ◌<◌, ◌≤◌, true, List, ◌++◌, length, take, drop, get_or, IsTrue, Option, Some, None, refl, sym, ◌∙◌, ap, subst, arith, inl, inr, ⊎_elim, length-append, length-drop}
+use Rattle.std.proofs.Common.{◌≡◌, ℕ, ◌+◌, ◌-◌, ◌<◌, ◌≤◌, true, List, ◌++◌, length, take, drop, get_or, IsTrue}
+use Rattle.std.proofs.Common.{Option, Some, None, refl, sym, ◌∙◌, ap, subst, arith, inl, inr, ⊎_elim, length-append, length-drop}
 use Rattle.std.proofs.lemmas.Bool.{cases_lt}
 use Rattle.std.proofs.lemmas.List.{length-take-le, take_rest}
 use Rattle.save_bytes.specs.declared.space.Bad.{Bad}
 use Rattle.save_bytes.specs.Cells.{Cell, Byte, Blank, Spoilt, IsByte, IsBlank}
-use Rattle.save_bytes.specs.State.{Shape, State}
-use Rattle.save_bytes.specs.Refusals.{IfDone}
+use Rattle.save_bytes.specs.State.{State}
 use Rattle.save_bytes.specs.Puts.{SoftensFrom, HasPut, Puts}
-use Rattle.save_bytes.specs.Spots.{Spot, Hold, LandsAsBefore, MovesOnly}
+use Rattle.save_bytes.specs.Spots.{Spot, LandsAsBefore, MovesOnly}
 use Rattle.save_bytes.specs.Writes.{Writes}
 use Rattle.save_bytes.proofs.CellLemmas.{AreBytesAt-append}
-use Rattle.save_bytes.proofs.SpaceLemmas.{UnlessDisk-map, UnlessDisk-both, UnlessDisk-always, IfDamaged-never, SameSpace-join, IfDone-map}
+use Rattle.save_bytes.proofs.SpaceLemmas.{UnlessDisk-both, UnlessDisk-always, IfDamaged-never, IfDone-map}
 use Rattle.save_bytes.proofs.JoinLemmas.{take-more}
 use Rattle.save_bytes.proofs.WriteLemmas.{Writes-wider, Writes-then}
 use Rattle.difi.specs.declared.descriptor.Difi.{Difi}

@@ -29,11 +29,13 @@ pub word_inside : (k blocks : ℕ) → k < blocks → 4 * (k / 32) + 4 ≤ 4 * d
 word_inside k blocks h = omega arith
 
 -- behind level 3 there is external level four alone
-external_there : (difi : Difi) (external : Bool) → difi.external ≡ external → (at : ℕ) → difi.dpfs3.size ≤ at → at < view_size difi → (difi.external ≡ true) × (view_size difi ≡ difi.dpfs3.size + difi.ivfc4.size)
+external_there : (difi : Difi) (external : Bool) → difi.external ≡ external → (at : ℕ) → difi.dpfs3.size ≤ at
+    → at < view_size difi → (difi.external ≡ true) × (view_size difi ≡ difi.dpfs3.size + difi.ivfc4.size)
 external_there difi true is at behind inside = (is, rw is refl)
 external_there difi false is at behind inside = absurd (let none = rw is at inside in omega (arith, none, behind))
 
-pub behind_level3 : (difi : Difi) (at : ℕ) → difi.dpfs3.size ≤ at → at < view_size difi → (difi.external ≡ true) × (view_size difi ≡ difi.dpfs3.size + difi.ivfc4.size)
+pub behind_level3 : (difi : Difi) (at : ℕ) → difi.dpfs3.size ≤ at → at < view_size difi
+    → (difi.external ≡ true) × (view_size difi ≡ difi.dpfs3.size + difi.ivfc4.size)
 behind_level3 difi at behind inside = external_there difi difi.external refl at behind inside
 
 -- a place of a copy lies in the base

@@ -55,7 +55,8 @@ unit_ok (Ok tt) ok = refl
 unit_ok (Err fault) ok = cc
 
 -- the test passes where a view can be made
-pub can_view_contents-true : (base : Shape) (part_at : ℕ) (difi : Difi) (state : DpfsState) → CanViewContents base part_at difi state → can_view_contents base part_at difi state ≡ true
+pub can_view_contents-true : (base : Shape) (part_at : ℕ) (difi : Difi) (state : DpfsState)
+    → CanViewContents base part_at difi state → can_view_contents base part_at difi state ≡ true
 unfolding can_view_contents
 can_view_contents-true base part_at difi state h =
     let part = h.partition in
@@ -74,7 +75,8 @@ not-true true h = cc
 not-true false h = refl
 
 -- and only there
-pub true-can_view_contents : (base : Shape) (part_at : ℕ) (difi : Difi) (state : DpfsState) → can_view_contents base part_at difi state ≡ true → CanViewContents base part_at difi state
+pub true-can_view_contents : (base : Shape) (part_at : ℕ) (difi : Difi) (state : DpfsState)
+    → can_view_contents base part_at difi state ≡ true → CanViewContents base part_at difi state
 unfolding can_view_contents
 true-can_view_contents base part_at difi state h =
     let sound = and_parts _ _ h in
@@ -107,7 +109,8 @@ true-can_view_contents base part_at difi state h =
     }
 
 -- two ranges that lie apart in a partition fit into it side by side
-fit_apart : (one other : Extent) (n : ℕ) → AreApart one other → 0 < one.size → 0 < other.size → one.at + one.size ≤ n → other.at + other.size ≤ n → one.size + other.size ≤ n
+fit_apart : (one other : Extent) (n : ℕ) → AreApart one other → 0 < one.size → 0 < other.size → one.at + one.size ≤ n
+    → other.at + other.size ≤ n → one.size + other.size ≤ n
 fit_apart one other n apart some_one some_other one_in other_in =
     ⊎_elim
     (λ (before : one.at < other.at).
@@ -125,12 +128,14 @@ fit_apart one other n apart some_one some_other one_in other_in =
 view_size-fits : (difi : Difi) (n : ℕ) (external : Bool) → difi.external ≡ external → HasSoundLevels difi n → view_size difi ≤ n
 view_size-fits difi n true is h =
     let level = h.external_level is in
-    let both = fit_apart (external_extent difi) (copies_of difi.dpfs3) n level.apart3 h.hash_levels.some4 (omega (arith, h.copies.level3.some)) level.inside h.copies.level3.inside in
+    let both = fit_apart (external_extent difi) (copies_of difi.dpfs3) n level.apart3 h.hash_levels.some4
+    (omega (arith, h.copies.level3.some)) level.inside h.copies.level3.inside in
     rw is (omega (arith, both))
 view_size-fits difi n false is h = rw is (omega (arith, h.copies.level3.inside))
 
 -- what can be viewed has its tree in the base
-pub tree_of : (base : Shape) (part_at : ℕ) (difi : Difi) (state : DpfsState) → base.size < 2 ^ 64 → CanViewContents base part_at difi state → HasContents base part_at difi state.selector
+pub tree_of : (base : Shape) (part_at : ℕ) (difi : Difi) (state : DpfsState) → base.size < 2 ^ 64
+    → CanViewContents base part_at difi state → HasContents base part_at difi state.selector
 tree_of base part_at difi state small h =
     let part = h.partition in
     let copies = part.levels.copies in
@@ -156,12 +161,18 @@ tree_of base part_at difi state small h =
       view_fits = omega (arith, part.inside, view_size-fits difi part.part_len difi.external refl part.levels);
     }
 
-pub contents_tree : (base : Shape) (part_at : ℕ) (difi : Difi) (state : DpfsState) → (IsTrue base.sound → base.size < 2 ^ 64) → can_view_contents base part_at difi state ≡ true → HasContents base part_at difi state.selector
-contents_tree base part_at difi state fits sound = let view = true-can_view_contents base part_at difi state sound in tree_of base part_at difi state (fits view.sound) view
+pub contents_tree : (base : Shape) (part_at : ℕ) (difi : Difi) (state : DpfsState)
+    → (IsTrue base.sound → base.size < 2 ^ 64) → can_view_contents base part_at difi state ≡ true
+    → HasContents base part_at difi state.selector
+contents_tree base part_at difi state fits sound = let view = true-can_view_contents base part_at difi state sound in
+    tree_of base part_at difi state (fits view.sound) view
 
 -- the laws of a space
-pub view_size_fits : (base : State) (part_at : ℕ) (difi : Difi) (state : DpfsState) → (IsTrue base.shape.sound → base.shape.size < 2 ^ 64) → IsTrue (contents_state base part_at difi state).shape.sound → view_size difi < 2 ^ 64
-view_size_fits base part_at difi state fits sound = let tree = contents_tree base.shape part_at difi state fits sound in omega (arith, tree.view_fits, tree.small)
+pub view_size_fits : (base : State) (part_at : ℕ) (difi : Difi) (state : DpfsState)
+    → (IsTrue base.shape.sound → base.shape.size < 2 ^ 64) → IsTrue (contents_state base part_at difi state).shape.sound
+    → view_size difi < 2 ^ 64
+view_size_fits base part_at difi state fits sound = let tree = contents_tree base.shape part_at difi state fits sound in
+    omega (arith, tree.view_fits, tree.small)
 
 SameState-same : (spot : Spot) (state : DpfsState) → SameState spot state state
 SameState-same (Mark part level block) state = λ here. refl

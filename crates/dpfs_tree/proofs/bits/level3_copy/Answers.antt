@@ -19,13 +19,16 @@ returns-clause-bit g c = λ told.
     let tree = c.requires.tree in
     let from = c.copy_start-level2.result in
     let word = word_inside c.args.block (blocks_of difi.dpfs3) c.requires.block in
-    let fits = in_copy (c.args.part_at + difi.dpfs2.at) difi.dpfs2.size c.in-Ok.copy (4 * (c.args.block / 32) + 4) old.shape.size c.in-Ok.ensures.one_of_two (omega (arith, word, tree.bits2)) tree.level2 in
+    let fits = in_copy (c.args.part_at + difi.dpfs2.at) difi.dpfs2.size c.in-Ok.copy (4 * (c.args.block / 32) + 4)
+    old.shape.size c.in-Ok.ensures.one_of_two (omega (arith, word, tree.bits2)) tree.level2 in
     let stays = c.in-Ok.ensures.reads.stays in
     let kept = bit_of-stays old.cells mid.cells old.shape.size from c.args.block (stays.cells told) (omega (arith, fits, c.copy_start-level2.ensures)) in
-    let is = bit_of-pick2 (bytes_of old.cells) c.args.part_at difi c.args.selector from c.in-Ok.copy c.args.block tree.log2.0 c.copy_start-level2.ensures (c.in-Ok.ensures.bit told) in
+    let is = bit_of-pick2 (bytes_of old.cells) c.args.part_at difi c.args.selector from c.in-Ok.copy c.args.block
+    tree.log2.0 c.copy_start-level2.ensures (c.in-Ok.ensures.bit told) in
     subst (λ (n : ℕ). IfOk c.bit_at.result (λ copy. copy ≡ n)) (kept ∙ is) (c.bit_at.ensures.bit (stays.space.told told))
 
 pub returns-clause-reads : goal.returns-clause-reads
 returns-clause-reads g c =
     let space = g.S.Space in
-    Reads-join space.state space.keeps space.lands g.met.S.Space.keeps_join c.args.base.now c.level2_copy.new.base c.bit_at.new.base (result_err c.bit_at.result) c.in-Ok.ensures.reads c.bit_at.ensures.reads
+    Reads-join space.state space.keeps space.lands g.met.S.Space.keeps_join c.args.base.now c.level2_copy.new.base
+    c.bit_at.new.base (result_err c.bit_at.result) c.in-Ok.ensures.reads c.bit_at.ensures.reads

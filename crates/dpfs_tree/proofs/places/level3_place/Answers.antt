@@ -12,14 +12,29 @@ pub overflow_add-result : goal.overflow_add-result
 overflow_add-result g c =
     let level = c.args.difi.now.dpfs3 in
     let tree = c.requires.tree in
-    omega (arith, tree.small, c.requires.inside, c.copy_start.ensures, in_copy (c.args.part_at + level.at) level.size c.copy_read-copy.result level.size _ c.copy_read-copy.ensures.one_of_two (omega arith) tree.level3)
+    omega (
+      arith,
+      tree.small,
+      c.requires.inside,
+      c.copy_start.ensures,
+      in_copy (c.args.part_at + level.at) level.size c.copy_read-copy.result level.size _
+          c.copy_read-copy.ensures.one_of_two (omega arith) tree.level3,
+    )
 
 pub returns-in-Ok-clause-place : goal.returns-in-Ok-clause-place
 returns-in-Ok-clause-place g c = λ told.
-    place_of-copy (bytes_of (g.S.Space.state c.args.base.now).cells) c.args.part_at c.args.difi.now c.args.state.now c.args.at c.in-Ok.chosen c.copy_read-copy.result c.copy_start.result c.requires.inside (rw c.selector.ensures at c.in-Ok.ensures.bit told) c.copy_read-copy.ensures.copy c.copy_start.ensures
+    place_of-copy (bytes_of (g.S.Space.state c.args.base.now).cells) c.args.part_at c.args.difi.now c.args.state.now
+    c.args.at c.in-Ok.chosen c.copy_read-copy.result c.copy_start.result c.requires.inside
+    (rw c.selector.ensures at c.in-Ok.ensures.bit told) c.copy_read-copy.ensures.copy c.copy_start.ensures
 
 pub returns-in-Ok-clause-in_base : goal.returns-in-Ok-clause-in_base
 returns-in-Ok-clause-in_base g c =
     let level = c.args.difi.now.dpfs3 in
     let tree = c.requires.tree in
-    omega (arith, c.requires.inside, c.copy_start.ensures, in_copy (c.args.part_at + level.at) level.size c.copy_read-copy.result level.size _ c.copy_read-copy.ensures.one_of_two (omega arith) tree.level3)
+    omega (
+      arith,
+      c.requires.inside,
+      c.copy_start.ensures,
+      in_copy (c.args.part_at + level.at) level.size c.copy_read-copy.result level.size _
+          c.copy_read-copy.ensures.one_of_two (omega arith) tree.level3,
+    )

@@ -18,4 +18,6 @@ returns-then-at-difi-clause-in_base g c =
 pub returns-clause-in_base : goal.returns-clause-in_base
 returns-clause-in_base g c =
     let run = run_of-is c.args.difi.now c.args.at c.requires.inside in
-    IfOk-map c.level3_place.result (λ (place : ℕ). λ (h : place + (c.args.difi.now.dpfs3.size - c.args.at) ≤ (g.S.Space.state c.args.base.now).shape.size). omega (arith, h, run.in_level3 c.if-at-difi.false)) c.level3_place.ensures.in_base
+    IfOk-map c.level3_place.result
+    (λ (place : ℕ). λ (h : place + (c.args.difi.now.dpfs3.size - c.args.at) ≤ (g.S.Space.state
+    c.args.base.now).shape.size). omega (arith, h, run.in_level3 c.if-at-difi.false)) c.level3_place.ensures.in_base

@@ -1,4 +1,4 @@
-use Rattle.std.proofs.Common.{◌≡◌, ℕ, ◌*◌, ◌/◌, ◌^◌, refl, sym, ◌∙◌, ap, subst, arith}
+use Rattle.std.proofs.Common.{◌≡◌, ℕ, ◌*◌, ◌/◌, ◌^◌, refl, sym, ◌∙◌, ap, subst}
 use Rattle.std.specs.Int.{div_ceil}
 use Rattle.std.specs.Result.{result_err}
 use Rattle.save_bytes.specs.State.{Shape}

@@ -1,7 +1,6 @@
-use Rattle.std.proofs.Common.{◌≡◌, ◌-◌, None, Some, inl, inr, ap, subst, arith}
-use Rattle.save_bytes.specs.Writes.{Writes}
+use Rattle.std.proofs.Common.{◌-◌, None, Some, inl, inr, ap, arith}
 use Rattle.save_bytes.specs.State.{Shape}
-use Rattle.save_bytes.proofs.WriteLemmas.{Writes-wider, writes_both}
+use Rattle.save_bytes.proofs.WriteLemmas.{writes_both}
 use Rattle.dpfs_tree.specs.Picks.{bytes_of}
 use Rattle.dpfs_tree.specs.Seals.{SealsLevel1, SealsLevel2, SealWrites}
 use Rattle.dpfs_tree.proofs.SealedLemmas.{seal_chosen, seal_kept}

@@ -1,4 +1,4 @@
-use Rattle.std.proofs.Common.{◌+◌, ◌≤◌, None, Some, ap, arith}
+use Rattle.std.proofs.Common.{None, Some, ap, arith}
 use Rattle.save_bytes.specs.State.{Shape}
 use Rattle.save_bytes.proofs.WriteLemmas.{Writes-then}
 use Rattle.dpfs_tree.specs.Picks.{bytes_of}

@@ -1,4 +1,4 @@
-use Rattle.std.proofs.Common.{ℕ, ◌-◌, ◌≤◌, IsTrue, None}
+use Rattle.std.proofs.Common.{◌-◌, ◌≤◌, IsTrue, None}
 use Rattle.save_bytes.specs.Writes.{Writes}
 use Rattle.difi.specs.Places.{blocks_of}
 use Rattle.dpfs_tree.specs.Picks.{bytes_of}

@@ -1,4 +1,4 @@
-use Rattle.std.proofs.Common.{◌≡◌, ℕ, ◌*◌, ◌^◌, true, false, sym, ◌∙◌, subst}
+use Rattle.std.proofs.Common.{◌≡◌, true, false, sym, ◌∙◌}
 use Rattle.dpfs_tree.specs.Marks.{is_marked}
 use Rattle.dpfs_tree.specs.Seals.{has_mark}
 use Rattle.dpfs_tree.proofs.MarkLemmas.{some_marked-not, some_marked-found}

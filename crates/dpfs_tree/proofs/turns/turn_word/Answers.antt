@@ -19,7 +19,8 @@ returns-clause-turned g c = λ told.
     let from_zero : (l : List ℕ) → 0 ≤ length l = λ l. omega arith in
     let is : number_at 4 c.set_u32.new.bytes 0 ≡ bit_xor c.in-Ok.word c.args.mask =
     ap (λ (l : List ℕ). number_at 4 l 0) c.set_u32.ensures
-    ∙ number_at-put 4 (bit_xor c.in-Ok.word c.args.mask) (replicate 4 0) 0 (from_zero (replicate 4 0)) (xor_lt 32 c.in-Ok.word c.args.mask small c.ranges.mask.fits) in
+    ∙ number_at-put 4 (bit_xor c.in-Ok.word c.args.mask) (replicate 4 0) 0 (from_zero (replicate 4 0))
+    (xor_lt 32 c.in-Ok.word c.args.mask small c.ranges.mask.fits) in
     IfDone-map (result_err c.put_bytes.result)
     (λ (are : AreBytesAt new c.args.at c.set_u32.new.bytes).
     word_turned new c.args.at (bit_xor c.in-Ok.word c.args.mask) c.set_u32.new.bytes len is are
