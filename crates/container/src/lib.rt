@@ -19,6 +19,8 @@ pub use open::Container;
 pub use store::Store;
 
 #[cfg(test)]
+mod copy_tests;
+#[cfg(test)]
 mod opens_tests;
 #[cfg(test)]
 mod store_tests;
