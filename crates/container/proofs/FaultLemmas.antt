@@ -79,6 +79,6 @@ module _ (tag_of : List ℕ → List ℕ) (demands : Bool) (image : List ℕ) wh
   tag_of_front =
       let tag : tag_in (take 512 image) ≡ tag_in image = take-take 16 512 image (lit≤ tt) in
       let header : header_in (take 512 image) ≡ header_in image =
-          ap (λ (l : List ℕ). take 256 l) (drop-take 256 256 image) ∙ take-take 256 256 (drop 256 image) (lit≤ tt) in
+      ap (λ (l : List ℕ). take 256 l) (drop-take 256 256 image) ∙ take-take 256 256 (drop 256 image) (lit≤ tt) in
       ap (λ (l : List ℕ). tag_between tag_of demands (tag_in (take 512 image)) l) header
-          ∙ ap (λ (l : List ℕ). tag_between tag_of demands l (header_in image)) tag
+      ∙ ap (λ (l : List ℕ). tag_between tag_of demands l (header_in image)) tag

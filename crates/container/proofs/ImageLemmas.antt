@@ -7,7 +7,7 @@ use Rattle.save_bytes.specs.Stays.{Stays}
 use Rattle.save_bytes.specs.State.{State}
 use Rattle.save_disk.specs.State as disks
 use Rattle.container_header.specs.declared.header.Header.{Header}
-use Rattle.container_header.specs.Sound.{IsSound, IsPartition}
+use Rattle.container_header.specs.Sound.{IsSoundHeader, IsPartition}
 use Rattle.difi.specs.Places.{block_size}
 use Rattle.dpfs_tree.specs.Picks.{chosen}
 use Rattle.dpfs_tree.proofs.PickLemmas.{place_of-chosen}
@@ -21,8 +21,8 @@ use Rattle.ivfc_tree.specs.Paths.{block_state, cell_in}
 use Rattle.save_bytes.specs.CellNumbers.{value_of}
 use Rattle.ivfc_tree.specs.View.{status_of}
 use Rattle.part_store.specs.declared.part.Part.{Part}
-use Rattle.part_store.specs.Parts.{CanView, contents_of, master_of, part_state}
-use Rattle.part_store.proofs.PartLemmas.{hashes_there, contents_there, can_view-true}
+use Rattle.part_store.specs.Parts.{CanViewPart, contents_of, master_of, part_state}
+use Rattle.part_store.proofs.PartLemmas.{hashes_there, contents_there, can_view_part-true}
 use Rattle.page_image.specs.declared.state.ImageState.{ImageState}
 use Rattle.page_image.specs.Images.{IsDiskOf, image_state}
 use Rattle.page_image.specs.Laws.{image_size_fits}
@@ -36,20 +36,20 @@ use Rattle.container.proofs.PartLemmas.{sound_descriptors}
 use Rattle.container.proofs.StoreLemmas.{four_fits}
 
 -- the partition of each part of a sound header lies in the image
-pub partition_there : (header : Header) (image_len number : ℕ) → IsSound header image_len → number < header.parts
+pub partition_there : (header : Header) (image_len number : ℕ) → IsSoundHeader header image_len → number < header.parts
     → IsPartition (partition_of header number) image_len
 partition_there header image_len number sound there =
     ⊎_elim
     (λ (zeroth : number < 1). let is : number ≡ 0 = omega arith in rw is sound.partition_a)
     (λ (later : 1 ≤ number). let is : number ≡ 1 =
-        omega (arith, sound.two_parts, there) in let both : header.parts ≡ 2 =
-        omega (arith, sound.two_parts, there) in rw is (sound.partition_b both))
+    omega (arith, sound.two_parts, there) in let both : header.parts ≡ 2 =
+    omega (arith, sound.two_parts, there) in rw is (sound.partition_b both))
     (cases_lt number 1)
 
 module _ (disk : disks.State) (image : ImageState) (header : Header) (table : List ℕ) (disk_of : IsDiskOf disk image)
-    (sound : IsSound header image.len) (whole : length table ≡ header.table_size) where
+    (sound : IsSoundHeader header image.len) (whole : length table ≡ header.table_size) where
   -- a part of a whole container can be viewed
-  pub part_view : (number : ℕ) (part : Part) → number < header.parts → IsPartOf header number part → CanView (image_state disk image).shape part (length table)
+  pub part_view : (number : ℕ) (part : Part) → number < header.parts → IsPartOf header number part → CanViewPart (image_state disk image).shape part (length table)
   part_view number part there is =
       let partition = partition_there header image.len number sound there in
       let descriptor = (sound_descriptors header image.len sound).each number there in
@@ -75,15 +75,19 @@ module _ (disk : disks.State) (image : ImageState) (header : Header) (table : Li
   -- the store of a whole container is sound
   pub store_sound : (first : Part) (second : Option Part) → part_count second ≡ header.parts → IsPartOf header 0 first
       → IfSome second (IsPartOf header 1) → IsTrue (state_of (image_state disk image) first second table).shape.sound
-  store_sound first None count one other = can_view-true (image_state disk image).shape first (length table) (part_view 0 first (omega (arith, count)) one)
+  store_sound first None count one other = can_view_part-true (image_state disk image).shape first (length table) (part_view 0 first (omega (arith, count)) one)
   store_sound first (Some part) count one other =
       let view = part_view 0 first (omega (arith, count)) one in
       let next = part_view 1 part (omega (arith, count)) other in
       and_from _ _ (rw (one.number_is, other.number_is) refl)
-      (and_from _ _ (can_view-true (image_state disk image).shape first (length table) view)
-      (and_from _ _ (can_view-true (image_state disk image).shape part (length table) next)
-      (lt-ltb _ _ (omega (arith, four_fits (image_state disk image) first table (image_size_fits disk image) view,
-          four_fits (image_state disk image) part table (image_size_fits disk image) next, image.layout.most)))))
+      (and_from _ _ (can_view_part-true (image_state disk image).shape first (length table) view)
+      (and_from _ _ (can_view_part-true (image_state disk image).shape part (length table) next)
+      (lt-ltb _ _ (omega (
+        arith,
+        four_fits (image_state disk image) first table (image_size_fits disk image) view,
+        four_fits (image_state disk image) part table (image_size_fits disk image) next,
+        image.layout.most,
+      )))))
 
 -- a part of a number is the first or the second
 pub data IsOne (parts : Parts) (number : ℕ) (part : Part) : Type 0 where
@@ -125,7 +129,7 @@ part_is_read table header parts number part read there = read_one table header p
 
 -- a part's cells over an image's bytes, where nothing of the part was changed
 module _ (base : State) (bytes : List ℕ) (header : Header) (number : ℕ) (part : Part) (table : List ℕ)
-    (small : base.shape.size < 2 ^ 64) (view : CanView base.shape part (length table))
+    (small : base.shape.size < 2 ^ 64) (view : CanViewPart base.shape part (length table))
     (same : (y : ℕ) → y < base.shape.size → base.cells y ≡ Byte (slice_index bytes y))
     (place : part.at ≡ (partition_of header number).at) (is : part.number ≡ number)
     (active : table ≡ active_table bytes header) (untouched : IsUntouched part) where
@@ -138,8 +142,14 @@ module _ (base : State) (bytes : List ℕ) (header : Header) (number : ℕ) (par
   ideal_stays : Stays told_base ideal None
   unfolding told_base ideal
   ideal_stays = record {
-    space = record { shape = refl; faults = omega arith; cause = tt; told = λ told. refl; twins =
-        λ told. record { bottom = λ x h. refl; is_fixed = λ x h. refl } };
+    space = record {
+      shape = refl;
+      faults = omega arith;
+      cause = tt;
+      told = λ told. refl;
+      twins =
+          λ told. record { bottom = λ x h. refl; is_fixed = λ x h. refl };
+    };
     cells = λ told y below. sym (same y below);
   }
 
@@ -149,8 +159,14 @@ module _ (base : State) (bytes : List ℕ) (header : Header) (number : ℕ) (par
   chosen_stays : Stays (contents_of ideal part) chosen_contents None
   unfolding ideal chosen_contents
   chosen_stays = record {
-    space = record { shape = refl; faults = omega arith; cause = tt; told = λ told. refl; twins =
-        λ told. record { bottom = λ x h. refl; is_fixed = λ x h. refl } };
+    space = record {
+      shape = refl;
+      faults = omega arith;
+      cause = tt;
+      told = λ told. refl;
+      twins =
+          λ told. record { bottom = λ x h. refl; is_fixed = λ x h. refl };
+    };
     cells = λ told z below. sym (ap Byte
         (place_of-chosen (λ y. slice_index bytes y) part.at part.difi part.dpfs z untouched.contents.unmarked
         ∙ ap (λ (at : ℕ). chosen (λ y. slice_index bytes y) at part.difi part.dpfs.selector z) place
@@ -187,7 +203,7 @@ module _ (base : State) (bytes : List ℕ) (header : Header) (number : ℕ) (par
       ∙ ap (λ (n : ℕ). cell_in (path_in bytes header number part.difi 4 block) n (value_of (contents_in bytes header number part.difi at))) is
 
 module _ (disk : disks.State) (image : ImageState) (bytes : List ℕ) (header : Header) (table : List ℕ)
-    (disk_of : IsDiskOf disk image) (held : IsHeld bytes image) (sound : IsSound header image.len)
+    (disk_of : IsDiskOf disk image) (held : IsHeld bytes image) (sound : IsSoundHeader header image.len)
     (whole : length table ≡ header.table_size) (active : table ≡ active_table bytes header) where
   -- the cells of a part that was read, over the image
   read_cells : (number : ℕ) (part : Part) → number < header.parts → IsPartRead table header number part → (x : ℕ)
@@ -195,7 +211,7 @@ module _ (disk : disks.State) (image : ImageState) (bytes : List ℕ) (header : 
       number part.difi x
   read_cells number part there read =
       part_cells (image_state disk image) bytes header number part table (image_size_fits disk image)
-          (part_view disk image header table disk_of sound whole number part there read.part_of)
+      (part_view disk image header table disk_of sound whole number part there read.part_of)
       (λ y below. ap Byte (held y below)) read.part_of.place read.part_of.number_is active read.untouched
 
   -- the states of its blocks
@@ -205,7 +221,7 @@ module _ (disk : disks.State) (image : ImageState) (bytes : List ℕ) (header : 
       (path_in bytes header number part.difi level block)
   read_paths number part there read level block has =
       ap status_of (part_paths (image_state disk image) bytes header number part table (image_size_fits disk image)
-          (part_view disk image header table disk_of sound whole number part there read.part_of)
+      (part_view disk image header table disk_of sound whole number part there read.part_of)
       (λ y below. ap Byte (held y below)) read.part_of.place read.part_of.number_is active read.untouched level block has)
 
   pub store_paths : (parts : Parts) → AreRead table header parts → (number : ℕ) (part : Part)

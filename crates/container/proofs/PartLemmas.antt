@@ -3,10 +3,10 @@ use Rattle.std.proofs.Common.{◌≡◌, ℕ, ◌<◌, ◌≤◌, List, Option, 
 use Rattle.std.proofs.lemmas.Bool.{cases_lt}
 use Rattle.save_bytes.specs.declared.extent.Extent.{Extent}
 use Rattle.container_header.specs.declared.header.Header.{Header}
-use Rattle.container_header.specs.Sound.{IsSound}
+use Rattle.container_header.specs.Sound.{IsSoundHeader}
 use Rattle.difi.specs.declared.descriptor.Difi.{Difi}
 use Rattle.difi.specs.Fields.{fields}
-use Rattle.difi.specs.Sound.{IsSound as IsSoundDifi}
+use Rattle.difi.specs.Sound.{IsSoundDifi}
 use Rattle.difi.specs.Conditions.{reading}
 use Rattle.container.specs.Openings.{descriptor_of, partition_of, part_reading}
 use Rattle.part_store.specs.declared.part.Part.{Part}
@@ -36,7 +36,7 @@ sound_at one two header number place partition same first second sound =
     (subst (λ (e : Extent). IsSoundDifi one e.size partition.size) first sound))
 
 -- a sound header's descriptors lie in a table of its size
-pub sound_descriptors : (header : Header) (image_len : ℕ) → IsSound header image_len → HasDescriptors header header.table_size
+pub sound_descriptors : (header : Header) (image_len : ℕ) → IsSoundHeader header image_len → HasDescriptors header header.table_size
 sound_descriptors header image_len sound = record {
   one = sound.one_part;
   two = sound.two_parts;

@@ -91,4 +91,4 @@ pub header_told : (one two : State) (len : ℕ) (front : List ℕ) (result : Res
 header_told one two len front result sound quiet size same whole read exact = λ sure.
     let long : length (image_told one) ≡ len = told_size one sound sure ∙ sym same in
     exact (image_told one) long (front_whole (image_told one) front (omega arith)
-        (shown_before (λ (l : List ℕ). front ≡ take 512 l) one two quiet size read sure))
+    (shown_before (λ (l : List ℕ). front ≡ take 512 l) one two quiet size read sure))

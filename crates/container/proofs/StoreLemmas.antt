@@ -9,8 +9,8 @@ use Rattle.save_bytes.specs.Spots.{Spot, LandsAsBefore}
 use Rattle.save_bytes.proofs.SpaceLemmas.{UnlessDisk-map, UnlessDisk-always, UnlessDisk-both}
 use Rattle.dpfs_tree.specs.Picks.{bytes_of}
 use Rattle.part_store.specs.declared.part.Part.{Part}
-use Rattle.part_store.specs.Parts.{CanView, part_state}
-use Rattle.part_store.proofs.PartLemmas.{true-can_view, part_from_base, contents_there, hashes_there, place_there}
+use Rattle.part_store.specs.Parts.{CanViewPart, part_state}
+use Rattle.part_store.proofs.PartLemmas.{true-can_view_part, part_from_base, contents_there, hashes_there, place_there}
 use Rattle.part_store.specs.Spots.{PartLands}
 use Rattle.part_store.specs.SpotLaws.{PartLands-before}
 use Rattle.container.specs.Stores.{state_of, PartsLand}
@@ -21,15 +21,15 @@ and_same false = refl
 
 module _ (base : State) (first : Part) (table : List ℕ) where
   -- in a sound store each part can be viewed
-  pub first_view : (second : Option Part) → IsTrue (state_of base first second table).shape.sound → CanView base.shape first (length table)
-  first_view None sound = true-can_view base.shape first (length table) sound
-  first_view (Some part) sound = true-can_view base.shape first (length table) (and_parts _ _ (and_parts _ _ sound).1).0
+  pub first_view : (second : Option Part) → IsTrue (state_of base first second table).shape.sound → CanViewPart base.shape first (length table)
+  first_view None sound = true-can_view_part base.shape first (length table) sound
+  first_view (Some part) sound = true-can_view_part base.shape first (length table) (and_parts _ _ (and_parts _ _ sound).1).0
 
   pub second_view : (second : Option Part) (part : Part) → second ≡ Some part → IsTrue (state_of base first second table).shape.sound
-      → CanView base.shape part (length table)
+      → CanViewPart base.shape part (length table)
   second_view second part is sound =
       let both = rw is at sound in
-      true-can_view base.shape part (length table) (and_parts _ _ (and_parts _ _ (and_parts _ _ both).1).1).0
+      true-can_view_part base.shape part (length table) (and_parts _ _ (and_parts _ _ (and_parts _ _ both).1).1).0
 
   pub sound_base : (second : Option Part) → IsTrue (state_of base first second table).shape.sound → IsTrue base.shape.sound
   sound_base second sound = (first_view second sound).contents.sound
@@ -41,7 +41,7 @@ module _ (base : State) (first : Part) (table : List ℕ) where
 
 -- a part's level four is no longer than its base
 pub four_fits : (base : State) (part : Part) (table : List ℕ) → base.shape.size < 2 ^ 64
-    → CanView base.shape part (length table) → part.difi.ivfc4.size ≤ base.shape.size
+    → CanViewPart base.shape part (length table) → part.difi.ivfc4.size ≤ base.shape.size
 four_fits base part table small view =
     ⊎_elim
     (λ (none : part.difi.ivfc4.size < 1). omega (arith, none))
@@ -64,7 +64,7 @@ store_fits base first (Some part) table fits sound =
     (and_parts (part_state base first table).shape.sound _ (and_parts (not (first.number == part.number)) _ sound).1).1).1
 
 module _ (base new : State) (table : List ℕ) (refusal : Option Bad) (small : base.shape.size < 2 ^ 64) (stays : Stays base new refusal) where
-  in_part : (part : Part) → CanView base.shape part (length table) → SameCells base new → (lands later : ℕ → Spot → Type 0)
+  in_part : (part : Part) → CanViewPart base.shape part (length table) → SameCells base new → (lands later : ℕ → Spot → Type 0)
       → LandsAsBefore base.shape.size lands later
       → LandsAsBefore part.difi.ivfc4.size (PartLands (bytes_of base.cells) lands part) (PartLands (bytes_of new.cells) later part)
   in_part part view same lands later as_before =
@@ -88,7 +88,7 @@ module _ (base new : State) (table : List ℕ) (refusal : Option Bad) (small : b
         ⊎_elim
         (λ (lower : x < first.difi.ivfc4.size). rw (lt-ltb x first.difi.ivfc4.size lower) (in_one x lower))
         (λ (behind : first.difi.ivfc4.size ≤ x). rw (le-ltb x first.difi.ivfc4.size behind)
-            (in_other (x - first.difi.ivfc4.size) (omega (arith, behind, below))))
+        (in_other (x - first.difi.ivfc4.size) (omega (arith, behind, below))))
         (cases_lt x first.difi.ivfc4.size))
         (one.cells (and_parts _ _ told).0) (other.cells (and_parts _ _ told).0);
   }

@@ -5,7 +5,7 @@ use Rattle.save_bytes.specs.declared.extent.Extent.{Extent}
 use Rattle.container_header.specs.declared.header.Header.{Header}
 use Rattle.container_header.specs.Sound.{IsHeaderOf}
 use Rattle.difi.specs.Fields.{fields}
-use Rattle.difi.specs.Sound.{IsSound, IsDescriptor}
+use Rattle.difi.specs.Sound.{IsSoundDifi, IsDescriptor}
 use Rattle.container.specs.Openings.{tag_in, header_in, active_table, descriptor_of, partition_of}
 
 -- the active table has the SHA-256 that the header says
@@ -15,7 +15,7 @@ TableMatches image header = sha256 (active_table image header) ≡ header.hash
 -- no condition fails of the descriptor at a place in a table, for a partition
 pub record IsSoundDescriptor (table : List ℕ) (place partition : Extent) : Type 0 where
   pub descriptor : IsDescriptor table place.at place.size
-  pub sound : IsSound (fields table place.at) place.size partition.size
+  pub sound : IsSoundDifi (fields table place.at) place.size partition.size
 
 -- a part has such a descriptor
 abbrev pub HasSoundDescriptor : List ℕ → Header → ℕ → Type 0

@@ -2,8 +2,8 @@
 use Rattle.std.specs.Prelude.{◌≡◌, ℕ, ◌<◌, ◌≤◌, List, length, Option, Some, None, IfSome, Ok, ◌==◌, if◌then◌else◌}
 use Rattle.std.specs.Option.{option_map}
 use Rattle.container_header.specs.declared.header.Header.{Header}
-use Rattle.container_header.specs.Sound.{IsSound, IsDescriptor}
-use Rattle.difi.specs.Sound.{IsSound as IsSoundDifi}
+use Rattle.container_header.specs.Sound.{IsSoundHeader, IsDescriptorPlace}
+use Rattle.difi.specs.Sound.{IsSoundDifi}
 use Rattle.dpfs_tree.specs.Marks.{IsFreshContents, IsMadeForContents}
 use Rattle.ivfc_tree.specs.Marks.{IsMadeFor, HasNoMarks}
 use Rattle.part_store.specs.declared.part.Part.{Part}
@@ -27,7 +27,7 @@ split_of parts = option_map (λ second. parts.first.difi.ivfc4.size) parts.secon
 pub record HasDescriptors (header : Header) (table_len : ℕ) : Type 0 where
   pub one : 1 ≤ header.parts
   pub two : header.parts ≤ 2
-  pub each : (number : ℕ) → number < header.parts → IsDescriptor (descriptor_of header number) table_len
+  pub each : (number : ℕ) → number < header.parts → IsDescriptorPlace (descriptor_of header number) table_len
 
 -- a part is that of a header's partition: its descriptor stands in the table, no condition of it fails, and its place is
 -- the partition's
@@ -58,7 +58,7 @@ pub record AreRead (table : List ℕ) (header : Header) (parts : Parts) : Type 0
 
 -- the header is sound for the image, the table as long as the header says, and there is a part for each partition
 pub record IsWhole (header : Header) (image_len : ℕ) (table : List ℕ) (parts : Parts) : Type 0 where
-  pub sound : IsSound header image_len
+  pub sound : IsSoundHeader header image_len
   pub table_len : length table ≡ header.table_size
   pub count : part_count parts.second ≡ header.parts
   pub first : IsPartOf header 0 parts.first

@@ -4,7 +4,7 @@ ghost use Rattle.std.specs.Prelude.{◌≡◌, ◌≢◌, IsTrue, IfOk, IfErr, O
 ghost use Rattle.save_disk.specs.State.{IsQuiet, IsSteady, Rose};
 ghost use Rattle.save_disk.specs.Tells.{tells, image_told};
 ghost use Rattle.container_header.specs.Conditions.{reading};
-ghost use Rattle.container_header.specs.Sound.{IsSound};
+ghost use Rattle.container_header.specs.Sound.{IsSoundHeader};
 ghost use Rattle.container.specs.Openings.{IsCaused, tag_fault, fault_of};
 
 use crate::fault::OpenFault;
@@ -44,7 +44,7 @@ pub(crate) fn read_header<D: Disk, G: Signer>(
     ensures header { IfOk result (λ found. IsTrue (tells (D.state disk.old)) → reading (image_told (D.state disk.old)) ≡ Ok found.0) }
     ensures tag { OnOk result (IsTrue (tells (D.state disk.old))
         → tag_fault (G.tag_of signer.now) (G.is_demanding signer.now) (image_told (D.state disk.old)) ≡ None) }
-    ensures sound { IfOk result (λ found. IsSound found.0 found.1) }
+    ensures sound { IfOk result (λ found. IsSoundHeader found.0 found.1) }
     ensures len { IfOk result (λ found. found.1 ≡ (D.state disk.old).size) }
     ensures caused { IfErr result (λ fault. IsTrue (tells (D.state disk.old))
         → IsCaused (fault_of (G.tag_of signer.now) (G.is_demanding signer.now) (image_told (D.state disk.old))) fault) }

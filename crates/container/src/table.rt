@@ -3,7 +3,7 @@
 ghost use Rattle.std.specs.Prelude.{◌≡◌, ◌≢◌, ◌+◌, ◌≤◌, length, IsTrue, IfOk, IfErr, IfSome, OnOk, None};
 ghost use Rattle.save_disk.specs.State.{IsQuiet, IsSteady, Rose};
 ghost use Rattle.save_disk.specs.Tells.{tells, image_told};
-ghost use Rattle.container_header.specs.Sound.{active_at, IsDescriptor};
+ghost use Rattle.container_header.specs.Sound.{active_at, IsDescriptorPlace};
 ghost use Rattle.container.specs.Openings.{active_table, IsCaused, part_reading, second_fault, parts_fault, descriptor_of, partition_of, descriptor_fault};
 ghost use Rattle.container.specs.Parts.{part_count, HasDescriptors, IsPartRead, AreRead};
 
@@ -63,7 +63,7 @@ fn partition(header: &Header, number: u8) -> Extent
 
 // The part of a number, by its descriptor in the table.
 fn open_part(alloc: Global, header: &Header, table: &[u8], number: u8) -> Result<Part, OpenFault>
-    requires { IsDescriptor (descriptor_of header.now number) (length table.now) }
+    requires { IsDescriptorPlace (descriptor_of header.now number) (length table.now) }
     ensures part { IfOk result (IsPartRead table.now header.now number) }
     ensures none { OnOk result (descriptor_fault number (part_reading table.now header.now number) ≡ None) }
     ensures caused { IfErr result (IsCaused (descriptor_fault number (part_reading table.now header.now number))) }

@@ -6,7 +6,7 @@ ghost use Rattle.save_bytes.specs.State.{IsInside};
 ghost use Rattle.save_bytes.specs.Refusals.{NeverDamaged};
 ghost use Rattle.save_bytes.specs.Reads.{Reads};
 ghost use Rattle.ivfc_tree.specs.Levels.{HasBlock};
-ghost use Rattle.part_store.specs.Parts.{CanView, part_state, IsFound};
+ghost use Rattle.part_store.specs.Parts.{CanViewPart, part_state, IsFound};
 ghost use Rattle.container.specs.Parts.{part_count, part_at};
 ghost use Rattle.container.specs.Stores.{store_state};
 ghost use Rattle.container.specs.Statuses.{status_in};
@@ -24,7 +24,7 @@ fn find_in<S: Space>(
     at: u64,
     most: usize,
 ) -> Result<(u64, usize), Bad>
-    requires view { CanView (S.state image.old).shape part.old (length table.old) }
+    requires view { CanViewPart (S.state image.old).shape part.old (length table.old) }
     requires inside { at < part.old.difi.ivfc4.size }
     requires some { 1 ≤ most }
     ensures found { IsFound (part_state (S.state image.old) part.old table.old) (S.state image.new) at most result }
@@ -69,7 +69,7 @@ fn tell_in<S: Space>(
     level: u8,
     block: u64,
 ) -> Result<Status, Bad>
-    requires view { CanView (S.state image.old).shape part.old (length table.old) }
+    requires view { CanViewPart (S.state image.old).shape part.old (length table.old) }
     requires there { HasBlock part.old.difi level block }
     ensures status { IsTrue (S.state image.old).told → IfOk result (λ status. status ≡ status_in (S.state image.old) part.old table.old level block) }
     ensures plain { NeverDamaged (result_err result) }

@@ -10,7 +10,7 @@ use Rattle.container_header.specs.declared.fault.HeaderFault.{HeaderFault}
 use Rattle.container_header.specs.declared.fault.HeaderFault.TheVariants.{NotImage, Version}
 use Rattle.container_header.specs.Fields.{word_at}
 use Rattle.container_header.specs.Conditions.{kind_of, version_of, fields_of, layout_faults, first_failing, checked, reading_as, reading_of, reading}
-use Rattle.container_header.specs.Sound.{IsSound, IsHeaderOf}
+use Rattle.container_header.specs.Sound.{IsSoundHeader, IsHeaderOf}
 use Rattle.container_header.specs.Raw.{image_of, IsOfRaw}
 use Rattle.container_header.proofs.HeaderBytes.{raw_of, kind_same, version_same, fields_same}
 use Rattle.container_header.proofs.Soundness.{sound_from, sound_to}
@@ -102,7 +102,7 @@ read_of_raw bytes n header long e =
       fields_are = fields_same held bytes same header.kind ∙ h.fields_are;
     }
 
-pub read_sound : (bytes : List ℕ) (n : ℕ) (header : Header) → reading_of bytes n ≡ Ok header → IsSound header n
+pub read_sound : (bytes : List ℕ) (n : ℕ) (header : Header) → reading_of bytes n ≡ Ok header → IsSoundHeader header n
 read_sound bytes n header e = sound_from header n (reading_of-ok bytes n header e).none_fails
 
 -- an image that holds a header's bytes has that header, where it is sound there
@@ -148,6 +148,6 @@ pub ok_of_raw : (bytes : List ℕ) (n : ℕ) (result : Result Header HeaderFault
 ok_of_raw bytes n (Ok header) long e = read_of_raw bytes n header long (sym e)
 ok_of_raw bytes n (Err fault) long e = tt
 
-pub ok_sound : (bytes : List ℕ) (n : ℕ) (result : Result Header HeaderFault) → result ≡ reading_of bytes n → IfOk result (λ header. IsSound header n)
+pub ok_sound : (bytes : List ℕ) (n : ℕ) (result : Result Header HeaderFault) → result ≡ reading_of bytes n → IfOk result (λ header. IsSoundHeader header n)
 ok_sound bytes n (Ok header) e = read_sound bytes n header (sym e)
 ok_sound bytes n (Err fault) e = tt

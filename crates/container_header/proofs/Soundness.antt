@@ -8,7 +8,7 @@ use Rattle.container_header.specs.declared.header.Header.{Header}
 use Rattle.save_bytes.specs.Extents.{lies_inside, overlap, LiesInside, AreApart}
 use Rattle.save_bytes.proofs.ExtentLemmas.{inside, not-lies_inside, apart, overlap-apart, AllApart, all_apart, some_overlap-apart}
 use Rattle.container_header.specs.Conditions.{max_length, table_at, regions, is_bad_descriptor, is_bad_partition, layout_faults, first_failing}
-use Rattle.container_header.specs.Sound.{IsDescriptor, IsPartition, IsSound, active_at, inactive_at}
+use Rattle.container_header.specs.Sound.{IsDescriptorPlace, IsPartition, IsSoundHeader, active_at, inactive_at}
 use Rattle.container_header.specs.Raw.{other_table, flipped}
 
 -- none of the tests is met
@@ -32,10 +32,10 @@ second_from parts test h two = rw two at h
 second_to : (parts : ℕ) (test : Bool) → (parts ≡ 2 → test ≡ false) → ((parts == 2) && test) ≡ false
 second_to parts test h = grind (arith, nat_tests)
 
-descriptor_from : (header : Header) (e : Extent) → is_bad_descriptor header e ≡ false → IsDescriptor e header.table_size
+descriptor_from : (header : Header) (e : Extent) → is_bad_descriptor header e ≡ false → IsDescriptorPlace e header.table_size
 descriptor_from header e h = let both = or_parts _ _ h in record { shortest = ltb-false e.size 0x44 both.1; inside = inside e 0 header.table_size both.0 }
 
-descriptor_to : (header : Header) (e : Extent) → IsDescriptor e header.table_size → is_bad_descriptor header e ≡ false
+descriptor_to : (header : Header) (e : Extent) → IsDescriptorPlace e header.table_size → is_bad_descriptor header e ≡ false
 descriptor_to header e h = or_from _ _ (not-lies_inside e 0 header.table_size h.inside) (le-ltb e.size 0x44 h.shortest)
 
 partition_from : (e : Extent) (n : ℕ) → is_bad_partition e n ≡ false → IsPartition e n
@@ -99,7 +99,7 @@ active_apart : (header : Header) (first : Bool)
 active_apart header true h = h
 active_apart header false h = λ x a b c d. h x c d a b
 
-none_sound : (header : Header) (n : ℕ) → NoneHolds (layout_faults header n) → IsSound header n
+none_sound : (header : Header) (n : ℕ) → NoneHolds (layout_faults header n) → IsSoundHeader header n
 none_sound header n (longest, (parts, (active, (table, (primary, (secondary, (a, (b, (a_b, (part_a, (part_b, (regions, _)))))))))))) =
     let count = in_two_from header.parts 1 parts in
     let byte = in_two_from header.active 0 active in
@@ -141,7 +141,7 @@ none_sound header n (longest, (parts, (active, (table, (primary, (secondary, (a,
           (pairs.primary_b (eq-eqb header.parts 2 two));
     }
 
-sound_none : (header : Header) (n : ℕ) → IsSound header n → NoneHolds (layout_faults header n)
+sound_none : (header : Header) (n : ℕ) → IsSoundHeader header n → NoneHolds (layout_faults header n)
 sound_none header n s =
     let is_two : (header.parts == 2) ≡ true → header.parts ≡ 2 = eqb-true header.parts 2 in
     let pairs : RegionsApart header (header.parts == 2) = record {
@@ -191,17 +191,17 @@ sound_none header n s =
     )
 
 -- no condition fails exactly where a header is sound
-pub sound_from : (header : Header) (n : ℕ) → first_failing 1 (layout_faults header n) ≡ None → IsSound header n
+pub sound_from : (header : Header) (n : ℕ) → first_failing 1 (layout_faults header n) ≡ None → IsSoundHeader header n
 sound_from header n e = none_sound header n (none_from 1 (layout_faults header n) e)
 
-pub sound_to : (header : Header) (n : ℕ) → IsSound header n → first_failing 1 (layout_faults header n) ≡ None
+pub sound_to : (header : Header) (n : ℕ) → IsSoundHeader header n → first_failing 1 (layout_faults header n) ≡ None
 sound_to header n s = none_to 1 (layout_faults header n) (sound_none header n s)
 
 at_most_one : (active : ℕ) → other_table active ≤ 1
 at_most_one active = cond_both (active == 0) 1 0 (λ x. x ≤ 1) (λ _. lit≤ tt) (λ _. lit≤ tt)
 
 -- a flipped header is as sound as it was
-pub sound-flipped : (header : Header) (hash : List ℕ) (n : ℕ) → IsSound header n → IsSound (flipped header hash) n
+pub sound-flipped : (header : Header) (hash : List ℕ) (n : ℕ) → IsSoundHeader header n → IsSoundHeader (flipped header hash) n
 sound-flipped header hash n s =
     let none = sound_none header n s in
     let active = other_table header.active in

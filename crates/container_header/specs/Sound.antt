@@ -14,7 +14,7 @@ abbrev pub inactive_at : Header → ℕ
 inactive_at header = if header.active == 0 then header.secondary else header.primary
 
 -- a descriptor lies in the table, and is no shorter than its first part
-pub record IsDescriptor (descriptor : Extent) (table_size : ℕ) : Type 0 where
+pub record IsDescriptorPlace (descriptor : Extent) (table_size : ℕ) : Type 0 where
   pub shortest : 0x44 ≤ descriptor.size
   pub inside : LiesInside descriptor 0 table_size
 
@@ -24,7 +24,7 @@ pub record IsPartition (partition : Extent) (image_length : ℕ) : Type 0 where
   pub inside : LiesInside partition 512 image_length
 
 -- no condition of the layout fails, for an image of a length
-pub record IsSound (header : Header) (image_length : ℕ) : Type 0 where
+pub record IsSoundHeader (header : Header) (image_length : ℕ) : Type 0 where
   pub longest : image_length ≤ max_length
   pub one_part : 1 ≤ header.parts
   pub two_parts : header.parts ≤ 2
@@ -33,8 +33,8 @@ pub record IsSound (header : Header) (image_length : ℕ) : Type 0 where
   pub largest_table : header.table_size ≤ 65536
   pub primary_inside : LiesInside (table_at header header.primary) 512 image_length
   pub secondary_inside : LiesInside (table_at header header.secondary) 512 image_length
-  pub descriptor_a : IsDescriptor header.desc_a header.table_size
-  pub descriptor_b : header.parts ≡ 2 → IsDescriptor header.desc_b header.table_size
+  pub descriptor_a : IsDescriptorPlace header.desc_a header.table_size
+  pub descriptor_b : header.parts ≡ 2 → IsDescriptorPlace header.desc_b header.table_size
   pub partition_a : IsPartition header.part_a image_length
   pub partition_b : header.parts ≡ 2 → IsPartition header.part_b image_length
   pub descriptors_apart : header.parts ≡ 2 → AreApart header.desc_a header.desc_b
@@ -59,4 +59,4 @@ pub record IsHeaderOf (header : Header) (image : List ℕ) : Type 0 where
   pub kind_is : kind_of image ≡ Some header.kind
   pub version_is : word_at image 0x04 ≡ version_of header.kind
   pub fields_are : fields_of header.kind image ≡ header
-  pub sound : IsSound header (length image)
+  pub sound : IsSoundHeader header (length image)

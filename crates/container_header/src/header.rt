@@ -76,7 +76,7 @@ pub struct Header {
 impl Header {
     ghost use Rattle.container_header.specs.Fields.{bytes_at};
     ghost use Rattle.container_header.specs.Conditions.{first_bytes, reading, reading_of, layout_faults, first_failing};
-    ghost use Rattle.container_header.specs.Sound.{active_at, inactive_at, IsSound};
+    ghost use Rattle.container_header.specs.Sound.{active_at, inactive_at, IsSoundHeader};
     ghost use Rattle.container_header.specs.Raw.{IsOfRaw, flipped};
 
     /// The header of an image of `len` bytes, from the image's first 512 bytes (zeros after its
@@ -89,7 +89,7 @@ impl Header {
         ensures of_sector { result ≡ reading_of sector.now len }
         ensures exact { (image : List ℕ) → length image ≡ len → sector.now ≡ first_bytes image → result ≡ reading image }
         ensures of_raw { IfOk result IsOfRaw }
-        ensures sound { IfOk result (λ header. IsSound header len) }
+        ensures sound { IfOk result (λ header. IsSoundHeader header len) }
     {
         read_sector(sector, len)
     }
@@ -132,7 +132,7 @@ impl Header {
     pub fn flip(&self, hash: &[u8; 32]) -> Header
         ensures flipped { result ≡ flipped self.now hash.now }
         ensures of_raw { IsOfRaw self.now → IsOfRaw result }
-        ensures sound { (len : ℕ) → IsSound self.now len → IsSound result len }
+        ensures sound { (len : ℕ) → IsSoundHeader self.now len → IsSoundHeader result len }
         ensures active { active_at result ≡ inactive_at self.now }
         ensures inactive { inactive_at result ≡ active_at self.now }
     {

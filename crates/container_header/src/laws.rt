@@ -4,7 +4,7 @@
 ghost use Rattle.std.specs.Prelude.{◌≡◌, ℕ, ◌+◌, ◌<◌, Bool, true, false, List, length, slice_get, Some, None, Ok, ◌↔◌};
 ghost use Rattle.container_header.specs.declared.header.Header.{Header};
 ghost use Rattle.container_header.specs.Conditions.{layout_faults, first_failing, reading};
-ghost use Rattle.container_header.specs.Sound.{IsSound, IsHeaderOf};
+ghost use Rattle.container_header.specs.Sound.{IsSoundHeader, IsHeaderOf};
 
 /// The condition that is named fails, and none before it does.
 pub fn named_condition_is_the_first()
@@ -15,7 +15,7 @@ pub fn named_condition_is_the_first()
 /// No condition of the layout fails exactly where the header is sound.
 pub fn no_condition_fails_where_sound()
     ensures { (header : Header) (image_length : ℕ) → (first_failing 1 (layout_faults header image_length) ≡ None)
-        ↔ IsSound header image_length }
+        ↔ IsSoundHeader header image_length }
 {}
 
 /// An image's header is read exactly where it is sound.

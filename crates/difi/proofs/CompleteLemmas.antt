@@ -11,7 +11,7 @@ use Rattle.difi.specs.Conditions.{reading, parts, difi_tests, name_tests, level_
 use Rattle.difi.specs.Conditions.{has_no_place, has_bad_copies, has_short_bitmap, has_overlapping_copies, pairs}
 use Rattle.difi.specs.Conditions.{inner_levels, has_bad_level, has_overlapping_levels, external_extent}
 use Rattle.difi.specs.Conditions.{has_bad_external, has_too_few_entries}
-use Rattle.difi.specs.Sound.{HasParts, HasBlockSizes, IsPlaced, HasCopies, HasHashLevels, HasExternalLevel, HasSoundLevels, IsSound, IsDescriptor}
+use Rattle.difi.specs.Sound.{HasParts, HasBlockSizes, IsPlaced, HasCopies, HasHashLevels, HasExternalLevel, HasSoundLevels, IsSoundDifi, IsDescriptor}
 use Rattle.save_bytes.specs.Extents.{lies_inside, overlap, AreApart}
 use Rattle.save_bytes.proofs.ExtentLemmas.{AllApart, some_overlap-apart, list_any-apart}
 use Rattle.difi.proofs.TestLemmas.{not-ends_inside, is_outside-between}
@@ -148,7 +148,7 @@ difi_passes table place size h p selector =
 
 -- a sound descriptor is read
 pub reading-sound : (table : List ℕ) (place size part_len : ℕ) → IsDescriptor table place size
-    → IsSound (fields table place) size part_len → reading table place size part_len ≡ Ok (fields table place)
+    → IsSoundDifi (fields table place) size part_len → reading table place size part_len ≡ Ok (fields table place)
 reading-sound table place size part_len h sound =
     reading-ok table place size part_len
     (difi_passes table place size h sound.parts sound.levels.selector)

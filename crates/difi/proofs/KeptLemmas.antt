@@ -7,7 +7,7 @@ use Rattle.save_bytes.specs.declared.extent.Extent.{Extent}
 use Rattle.difi.specs.declared.descriptor.Difi.{Difi}
 use Rattle.difi.specs.Fields.{extent_at, level_at, ivfc_place, dpfs_place, fields}
 use Rattle.difi.specs.Conditions.{reading}
-use Rattle.difi.specs.Sound.{IsSound, IsDescriptor}
+use Rattle.difi.specs.Sound.{IsSoundDifi, IsDescriptor}
 use Rattle.difi.proofs.SoundLemmas.{is_read}
 use Rattle.difi.proofs.CompleteLemmas.{reading-sound}
 
@@ -55,8 +55,8 @@ module _ (old new : List ℕ) (start n : ℕ) (kept : KeepsBytes old new start n
       simp (get_or-take, get_or-drop) (byte_kept (at + i) (omega arith) (omega arith)))
 
 -- the selector is in no fact but its own
-with_selector : (difi : Difi) (size part_len selector : ℕ) → IsSound difi size part_len → selector < 2
-    → IsSound (record difi { selector = selector }) size part_len
+with_selector : (difi : Difi) (size part_len selector : ℕ) → IsSoundDifi difi size part_len → selector < 2
+    → IsSoundDifi (record difi { selector = selector }) size part_len
 with_selector difi size part_len selector h chosen =
     let p = h.parts in
     let b = h.levels.block_sizes in
@@ -195,10 +195,10 @@ reading-kept old new size part_len difi kept chosen h =
     fields_kept old new place front back ivfc dpfs ∙ ap (λ (d : Difi). record d { selector = slice_index new (place + 0x39) }) (sym read.fields) in
     let sound = with_selector difi size part_len (slice_index new (place + 0x39)) read.sound chosen in
     reading-sound new place size part_len (descriptor_kept old new place front back ivfc dpfs size kept.len read.descriptor)
-    (subst (λ (d : Difi). IsSound d size part_len) (sym same) sound) ∙ ap Ok same
+    (subst (λ (d : Difi). IsSoundDifi d size part_len) (sym same) sound) ∙ ap Ok same
 
 -- a table that changes in the selector and the master hash alone keeps the parts
-pub keeps_parts : (old new : List ℕ) (size part_len : ℕ) (difi : Difi) → IsSound difi size part_len
+pub keeps_parts : (old new : List ℕ) (size part_len : ℕ) (difi : Difi) → IsSoundDifi difi size part_len
     → length new ≡ length old → ((x : ℕ) → x ≢ difi.place + 0x39
     → (difi.place + difi.master.at ≤ x → x < difi.place + difi.master.at + difi.master.size → ⊥)
     → slice_index new x ≡ slice_index old x) → KeepsParts old new difi

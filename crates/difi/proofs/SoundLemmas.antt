@@ -11,7 +11,7 @@ use Rattle.difi.specs.Conditions.{reading, parts, difi_tests, name_tests, level_
 use Rattle.difi.specs.Conditions.{has_no_place, has_bad_copies, has_short_bitmap, has_overlapping_copies, pairs}
 use Rattle.difi.specs.Conditions.{inner_levels, has_bad_level, has_overlapping_levels, external_extent}
 use Rattle.difi.specs.Conditions.{has_bad_external, has_too_few_entries}
-use Rattle.difi.specs.Sound.{HasParts, HasBlockSizes, IsPlaced, HasCopies, HasHashLevels, HasExternalLevel, IsSound, IsDescriptor}
+use Rattle.difi.specs.Sound.{HasParts, HasBlockSizes, IsPlaced, HasCopies, HasHashLevels, HasExternalLevel, IsSoundDifi, IsDescriptor}
 use Rattle.save_bytes.specs.Extents.{AreApart}
 use Rattle.save_bytes.proofs.ExtentLemmas.{AllApart, all_apart, apart_from}
 use Rattle.difi.proofs.TestLemmas.{ends_inside, between, not_empty, enough_entries}
@@ -251,7 +251,7 @@ on_names table ivfc dpfs h =
 pub record IsRead (table : List ℕ) (place size part_len : ℕ) (difi : Difi) : Type 0 where
   pub fields : difi ≡ fields table place
   pub descriptor : IsDescriptor table place size
-  pub sound : IsSound difi size part_len
+  pub sound : IsSoundDifi difi size part_len
 
 pub is_read : (table : List ℕ) (place size part_len : ℕ) (difi : Difi) → reading table place size part_len ≡ Ok difi → IsRead table place size part_len difi
 is_read table place size part_len difi h =
@@ -259,7 +259,7 @@ is_read table place size part_len difi h =
     let first = on_difi table place size passed.difi in
     let names = on_names table (ivfc_place table place) (dpfs_place table place) passed.names in
     let levels = on_levels (fields table place) part_len passed.levels in
-    let sound : IsSound (fields table place) size part_len = record {
+    let sound : IsSoundDifi (fields table place) size part_len = record {
       parts = first.parts;
       levels = record {
         selector = first.selector;

@@ -95,7 +95,7 @@ pub record HasSoundLevels (difi : Difi) (part_len : ℕ) : Type 0 where
   pub external_level : difi.external ≡ true → HasExternalLevel difi part_len
 
 -- a descriptor of a size, for a partition of a length, on which no condition fails
-pub record IsSound (difi : Difi) (size part_len : ℕ) : Type 0 where
+pub record IsSoundDifi (difi : Difi) (size part_len : ℕ) : Type 0 where
   pub parts : HasParts difi size
   pub levels : HasSoundLevels difi part_len
 

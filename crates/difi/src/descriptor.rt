@@ -3,7 +3,7 @@
 ghost use Rattle.std.specs.Prelude.{◌≡◌, ℕ, ◌+◌, ◌<◌, ◌≤◌, length, slice_set, IfOk, IsOk, ◌↔◌};
 ghost use Rattle.difi.specs.Fields.{fields};
 ghost use Rattle.difi.specs.Conditions.{reading};
-ghost use Rattle.difi.specs.Sound.{IsSound, IsDescriptor};
+ghost use Rattle.difi.specs.Sound.{IsSoundDifi, IsDescriptor};
 
 use crate::conditions::{check_difi, check_names};
 use crate::fault::DifiFault;
@@ -71,10 +71,10 @@ impl Difi {
         requires whole { 0x44 ≤ size }
         ensures exact { result ≡ reading table.now place size part_len }
         ensures fields { IfOk result (λ difi. difi ≡ fields table.now place) }
-        ensures sound { IfOk result (λ difi. IsSound difi size part_len) }
+        ensures sound { IfOk result (λ difi. IsSoundDifi difi size part_len) }
         // No condition fails: stated as facts, and not as the tests in their order.
         ensures ok { IsOk result
-            ↔ (IsDescriptor table.now place size × IsSound (fields table.now place) size part_len) }
+            ↔ (IsDescriptor table.now place size × IsSoundDifi (fields table.now place) size part_len) }
     {
         checked(table, place as usize, size, part_len)
     }

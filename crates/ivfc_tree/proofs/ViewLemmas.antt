@@ -21,7 +21,7 @@ use Rattle.ivfc_tree.specs.declared.view.IvfcView.{IvfcView}
 use Rattle.ivfc_tree.specs.Levels.{level_of}
 use Rattle.ivfc_tree.specs.Paths.{block_state, cell_in}
 use Rattle.ivfc_tree.specs.View.{HasTree, view_state, rest_of, IsVerified}
-use Rattle.ivfc_tree.specs.Held.{shown, SameView, SameOwn, HashKeeps, hash_lands}
+use Rattle.ivfc_tree.specs.Held.{shown, SameHashView, SameOwn, HashKeeps, hash_lands}
 use Rattle.ivfc_tree.specs.ViewLaws.{view_cells, place_inside}
 use Rattle.ivfc_tree.specs.KeepLaws.{HashLands-before}
 
@@ -45,7 +45,7 @@ view_stays base new part master difi state refusal tree stays = record {
 
 module _ {S : Type 0} (states : S → State) (keeps : Spot → S → S → Type 0) (lands : S → ℕ → Spot → Type 0)
     (s t : IvfcView S)
-    (refusal : Option Bad) (same : SameView s t) where
+    (refusal : Option Bad) (same : SameHashView s t) where
   same_own : (spot : Spot) → SameOwn spot s t
   same_own (Mark part level block) = λ here. rw same.state_now refl
   same_own Frame = (λ level block. rw same.state_now refl, same.master_now)
@@ -55,7 +55,7 @@ module _ {S : Type 0} (states : S → State) (keeps : Spot → S → S → Type 
   pub hashed_read : HasTree (states s.base.now).shape s.difi.now (length s.master.now)
       → Reads states keeps lands s.base.now t.base.now refusal
       → Reads (shown states) (HashKeeps keeps) (hash_lands lands) s t refusal
-      × Reads states keeps lands s.base.now t.base.now refusal × SameView s t
+      × Reads states keeps lands s.base.now t.base.now refusal × SameHashView s t
   hashed_read tree reads = (
     record {
       stays = rw (same.hold.same_part, same.hold.same_difi, same.master_now, same.state_now)

@@ -17,7 +17,7 @@ abbrev pub shown : {S : Type 0} → (S → State) → IvfcView S → State
 shown states view = view_state (states view.base.now) view.part view.master.now view.difi.now view.state.now
 
 -- the view holds these
-pub record IsViewOf {S : Type 0} (view : IvfcView S) (base : MutBor S) (part : ℕ) (difi : Difi)
+pub record IsHashViewOf {S : Type 0} (view : IvfcView S) (base : MutBor S) (part : ℕ) (difi : Difi)
     (master : MutBor (List ℕ))
     (state : MutBor IvfcState) : Type 0 where
   pub same_base : view.base.ghost_name ≡ base.ghost_name
@@ -40,7 +40,7 @@ pub record SameHold {S : Type 0} (old new : IvfcView S) : Type 0 where
   pub marks : AsManyMarks old.state.now new.state.now
 
 -- the same master hash and state too; the base may have changed
-pub record SameView {S : Type 0} (old new : IvfcView S) : Type 0 where
+pub record SameHashView {S : Type 0} (old new : IvfcView S) : Type 0 where
   pub hold : SameHold old new
   pub master_now : new.master.now ≡ old.master.now
   pub state_now : new.state.now ≡ old.state.now

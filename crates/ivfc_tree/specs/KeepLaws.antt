@@ -6,9 +6,9 @@ use Rattle.save_bytes.specs.Spots.{Spot, Mark, Frame, Hold, LandsAsBefore}
 use Rattle.difi.specs.declared.descriptor.Difi.{Difi}
 use Rattle.ivfc_tree.specs.declared.view.IvfcView.{IvfcView}
 use Rattle.ivfc_tree.specs.Levels.{IsLevel, level_of}
-use Rattle.ivfc_tree.specs.View.{CanView, can_view, HasLevels, HasTree, view_state}
+use Rattle.ivfc_tree.specs.View.{CanViewHashes, can_view_hashes, HasLevels, HasTree, view_state}
 use Rattle.ivfc_tree.specs.Held.{shown, SameHold, SameOwn, HashKeeps, IsOnPath, MarksPath, HashLands, hash_lands}
-use Rattle.ivfc_tree.specs.ViewLaws.{level4_size, true-can_view, tree_of, view_cells}
+use Rattle.ivfc_tree.specs.ViewLaws.{level4_size, true-can_view_hashes, tree_of, view_cells}
 
 module _ {S : Type 0} where
   SameHold-same : (s : IvfcView S) → SameHold s s
@@ -79,7 +79,7 @@ module _ {S : Type 0} (states : S → State) (keeps : Spot → S → S → Type 
   pub HashKeeps-shape : ((s t : S) → keeps Hold s t → (states t).shape ≡ (states s).shape) → (s t : IvfcView S)
       → HashKeeps keeps Hold s t
       → (shown states t).shape ≡ (shown states s).shape
-  unfolding can_view
+  unfolding can_view_hashes
   HashKeeps-shape shape s t h =
       let marks = h.0.marks in
       rw (
@@ -102,8 +102,8 @@ module _ {S : Type 0} (states : S → State)
     (fits : (s : S) → IsTrue (states s).shape.sound → (states s).shape.size < 2 ^ 64) where
   -- what can be viewed, its tree, and its size
   module _ (s : IvfcView S) (sound : IsTrue (shown states s).shape.sound) where
-    pub shown_can : CanView (states s.base.now).shape s.difi.now (length s.master.now) s.state.now
-    shown_can = true-can_view (states s.base.now).shape s.difi.now (length s.master.now) s.state.now sound
+    pub shown_can : CanViewHashes (states s.base.now).shape s.difi.now (length s.master.now) s.state.now
+    shown_can = true-can_view_hashes (states s.base.now).shape s.difi.now (length s.master.now) s.state.now sound
 
     pub shown_tree : HasTree (states s.base.now).shape s.difi.now (length s.master.now)
     shown_tree = tree_of (states s.base.now).shape s.difi.now (length s.master.now) s.state.now

@@ -25,7 +25,7 @@ use Rattle.ivfc_tree.specs.Paths.{block_state, cell_in}
 -- what a view needs of its base, its descriptor, its master hash and its state: the base is laid out as the double-copy
 -- tree's contents, each place of it may be written, it never answers that a cell is damaged, and it has neither twins nor fixed
 -- places
-pub record CanView (base : Shape) (difi : Difi) (master_len : ℕ) (state : IvfcState) : Type 0 where
+pub record CanViewHashes (base : Shape) (difi : Difi) (master_len : ℕ) (state : IvfcState) : Type 0 where
   pub sound : IsTrue base.sound
   pub plain : IsTrue base.plain
   pub single : IsFalse base.doubled
@@ -37,8 +37,8 @@ pub record CanView (base : Shape) (difi : Difi) (master_len : ℕ) (state : Ivfc
   pub made : IsMadeFor difi state
 
 -- the same as a test
-unfoldable pub can_view : Shape → Difi → ℕ → IvfcState → Bool
-can_view base difi master_len state =
+unfoldable pub can_view_hashes : Shape → Difi → ℕ → IvfcState → Bool
+can_view_hashes base difi master_len state =
     base.sound && (base.plain && (not base.doubled && ((base.first == 0) && ((base.size == view_size difi) && ((master_len == difi.master.size)
     && (not (has_bad_log difi) && (not (has_bad_level difi) && (not (has_overlapping_levels difi) && (not (has_too_few_entries difi)
     && ((length state.put1.items == blocks_of difi.ivfc1) && ((length state.put2.items == blocks_of difi.ivfc2)
@@ -73,7 +73,7 @@ abbrev pub view_state : State → ℕ → List ℕ → Difi → IvfcState → St
 view_state base part master difi state = record {
   shape = record {
     size = difi.ivfc4.size;
-    sound = can_view base.shape difi (length master) state;
+    sound = can_view_hashes base.shape difi (length master) state;
     plain = false;
     first = 0;
     doubled = false;

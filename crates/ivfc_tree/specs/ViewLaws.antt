@@ -18,7 +18,7 @@ use Rattle.ivfc_tree.specs.declared.state.IvfcState.{IvfcState}
 use Rattle.ivfc_tree.specs.Levels.{IsLevel, level_of, level4_of, HasBlock, ivfc_level, padded_block, hash_entry, parent_of}
 use Rattle.ivfc_tree.specs.Marks.{SameMarks}
 use Rattle.ivfc_tree.specs.Paths.{own_state, marked_state}
-use Rattle.ivfc_tree.specs.View.{CanView, can_view, HasLevels, HasTree, view_state}
+use Rattle.ivfc_tree.specs.View.{CanViewHashes, can_view_hashes, HasLevels, HasTree, view_state}
 
 -- what holds of each of the four levels
 pub by_level : (P : ℕ → Type 0) → P 1 → P 2 → P 3 → P 4 → (level : ℕ) → IsLevel level → P level
@@ -81,11 +81,11 @@ levels_apart difi h upper level some less within =
     upper (some, omega (arith, less, within)) level (omega (arith, some, less), within) less
 
 -- the test passes where a view can be made
-pub can_view-true : (base : Shape) (difi : Difi) (master_len : ℕ) (state : IvfcState)
-    → CanView base difi master_len state
-    → can_view base difi master_len state ≡ true
-unfolding can_view
-can_view-true base difi master_len state h =
+pub can_view_hashes-true : (base : Shape) (difi : Difi) (master_len : ℕ) (state : IvfcState)
+    → CanViewHashes base difi master_len state
+    → can_view_hashes base difi master_len state ≡ true
+unfolding can_view_hashes
+can_view_hashes-true base difi master_len state h =
     and_from _ _ h.sound
     (and_from _ _ h.plain
     (and_from _ _ (ap not h.single)
@@ -101,11 +101,11 @@ can_view-true base difi master_len state h =
     (and_from _ _ (eq-eqb _ _ h.made.marks3) (eq-eqb _ _ h.made.marks4)))))))))))))
 
 -- and only there
-pub true-can_view : (base : Shape) (difi : Difi) (master_len : ℕ) (state : IvfcState)
-    → can_view base difi master_len state ≡ true
-    → CanView base difi master_len state
-unfolding can_view
-true-can_view base difi master_len state h =
+pub true-can_view_hashes : (base : Shape) (difi : Difi) (master_len : ℕ) (state : IvfcState)
+    → can_view_hashes base difi master_len state ≡ true
+    → CanViewHashes base difi master_len state
+unfolding can_view_hashes
+true-can_view_hashes base difi master_len state h =
     let sound = and_parts _ _ h in
     let plain = and_parts _ _ sound.1 in
     let single = and_parts _ _ plain.1 in
@@ -138,7 +138,7 @@ true-can_view base difi master_len state h =
 
 -- what can be viewed has its tree in the base
 pub tree_of : (base : Shape) (difi : Difi) (master_len : ℕ) (state : IvfcState) → base.size < 2 ^ 64
-    → CanView base difi master_len state
+    → CanViewHashes base difi master_len state
     → HasTree base difi master_len
 unfolding level_of
 tree_of base difi master_len state small h =
@@ -172,9 +172,9 @@ tree_of base difi master_len state small h =
 
 pub view_tree : (base : Shape) (difi : Difi) (master_len : ℕ) (state : IvfcState)
     → (IsTrue base.sound → base.size < 2 ^ 64)
-    → can_view base difi master_len state ≡ true → HasTree base difi master_len
+    → can_view_hashes base difi master_len state ≡ true → HasTree base difi master_len
 view_tree base difi master_len state fits sound =
-    let view = true-can_view base difi master_len state sound in
+    let view = true-can_view_hashes base difi master_len state sound in
     tree_of base difi master_len state (fits view.sound) view
 
 -- the entry of a block lies in the level above it, and that has the block in which it lies

@@ -9,7 +9,7 @@ ghost use Rattle.save_bytes.specs.Reads.{Reads};
 ghost use Rattle.difi.specs.Contents.{view_size};
 ghost use Rattle.difi.specs.Sound.{HasBlockSizes, HasHashLevels};
 ghost use Rattle.ivfc_tree.specs.Levels.{HasBlock};
-ghost use Rattle.ivfc_tree.specs.View.{CanView, IsVerified, view_state};
+ghost use Rattle.ivfc_tree.specs.View.{CanViewHashes, IsVerified, view_state};
 ghost use Rattle.ivfc_tree.specs.Held.{shown, HashKeeps, hash_lands};
 
 use super::*;
@@ -364,7 +364,7 @@ fn good_in<S: Space>(
     at: u64,
     most: usize,
 ) -> Result<usize, Bad>
-    requires view { CanView (S.state base.old).shape difi.now (length master.old) state.old }
+    requires view { CanViewHashes (S.state base.old).shape difi.now (length master.old) state.old }
     requires inside { at < difi.now.ivfc4.size }
     requires some { 1 ≤ most }
     ensures verified { IsVerified (view_state (S.state base.old) PART master.old difi.now state.old) at most result }

@@ -10,8 +10,8 @@ ghost use Rattle.save_bytes.specs.Answers.{IsPiece};
 ghost use Rattle.save_bytes.specs.Reads.{Reads};
 ghost use Rattle.ivfc_tree.specs.Levels.{HasBlock};
 ghost use Rattle.ivfc_tree.specs.Paths.{block_state};
-ghost use Rattle.ivfc_tree.specs.View.{CanView, IsVerified, status_of, rest_of};
-ghost use Rattle.ivfc_tree.specs.Held.{shown, IsViewOf, SameView, HashKeeps, hash_lands};
+ghost use Rattle.ivfc_tree.specs.View.{CanViewHashes, IsVerified, status_of, rest_of};
+ghost use Rattle.ivfc_tree.specs.Held.{shown, IsHashViewOf, SameHashView, HashKeeps, hash_lands};
 ghost use Rattle.ivfc_tree.specs.contracts.view.IvfcView.{the_row};
 ghost use mir.Syntax.{named};
 
@@ -52,8 +52,8 @@ impl<'a, S: Space> IvfcView<'a, S> {
         master: &'a mut [u8],
         state: &'a mut IvfcState,
     ) -> IvfcView<'a, S>
-        requires { CanView (S.state base.old).shape difi.now (length master.old) state.old }
-        ensures holds { IsViewOf result base.entry part difi.now master.entry state.entry }
+        requires { CanViewHashes (S.state base.old).shape difi.now (length master.old) state.old }
+        ensures holds { IsHashViewOf result base.entry part difi.now master.entry state.entry }
         ensures sound { IsTrue (shown S.state result).shape.sound }
     {
         IvfcView {
@@ -81,7 +81,7 @@ impl<'a, S: Space> IvfcView<'a, S> {
         ensures plain { NeverDamaged (result_err result) }
         ensures reads { Reads (shown S.state) (HashKeeps S.keeps) (hash_lands S.lands) self.old self.new (result_err result) }
         ensures base { Reads S.state S.keeps S.lands self.old.base.now self.new.base.now (result_err result) }
-        ensures same { SameView self.old self.new }
+        ensures same { SameHashView self.old self.new }
     {
         let base = &mut *self.base;
         let master = &mut *self.master;
@@ -97,7 +97,7 @@ impl<'a, S: Space> IvfcView<'a, S> {
         ensures verified { IsVerified (shown S.state self.old) at most result }
         ensures reads { Reads (shown S.state) (HashKeeps S.keeps) (hash_lands S.lands) self.old self.new (result_err result) }
         ensures base { Reads S.state S.keeps S.lands self.old.base.now self.new.base.now (result_err result) }
-        ensures same { SameView self.old self.new }
+        ensures same { SameHashView self.old self.new }
     {
         let block = at / block_size(&self.difi.ivfc4);
         let rest = rest_of_block(self.difi, at).min(most as u64) as usize;
@@ -123,7 +123,7 @@ impl<'a, S: Space> IvfcView<'a, S> {
         ensures* after { sem 𝓛 (Rests (the_row (record { mir = named 0; lft = [] }) S.row) self.entry (λ new.
             Reads (shown S.state) (HashKeeps S.keeps) (hash_lands S.lands) self.old new (result_err result)
             × Reads S.state S.keeps S.lands self.old.base.now new.base.now (result_err result)
-            × SameView self.old new)) }
+            × SameHashView self.old new)) }
     {
         let place = level_of(self.difi, 4).at + at;
         let most = match self.verify(at, most) {
@@ -143,7 +143,7 @@ impl<'a, S: Space> IvfcView<'a, S> {
         ensures plain { NeverDamaged (result_err result) }
         ensures reads { Reads (shown S.state) (HashKeeps S.keeps) (hash_lands S.lands) self.old self.new (result_err result) }
         ensures base { Reads S.state S.keeps S.lands self.old.base.now self.new.base.now (result_err result) }
-        ensures same { SameView self.old self.new }
+        ensures same { SameHashView self.old self.new }
     {
         match self.found(level, block) {
             Ok(BlockState::Good) => Ok(Status::Good),

@@ -32,22 +32,22 @@ use Rattle.ivfc_tree.specs.declared.path.BlockState.TheVariants.{Good, Blank as 
 use Rattle.ivfc_tree.specs.Paths.{cell_in}
 use Rattle.ivfc_tree.specs.Levels.{level_of, level4_of}
 use Rattle.ivfc_tree.specs.declared.state.IvfcState.{IvfcState}
-use Rattle.ivfc_tree.specs.View.{CanView as CanHash, HasTree as HasHashes, IsVerified}
+use Rattle.ivfc_tree.specs.View.{CanViewHashes, HasTree as HasHashes, IsVerified}
 use Rattle.ivfc_tree.specs.View.{view_state as hashed_state}
 use Rattle.ivfc_tree.specs.ViewLaws.{tree_of as hashes_of, place_inside}
 use Rattle.ivfc_tree.proofs.LevelLemmas.{level4_is}
 use Rattle.ivfc_tree.proofs.ViewLemmas.{view_stays as hashed_stay}
 use Rattle.part_store.specs.declared.part.Part.{Part}
-use Rattle.part_store.specs.Parts.{master_of, contents_of, hashed_of, part_state, CanView, can_view, IsFound}
+use Rattle.part_store.specs.Parts.{master_of, contents_of, hashed_of, part_state, CanViewPart, can_view_part, IsFound}
 
 -- a part that can be viewed has its contents in the base
-pub contents_there : (base : State) (part : Part) (n : ℕ) → base.shape.size < 2 ^ 64 → CanView base.shape part n
+pub contents_there : (base : State) (part : Part) (n : ℕ) → base.shape.size < 2 ^ 64 → CanViewPart base.shape part n
     → HasContents base.shape part.at part.difi part.dpfs.selector
 contents_there base part n small view = contents_of_base base.shape part.at part.difi part.dpfs small view.contents
 
 -- and its hash tree in the contents
-pub hash_view : (base : State) (part : Part) (table : List ℕ) → CanView base.shape part (length table)
-    → CanHash (contents_of base part).shape part.difi (length (master_of table part.difi)) part.ivfc
+pub hash_view : (base : State) (part : Part) (table : List ℕ) → CanViewPart base.shape part (length table)
+    → CanViewHashes (contents_of base part).shape part.difi (length (master_of table part.difi)) part.ivfc
 hash_view base part table view =
     let difi = part.difi in
     let from = difi.place + difi.master.at in
@@ -65,23 +65,23 @@ hash_view base part table view =
     }
 
 pub hashes_there : (base : State) (part : Part) (table : List ℕ) → base.shape.size < 2 ^ 64
-    → CanView base.shape part (length table)
+    → CanViewPart base.shape part (length table)
     → HasHashes (contents_of base part).shape part.difi (length (master_of table part.difi))
 hashes_there base part table small view =
     let contents = contents_there base part (length table) small view in
     hashes_of (contents_of base part).shape part.difi (length (master_of table part.difi)) part.ivfc
-        (omega (arith, contents.view_fits, contents.small)) (hash_view base part table view)
+    (omega (arith, contents.view_fits, contents.small)) (hash_view base part table view)
 
 -- the place of a byte of level four in the contents
 pub place_there : (base : State) (part : Part) (table : List ℕ) (at : ℕ) → base.shape.size < 2 ^ 64
-    → CanView base.shape part (length table) → at < part.difi.ivfc4.size
+    → CanViewPart base.shape part (length table) → at < part.difi.ivfc4.size
     → (level4_of part.difi).at + at < view_size part.difi
 place_there base part table at small view inside =
     let there = place_inside (contents_of base part).shape part.difi (length (master_of table part.difi)) at (hashes_there base part table small view) inside in
     subst (λ (level : LevelPlace). level.at + at < view_size part.difi) (level4_is part.difi) there
 
 pub place_small : (base : State) (part : Part) (table : List ℕ) (at : ℕ) → base.shape.size < 2 ^ 64
-    → CanView base.shape part (length table) → at < part.difi.ivfc4.size → (level4_of part.difi).at + at < 2 ^ 64
+    → CanViewPart base.shape part (length table) → at < part.difi.ivfc4.size → (level4_of part.difi).at + at < 2 ^ 64
 place_small base part table at small view inside =
     let contents = contents_there base part (length table) small view in
     omega (arith, place_there base part table at small view inside, contents.view_fits, small)
@@ -133,7 +133,7 @@ module _ (first mid last : State) (part_at : ℕ) (difi : Difi) (dpfs : DpfsStat
             let within : at + k < difi.ivfc4.size = omega (arith, h, located.bounded, verified.inside) in
             let there : (level4_of difi).at + at + k ≡ (level_of difi 4).at + (at + k) = omega (arith, four) in
             let in_first : (level4_of difi).at + at + k < first.shape.size =
-                omega (arith, there, place_inside first.shape difi (length master) (at + k) tree within) in
+            omega (arith, there, place_inside first.shape difi (length master) (at + k) tree within) in
             let same : last.cells (place + k) ≡ mid.cells (place + k) = later.cells told_mid (place + k) (omega (arith, h, located.in_base)) in
             let shown : first.cells ((level4_of difi).at + at + k) ≡ last.cells (place + k) =
             sym (stays.cells told ((level4_of difi).at + at + k) in_first) ∙ ap mid.cells (located.places told_mid k h) ∙ sym same in
@@ -175,8 +175,15 @@ found_piece s base at most place m plain same_told found (Err (Damaged part leve
 -- a space that was refused bytes lends none
 pub refused_piece : (s base : State) (at most : ℕ) (bad : Bad) → IsFalse s.shape.plain → IsFound s base at most (Err bad) → IsPiece s at most (Err bad)
 refused_piece s base at most bad worn found =
-    record { some = tt; bounded = tt; inside = tt; bytes = λ told. tt; damaged = found.damaged; plain =
-    λ plain. absurd (let no = worn in cc) }
+    record {
+      some = tt;
+      bounded = tt;
+      inside = tt;
+      bytes = λ told. tt;
+      damaged = found.damaged;
+      plain =
+          λ plain. absurd (let no = worn in cc);
+    }
 
 -- What is known of a base from its contents, after a call that left alone each of their spots.
 module _ {S : Type 0} (states : S → State) (keeps : Spot → S → S → Type 0) (lands : S → ℕ → Spot → Type 0)
@@ -215,22 +222,28 @@ module _ {S : Type 0} (states : S → State) (keeps : Spot → S → S → Type 
 
 -- what stays in the contents stays in the partition
 pub part_stays : (first last : State) (part : Part) (table : List ℕ) (refusal : Option Bad)
-    → first.shape.size < 2 ^ 64 → CanView first.shape part (length table) → last.shape ≡ first.shape
+    → first.shape.size < 2 ^ 64 → CanViewPart first.shape part (length table) → last.shape ≡ first.shape
     → Stays (contents_of first part) (contents_of last part) refusal
     → Stays (part_state first part table) (part_state last part table) refusal
 part_stays first last part table refusal small view shape stays =
     let hashed = hashed_stay (contents_of first part) (contents_of last part) part.number (master_of table part.difi)
-        part.difi part.ivfc refusal (hashes_there first part table small view) stays in
+    part.difi part.ivfc refusal (hashes_there first part table small view) stays in
     record {
-      space = record { shape = rw shape refl; faults = hashed.space.faults; cause = hashed.space.cause; told =
-          hashed.space.told; twins = λ told. UnlessDisk-map refusal
-          (λ _. record { bottom = λ x h. refl; is_fixed = λ x h. refl }) (hashed.space.twins told) };
+      space = record {
+        shape = rw shape refl;
+        faults = hashed.space.faults;
+        cause = hashed.space.cause;
+        told =
+            hashed.space.told;
+        twins = λ told. UnlessDisk-map refusal
+            (λ _. record { bottom = λ x h. refl; is_fixed = λ x h. refl }) (hashed.space.twins told);
+      };
       cells = hashed.cells;
     }
 
 -- what stays in the base stays in the partition
 pub part_from_base : (base last : State) (part : Part) (table : List ℕ) (refusal : Option Bad)
-    → base.shape.size < 2 ^ 64 → CanView base.shape part (length table) → Stays base last refusal
+    → base.shape.size < 2 ^ 64 → CanViewPart base.shape part (length table) → Stays base last refusal
     → Stays (part_state base part table) (part_state last part table) refusal
 part_from_base base last part table refusal small view stays =
     let tree = contents_there base part (length table) small view in
@@ -238,22 +251,22 @@ part_from_base base last part table refusal small view stays =
 
 -- and after a call on the partition
 pub part_later : (first mid last : State) (part : Part) (table : List ℕ) (refusal : Option Bad)
-    → first.shape.size < 2 ^ 64 → CanView first.shape part (length table) → mid.shape ≡ first.shape
+    → first.shape.size < 2 ^ 64 → CanViewPart first.shape part (length table) → mid.shape ≡ first.shape
     → Stays (part_state first part table) (part_state mid part table) None → Stays mid last refusal
     → Stays (part_state first part table) (part_state last part table) refusal
 part_later first mid last part table refusal small view shape before stays =
-    let there : CanView mid.shape part (length table) = rw shape view in
+    let there : CanViewPart mid.shape part (length table) = rw shape view in
     Stays-join (part_state first part table) (part_state mid part table) (part_state last part table) refusal before
-        (part_from_base mid last part table refusal (rw shape small) there stays)
+    (part_from_base mid last part table refusal (rw shape small) there stays)
 
 -- where bytes were found there is one
 pub found_inside : (s base : State) (at most place m : ℕ) → IsTrue base.shape.sound → IsFound s base at most (Ok (place, m)) → IsInside base.shape place 1
 found_inside s base at most place m sound found = record { sound = sound; inside = omega (arith, found.some, found.in_base) }
 
 -- the test passes where a view can be made
-pub can_view-true : (base : Shape) (part : Part) (n : ℕ) → CanView base part n → can_view base part n ≡ true
-unfolding can_view
-can_view-true base part n view =
+pub can_view_part-true : (base : Shape) (part : Part) (n : ℕ) → CanViewPart base part n → can_view_part base part n ≡ true
+unfolding can_view_part
+can_view_part-true base part n view =
     and_from _ _ (contents_pass base part.at part.difi part.dpfs view.contents)
     (and_from _ _ (le-leb _ _ view.difi)
     (and_from _ _ (le-leb _ _ view.master)
@@ -267,9 +280,9 @@ not-true true h = cc
 not-true false h = refl
 
 -- and only there
-pub true-can_view : (base : Shape) (part : Part) (n : ℕ) → can_view base part n ≡ true → CanView base part n
-unfolding can_view
-true-can_view base part n test =
+pub true-can_view_part : (base : Shape) (part : Part) (n : ℕ) → can_view_part base part n ≡ true → CanViewPart base part n
+unfolding can_view_part
+true-can_view_part base part n test =
     let contents = and_parts _ _ test in
     let difi = and_parts _ _ contents.1 in
     let master = and_parts _ _ difi.1 in

@@ -11,7 +11,7 @@ abbrev pub shown : {S : Type 0} → (S → State) → PartView S → State
 shown states view = part_state (states view.base.now) view.part.now view.table.now
 
 -- the view holds these
-pub record IsViewOf {S : Type 0} (view : PartView S) (base : MutBor S) (part : MutBor Part) (table : MutBor (List ℕ)) : Type 0 where
+pub record IsPartViewOf {S : Type 0} (view : PartView S) (base : MutBor S) (part : MutBor Part) (table : MutBor (List ℕ)) : Type 0 where
   pub same_base : view.base.ghost_name ≡ base.ghost_name
   pub base_now : view.base.now ≡ base.now
   pub same_part : view.part.ghost_name ≡ part.ghost_name
@@ -20,7 +20,7 @@ pub record IsViewOf {S : Type 0} (view : PartView S) (base : MutBor S) (part : M
   pub table_now : view.table.now ≡ table.now
 
 -- the same references; the base may have changed, and the part and the table have not
-pub record SameView {S : Type 0} (old new : PartView S) : Type 0 where
+pub record SamePartView {S : Type 0} (old new : PartView S) : Type 0 where
   pub same_base : new.base.ghost_name ≡ old.base.ghost_name
   pub same_part : new.part.ghost_name ≡ old.part.ghost_name
   pub part_now : new.part.now ≡ old.part.now

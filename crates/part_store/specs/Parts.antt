@@ -24,7 +24,7 @@ contents_of base part = contents_state base part.at part.difi part.dpfs
 
 -- What a view needs of its base, its part and its table. The partition lies in the base as its descriptor says, no level's
 -- condition fails, and the first part of the descriptor and the master hash lie in the table, apart.
-pub record CanView (base : Shape) (part : Part) (table_len : ℕ) : Type 0 where
+pub record CanViewPart (base : Shape) (part : Part) (table_len : ℕ) : Type 0 where
   pub contents : CanViewContents base part.at part.difi part.dpfs
   pub difi : part.difi.place + 0x44 ≤ table_len
   pub master : part.difi.place + part.difi.master.at + part.difi.master.size ≤ table_len
@@ -32,8 +32,8 @@ pub record CanView (base : Shape) (part : Part) (table_len : ℕ) : Type 0 where
   pub made : IsMadeFor part.difi part.ivfc
 
 -- the same as a test
-unfoldable pub can_view : Shape → Part → ℕ → Bool
-can_view base part table_len =
+unfoldable pub can_view_part : Shape → Part → ℕ → Bool
+can_view_part base part table_len =
     can_view_contents base part.at part.difi part.dpfs
     && (nat_le (part.difi.place + 0x44) table_len && (nat_le (part.difi.place + part.difi.master.at + part.difi.master.size) table_len
     && (not (overlap difi_part part.difi.master)
@@ -46,7 +46,7 @@ hashed_of base part table = hashed_state (contents_of base part) part.number (ma
 
 abbrev pub part_state : State → Part → List ℕ → State
 part_state base part table =
-    record (hashed_of base part table) { shape = record (hashed_of base part table).shape { sound = can_view base.shape part (length table) } }
+    record (hashed_of base part table) { shape = record (hashed_of base part table).shape { sound = can_view_part base.shape part (length table) } }
 
 -- Where bytes of a space lie in the base as a call left it, and how many lie there in one piece. Or the cell at the place
 -- is no byte, and is named.

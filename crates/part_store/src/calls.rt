@@ -9,9 +9,9 @@ ghost use Rattle.save_bytes.specs.Answers.{IsPiece};
 ghost use Rattle.save_bytes.specs.Reads.{Reads};
 ghost use Rattle.ivfc_tree.specs.Levels.{HasBlock, level4_of};
 ghost use Rattle.ivfc_tree.specs.Paths.{block_state};
-ghost use Rattle.ivfc_tree.specs.View.{CanView as CanHash, view_state, IsVerified, status_of};
+ghost use Rattle.ivfc_tree.specs.View.{CanViewHashes, view_state, IsVerified, status_of};
 ghost use Rattle.dpfs_tree.specs.Held.{shown_contents, ContentsKeep, contents_land};
-ghost use Rattle.part_store.specs.Parts.{CanView, contents_of, master_of, part_state, IsFound};
+ghost use Rattle.part_store.specs.Parts.{CanViewPart, contents_of, master_of, part_state, IsFound};
 
 use crate::part::Part;
 use difi::Difi;
@@ -29,7 +29,7 @@ fn verify_in<S: Space>(
     at: u64,
     most: usize,
 ) -> Result<usize, Bad>
-    requires view { CanHash (S.state contents.old).shape difi.now (length master.old) state.old }
+    requires view { CanViewHashes (S.state contents.old).shape difi.now (length master.old) state.old }
     requires inside { at + 1 ≤ difi.now.ivfc4.size }
     requires some { 1 ≤ most }
     ensures verified { IsVerified (view_state (S.state contents.old) number master.old difi.now state.old) at most result }
@@ -51,7 +51,7 @@ fn status_in<S: Space>(
     level: u8,
     block: u64,
 ) -> Result<Status, Bad>
-    requires view { CanHash (S.state contents.old).shape difi.now (length master.old) state.old }
+    requires view { CanViewHashes (S.state contents.old).shape difi.now (length master.old) state.old }
     requires there { HasBlock difi.now level block }
     ensures status { IsTrue (S.state contents.old).told → IfOk result (λ status. status
         ≡ status_of (block_state (S.state contents.old).cells master.old difi.now state.old level block)) }
@@ -72,7 +72,7 @@ pub(crate) fn status<S: Space>(
     level: u8,
     block: u64,
 ) -> Result<Status, Bad>
-    requires view { CanView (S.state base.old).shape part.old (length table.old) }
+    requires view { CanViewPart (S.state base.old).shape part.old (length table.old) }
     requires there { HasBlock part.old.difi level block }
     ensures status { IsTrue (S.state base.old).told → IfOk result (λ status. status
         ≡ status_of (block_state (contents_of (S.state base.old) part.old).cells (master_of table.old part.old.difi) part.old.difi part.old.ivfc level block)) }
@@ -118,7 +118,7 @@ fn find_in<S: Space>(
     most: usize,
 ) -> Result<(u64, usize), Bad>
     requires of { contents.old.difi.now ≡ difi.now }
-    requires view { CanHash (shown_contents S.state contents.old).shape difi.now (length master.old) state.old }
+    requires view { CanViewHashes (shown_contents S.state contents.old).shape difi.now (length master.old) state.old }
     requires inside { at + 1 ≤ difi.now.ivfc4.size }
     requires some { 1 ≤ most }
     ensures found { IsFound (view_state (shown_contents S.state contents.old) number master.old difi.now state.old) (S.state contents.new.base.now) at most result }
@@ -142,7 +142,7 @@ pub(crate) fn find<S: Space>(
     at: u64,
     most: usize,
 ) -> Result<(u64, usize), Bad>
-    requires view { CanView (S.state base.old).shape part.old (length table.old) }
+    requires view { CanViewPart (S.state base.old).shape part.old (length table.old) }
     requires inside { at + 1 ≤ part.old.difi.ivfc4.size }
     requires some { 1 ≤ most }
     ensures found { IsFound (part_state (S.state base.old) part.old table.old) (S.state base.new) at most result }
@@ -172,7 +172,7 @@ pub fn lend<'a, S: Space>(
     at: u64,
     most: usize,
 ) -> Result<&'a [u8], Bad>
-    requires view { CanView (S.state base.old).shape part.old (length table.old) }
+    requires view { CanViewPart (S.state base.old).shape part.old (length table.old) }
     requires inside { at + 1 ≤ part.old.difi.ivfc4.size }
     requires some { 1 ≤ most }
     ensures piece { IsPiece (part_state (S.state base.old) part.old table.old) at most result }

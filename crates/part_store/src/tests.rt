@@ -5,7 +5,7 @@ ghost use Rattle.save_bytes.specs.Memory.{memory_shape};
 ghost use Rattle.save_bytes.specs.Extents.{AreApart};
 ghost use Rattle.difi.specs.Sound.{HasSoundLevels, difi_part};
 ghost use Rattle.ivfc_tree.specs.Levels.{HasBlock};
-ghost use Rattle.part_store.specs.Parts.{CanView};
+ghost use Rattle.part_store.specs.Parts.{CanViewPart};
 
 use super::*;
 use difi::{Difi, Extent2, LevelPlace};
@@ -73,7 +73,7 @@ fn lone() -> Difi
 
 /// The partition with nothing changed, under a number.
 fn open(alloc: Global, number: u8) -> Result<Part, AllocError>
-    ensures view { IfOk result (λ part. CanView (memory_shape 110592 512) part 300) }
+    ensures view { IfOk result (λ part. CanViewPart (memory_shape 110592 512) part 300) }
     ensures size { IfOk result (λ part. part.difi.ivfc4.size ≡ 34816) }
     ensures block1 { IfOk result (λ part. HasBlock part.difi 1 0) }
     ensures block2 { IfOk result (λ part. HasBlock part.difi 2 0) }

@@ -12,8 +12,8 @@ ghost use Rattle.save_bytes.specs.Reads.{Reads};
 ghost use Rattle.ivfc_tree.specs.Levels.{HasBlock};
 ghost use Rattle.ivfc_tree.specs.Paths.{block_state};
 ghost use Rattle.ivfc_tree.specs.View.{status_of};
-ghost use Rattle.part_store.specs.Parts.{CanView, contents_of, master_of, IsFound};
-ghost use Rattle.part_store.specs.Held.{shown, IsViewOf, SameView};
+ghost use Rattle.part_store.specs.Parts.{CanViewPart, contents_of, master_of, IsFound};
+ghost use Rattle.part_store.specs.Held.{shown, IsPartViewOf, SamePartView};
 ghost use Rattle.part_store.specs.contracts.view.PartView.{the_row};
 ghost use mir.Syntax.{named};
 
@@ -33,8 +33,8 @@ pub struct PartView<'a, S: Space> {
 impl<'a, S: Space> PartView<'a, S> {
     /// The view of a part over the image, with the table that has its descriptor.
     pub fn new(base: &'a mut S, part: &'a mut Part, table: &'a mut [u8]) -> PartView<'a, S>
-        requires { CanView (S.state base.old).shape part.old (length table.old) }
-        ensures holds { IsViewOf result base.entry part.entry table.entry }
+        requires { CanViewPart (S.state base.old).shape part.old (length table.old) }
+        ensures holds { IsPartViewOf result base.entry part.entry table.entry }
         ensures sound { IsTrue (shown S.state result).shape.sound }
     {
         PartView { base, part, table }
@@ -55,7 +55,7 @@ impl<'a, S: Space> PartView<'a, S> {
         ensures found { IsFound (shown S.state self.old) (S.state self.new.base.now) at most result }
         ensures stays { Stays (shown S.state self.old) (shown S.state self.new) (result_err result) }
         ensures base { Reads S.state S.keeps S.lands self.old.base.now self.new.base.now (result_err result) }
-        ensures same { SameView self.old self.new }
+        ensures same { SamePartView self.old self.new }
     {
         let base = &mut *self.base;
         let part = &mut *self.part;
@@ -72,7 +72,7 @@ impl<'a, S: Space> PartView<'a, S> {
         ensures* after { sem 𝓛 (Rests (the_row (record { mir = named 0; lft = [] }) S.row) self.entry (λ new.
             Stays (shown S.state self.old) (shown S.state new) (result_err result)
             × Reads S.state S.keeps S.lands self.old.base.now new.base.now (result_err result)
-            × SameView self.old new)) }
+            × SamePartView self.old new)) }
     {
         let (place, most) = match self.locate(at, most) {
             Ok(run) => run,
@@ -92,7 +92,7 @@ impl<'a, S: Space> PartView<'a, S> {
         ensures plain { NeverDamaged (result_err result) }
         ensures stays { Stays (shown S.state self.old) (shown S.state self.new) (result_err result) }
         ensures base { Reads S.state S.keeps S.lands self.old.base.now self.new.base.now (result_err result) }
-        ensures same { SameView self.old self.new }
+        ensures same { SamePartView self.old self.new }
     {
         let base = &mut *self.base;
         let part = &mut *self.part;

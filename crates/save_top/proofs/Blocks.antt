@@ -43,7 +43,7 @@ first_line bytes piece rest parts size some =
       | inr long ↦
           let wide : length piece ≡ 32 = omega arith in
           let count : div_ceil (length bytes) 32 ≡ suc (div_ceil (length rest) 32) =
-              ap (λ (k : ℕ). div_ceil k 32) (omega arith) ∙ one_line_more (length rest) in
+          ap (λ (k : ℕ). div_ceil k 32) (omega arith) ∙ one_line_more (length rest) in
           sym (ap (λ (k : ℕ). hex_lines k bytes) count
           ∙ lines_from (div_ceil (length rest) 32) bytes
           ∙ ap (λ (l : List ℕ). hex_line (take 32 l) ++ hex_lines (div_ceil (length rest) 32) (drop 32 l)) parts

@@ -52,7 +52,7 @@ module _ (words : List (List ℕ)) (at : ℕ) (part block : List ℕ) (two : len
   peek_of-no_part none =
       let last = slice_get-get_or words (at + 1) [] (omega arith) in
       sym (peek_of-two words at part (get_or words (at + 1) []) two is_part last
-          ∙ ap (λ (number : Option ℕ). peek_at number (number_of (get_or words (at + 1) []))) (sym none))
+      ∙ ap (λ (number : Option ℕ). peek_at number (number_of (get_or words (at + 1) []))) (sym none))
 
   pub peek_of-no_block : slice_get words (at + 1) ≡ Some block → None ≡ number_of block → None ≡ peek_of (drop at words)
   peek_of-no_block is_block none =

@@ -51,8 +51,8 @@ cells_of image header parts cells number part are (is_first zeroth same) x below
     rw zeroth (rw at (are.first x inside ∙ ap (λ (p : Part). cell_at image header 0 p.difi x) same))
 cells_of image header parts cells number part are (is_second one same) x below =
     let second : IfSome (Some part)
-        (λ part. (x : ℕ) → x < part.difi.ivfc4.size
-        → cells (parts.first.difi.ivfc4.size + x) ≡ cell_at image header 1 part.difi x) = rw same at are.second in
+    (λ part. (x : ℕ) → x < part.difi.ivfc4.size
+    → cells (parts.first.difi.ivfc4.size + x) ≡ cell_at image header 1 part.difi x) = rw same at are.second in
     rw one (second x below)
 
 -- a cell that is a byte lies in a block whose path holds
@@ -84,8 +84,8 @@ module _ (image : List ℕ) (header : Header) (parts : Parts) (number : ℕ) (pa
   reading_is =
       then_true (nat_lt number header.parts) _ _ (lt-ltb number header.parts (omega (arith, below, read.count)))
       ∙ ap (λ (r : Result Difi DifiFault). part_reply image header number block r)
-          (read_one (active_table image header) header parts number part read
-          (one_of parts number part there)).1.descriptor
+      (read_one (active_table image header) header parts number part read
+      (one_of parts number part there)).1.descriptor
 
   -- a block that is not there
   pub no_block : blocks_of part.difi.ivfc4 ≤ block → peek_reply image header number block ≡ refused (no_block_line (blocks_of part.difi.ivfc4))
@@ -101,9 +101,9 @@ module _ (image : List ℕ) (header : Header) (parts : Parts) (number : ℕ) (pa
     -- a cell of the block
     block_cell : (k : ℕ) → k < min (block_size part.difi.ivfc4) (part.difi.ivfc4.size - block * block_size part.difi.ivfc4)
         → cells (part_start parts number + block * block_size part.difi.ivfc4 + k) ≡ cell_in
-            (path_in image header number part.difi 4 block) number
-            (value_of (contents_in image header number part.difi
-            ((level_of part.difi 4).at + (block * block_size part.difi.ivfc4 + k))))
+        (path_in image header number part.difi 4 block) number
+        (value_of (contents_in image header number part.difi
+        ((level_of part.difi 4).at + (block * block_size part.difi.ivfc4 + k))))
     block_cell k small =
         let from = block * block_size part.difi.ivfc4 in
         let place : part_start parts number + from + k ≡ part_start parts number + (from + k) = omega arith in
@@ -111,7 +111,7 @@ module _ (image : List ℕ) (header : Header) (parts : Parts) (number : ℕ) (pa
         ap cells place
         ∙ cells_of image header parts cells number part are (one_of parts number part there) (from + k) (omega (arith, small))
         ∙ ap (λ (b : ℕ). cell_in (path_in image header number part.difi 4 b) number
-            (value_of (contents_in image header number part.difi ((level_of part.difi 4).at + (from + k))))) same
+        (value_of (contents_in image header number part.difi ((level_of part.difi 4).at + (from + k))))) same
 
     -- a block that is damaged
     pub damaged_block : (p level at : ℕ)
@@ -124,9 +124,9 @@ module _ (image : List ℕ) (header : Header) (parts : Parts) (number : ℕ) (pa
         reply_is
         ∙ ⊎_elim
         (λ never. ap (λ (b : BlockState). block_reply image header number part.difi block b) never
-            ∙ ap (λ (n : ℕ). refused (damaged_line n level at)) damaged.part_is)
+        ∙ ap (λ (n : ℕ). refused (damaged_line n level at)) damaged.part_is)
         (λ fails. ap (λ (b : BlockState). block_reply image header number part.difi block b) fails
-            ∙ ap (λ (n : ℕ). refused (damaged_line n level at)) damaged.part_is)
+        ∙ ap (λ (n : ℕ). refused (damaged_line n level at)) damaged.part_is)
         damaged.block_is
 
     module _ (bytes : List ℕ) (long : length bytes ≡ min (block_size part.difi.ivfc4)
@@ -176,8 +176,8 @@ module _ (tag_of : List ℕ → List ℕ) (demands : Bool) (image : List ℕ) (c
       let whole = holds.whole in
       let read = holds.opened.parts in
       store_cells disk container.image image container.header container.table.items disk_of holds.held whole.sound
-          whole.table_len holds.opened.table container.parts.first container.parts.second read.count read.first
-          read.second
+      whole.table_len holds.opened.table container.parts.first container.parts.second read.count read.first
+      read.second
 
   -- a part or a block that is not there
   pub miss_by : (part block : ℕ) (miss : Miss) → IsMissOf container part block miss → IsMissBy (peek_reply image container.header part block) miss
@@ -189,7 +189,7 @@ module _ (tag_of : List ℕ → List ℕ) (demands : Bool) (image : List ℕ) (c
   miss_by part block (NoBlock have) is =
       let of = is.1 in
       no_block image container.header container.parts part of.0 block parts_read of.1 is.0
-          (omega (arith, of.2.0, of.2.1)) ∙ ap (λ (n : ℕ). refused (no_block_line n)) (sym of.2.0)
+      (omega (arith, of.2.0, of.2.1)) ∙ ap (λ (n : ℕ). refused (no_block_line n)) (sym of.2.0)
   miss_by part block (DamagedMiss p level at) none = absurd none
 
   module _ (disk : disks.State) (disk_of : IsDiskOf disk container.image) (part block : ℕ) (place : Place) (there : IsPlaceOf container part block place) where
@@ -200,8 +200,8 @@ module _ (tag_of : List ℕ → List ℕ) (demands : Bool) (image : List ℕ) (c
     shown_by bytes long hold =
         let of = there.in_part in
         good_block image container.header container.parts part of.0 block parts_read of.1 there.part_there of.2.there
-            (store_of disk container).cells (store_shows disk disk_of) bytes (long ∙ of.2.len)
-            (subst (λ (at : ℕ). AreBytesAt (store_of disk container).cells at bytes) of.2.at hold)
+        (store_of disk container).cells (store_shows disk disk_of) bytes (long ∙ of.2.len)
+        (subst (λ (at : ℕ). AreBytesAt (store_of disk container).cells at bytes) of.2.at hold)
 
     -- a block that is damaged
     pub damaged_by : (p level at : ℕ)
@@ -210,9 +210,9 @@ module _ (tag_of : List ℕ → List ℕ) (demands : Bool) (image : List ℕ) (c
     damaged_by p level at fault =
         let of = there.in_part in
         damaged_block image container.header container.parts part of.0 block parts_read of.1 there.part_there
-            of.2.there (store_of disk container).cells (store_shows disk disk_of) p level at
+        of.2.there (store_of disk container).cells (store_shows disk disk_of) p level at
         (subst (λ (n : ℕ). IsFirstFault (store_of disk container).cells
-            (part_start container.parts part + block * block_size of.0.difi.ivfc4) n p level at) of.2.len
+        (part_start container.parts part + block * block_size of.0.difi.ivfc4) n p level at) of.2.len
         (subst (λ (n : ℕ). IsFirstFault (store_of disk container).cells n place.len p level at) of.2.at fault))
 
     -- a store that was refused bytes
@@ -241,6 +241,6 @@ place_fits disk container part block place there =
     let difi = of.0.difi in
     let begins = block_begins block difi.ivfc4.size difi.ivfc4.log of.2.there in
     let inside = fits_in (image_state disk container.image) container.parts.first container.parts.second
-        container.table.items part of.0 (one_of container.parts part of.0 of.1)
-        (block * block_size difi.ivfc4 + place.len) (omega (arith, begins, of.2.len)) in
+    container.table.items part of.0 (one_of container.parts part of.0 of.1)
+    (block * block_size difi.ivfc4 + place.len) (omega (arith, begins, of.2.len)) in
     omega (arith, of.2.at, inside)

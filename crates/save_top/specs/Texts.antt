@@ -53,7 +53,7 @@ unique_line Diff unique = codes "unique " ++ decimal unique ++ codes "\n"
 unfoldable pub info_text : Header → List ℕ
 info_text header =
     kind_line header.kind ++ table_lines header ++ part_lines header ++ unique_line header.kind header.unique ++ codes
-        "hash " ++ encode_lower header.hash ++ codes "\n"
+    "hash " ++ encode_lower header.hash ++ codes "\n"
 
 -- what is said of a header that has a fault
 abbrev pub fault_line : HeaderFault → List ℕ

@@ -21,8 +21,8 @@ loop-done-preserved g c =
           (let next = piece.bytes (tells_same (state c.args.disk.now) (state c.loop-done.disk) before.quiet before.steady.size sure) in
           let same = told_same (state c.args.disk.now) (state c.loop-done.disk) before.quiet in
           read_more done n c.args.at out part (image_told (state c.args.disk.now)) before.within long
-              (omega (arith, long, piece.count)) (before.bytes sure)
-              (next ∙ ap (λ (l : List ℕ). take n (drop (c.args.at + done) l)) same));
+          (omega (arith, long, piece.count)) (before.bytes sure)
+          (next ∙ ap (λ (l : List ℕ). take n (drop (c.args.at + done) l)) same));
       quiet = piece.quiet ∙ before.quiet;
       steady = steady_join (state c.args.disk.now) (state c.loop-done.disk) (state c.read_piece.new.disk) before.steady piece.steady;
     }

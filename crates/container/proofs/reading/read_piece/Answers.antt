@@ -9,7 +9,7 @@ returns-clause-bytes g c = λ sure.
     let grain = length c.args.buffer.now in
     let n = c.min-n.result in
     let piece = piece_told state grain c.args.at n c.read.new.out (g.met.D.Disk.sound c.args.disk.now) sure
-        c.requires.whole c.requires.grain (omega arith) (omega arith) (omega arith) c.in_ok-read.ensures.value in
+    c.requires.whole c.requires.grain (omega arith) (omega arith) (omega arith) c.in_ok-read.ensures.value in
     front_of_piece n c.copy_from_slice.new.self _ _
-        (c.copy_from_slice.ensures.len ∙ length-take-le n c.args.out.now (omega arith))
-        (c.copy_from_slice.ensures.after ∙ piece)
+    (c.copy_from_slice.ensures.len ∙ length-take-le n c.args.out.now (omega arith))
+    (c.copy_from_slice.ensures.after ∙ piece)

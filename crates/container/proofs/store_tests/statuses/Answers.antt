@@ -12,20 +12,20 @@ status-requires-clause-sound g c = c.store-store.ensures.sound c.in_ok-container
 pub status-requires-3-clause-sound : goal.status-requires-3-clause-sound
 status-requires-3-clause-sound g c =
     later _ _ c.in_ok-status-2.ensures.reads.stays.space.shape
-        (later _ _ c.in_ok-status.ensures.reads.stays.space.shape
-        (c.store-store.ensures.sound c.in_ok-container.ensures.whole))
+    (later _ _ c.in_ok-status.ensures.reads.stays.space.shape
+    (c.store-store.ensures.sound c.in_ok-container.ensures.whole))
 
 pub status-requires-4-clause-sound : goal.status-requires-4-clause-sound
 status-requires-4-clause-sound g c =
     later _ _ c.in_ok-status-3.ensures.reads.stays.space.shape
     (later _ _ c.in_ok-status-2.ensures.reads.stays.space.shape
-        (later _ _ c.in_ok-status.ensures.reads.stays.space.shape
-        (c.store-store.ensures.sound c.in_ok-container.ensures.whole)))
+    (later _ _ c.in_ok-status.ensures.reads.stays.space.shape
+    (c.store-store.ensures.sound c.in_ok-container.ensures.whole)))
 
 pub status-requires-5-clause-sound : goal.status-requires-5-clause-sound
 status-requires-5-clause-sound g c =
     later _ _ c.in_ok-status-4.ensures.reads.stays.space.shape
     (later _ _ c.in_ok-status-3.ensures.reads.stays.space.shape
     (later _ _ c.in_ok-status-2.ensures.reads.stays.space.shape
-        (later _ _ c.in_ok-status.ensures.reads.stays.space.shape
-        (c.store-store.ensures.sound c.in_ok-container.ensures.whole))))
+    (later _ _ c.in_ok-status.ensures.reads.stays.space.shape
+    (c.store-store.ensures.sound c.in_ok-container.ensures.whole))))

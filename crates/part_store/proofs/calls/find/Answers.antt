@@ -10,7 +10,7 @@ returns-clause-found g c =
     let states = g.S.Space.state in
     let size : difi.place + difi.master.at + difi.master.size - (difi.place + difi.master.at) ≡ difi.master.size = omega arith in
     let found = found_part (states c.args.base.now) (states c.find_in.new.contents.base.now) c.args.part.now
-        c.args.table.now c.args.at c.args.most c.find_in.result
+    c.args.table.now c.args.at c.args.most c.find_in.result
     (rw (holds.base_now, holds.same_place, holds.same_difi, holds.state_now, size) at c.find_in.ensures.found) in
     search rules
 

@@ -6,7 +6,7 @@ use Rattle.difi.specs.Sound.{HasSoundLevels, difi_part}
 use Rattle.dpfs_tree.specs.Marks.{IsFreshContents}
 use Rattle.ivfc_tree.specs.Marks.{IsMadeFor}
 use Rattle.part_store.specs.declared.part.Part.{Part}
-use Rattle.part_store.specs.Parts.{CanView}
+use Rattle.part_store.specs.Parts.{CanViewPart}
 use Rattle.part_store.proofs.tests.open.Goals as goal
 
 -- what is needed of a descriptor
@@ -16,9 +16,9 @@ record IsLone (difi : Difi) : Type 0 where
   place : difi.place ≡ 0
   master : difi.master.at + difi.master.size ≡ 300
 
-can_view : (part : Part) → part.at ≡ 4096 → IsLone part.difi → IsFreshContents part.difi part.dpfs
-    → IsMadeFor part.difi part.ivfc → CanView (memory_shape 110592 512) part 300
-can_view part at lone fresh made = record {
+can_view_part : (part : Part) → part.at ≡ 4096 → IsLone part.difi → IsFreshContents part.difi part.dpfs
+    → IsMadeFor part.difi part.ivfc → CanViewPart (memory_shape 110592 512) part 300
+can_view_part part at lone fresh made = record {
   contents = record {
     sound = refl;
     plain = refl;
@@ -32,15 +32,15 @@ can_view part at lone fresh made = record {
   made = made;
 }
 
-can_view_opened : {E : Type 0} (difi : Difi) (r : Result Part E) → IsLone difi → IfOk r (λ part. part.at ≡ 4096) → IfOk r (λ part. part.difi ≡ difi)
-    → IfOk r (λ part. IsFreshContents difi part.dpfs) → IfOk r (λ part. IsMadeFor difi part.ivfc) → IfOk r (λ part. CanView (memory_shape 110592 512) part 300)
-can_view_opened difi (Err e) lone at same fresh made = tt
-can_view_opened difi (Ok part) lone at same fresh made =
-    can_view part at (subst IsLone (sym same) lone) (subst (λ difi. IsFreshContents difi part.dpfs) (sym same) fresh)
-        (subst (λ difi. IsMadeFor difi part.ivfc) (sym same) made)
+can_view_part_opened : {E : Type 0} (difi : Difi) (r : Result Part E) → IsLone difi → IfOk r (λ part. part.at ≡ 4096) → IfOk r (λ part. part.difi ≡ difi)
+    → IfOk r (λ part. IsFreshContents difi part.dpfs) → IfOk r (λ part. IsMadeFor difi part.ivfc) → IfOk r (λ part. CanViewPart (memory_shape 110592 512) part 300)
+can_view_part_opened difi (Err e) lone at same fresh made = tt
+can_view_part_opened difi (Ok part) lone at same fresh made =
+    can_view_part part at (subst IsLone (sym same) lone) (subst (λ difi. IsFreshContents difi part.dpfs) (sym same) fresh)
+    (subst (λ difi. IsMadeFor difi part.ivfc) (sym same) made)
 
 pub returns-clause-view : goal.returns-clause-view
 returns-clause-view c =
-    can_view_opened c.lone.result c.open.result
+    can_view_part_opened c.lone.result c.open.result
     (record { levels = c.lone.ensures.levels; apart = c.lone.ensures.apart; place = c.lone.ensures.place; master = c.lone.ensures.master })
     c.open.ensures.place c.open.ensures.descriptor c.open.ensures.untouched c.open.ensures.made

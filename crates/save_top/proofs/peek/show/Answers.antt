@@ -24,16 +24,16 @@ returns-in-Err-clause-miss g c = λ tag_of demands image told holds.
     let long : length c.deref_mut.result.now ≡ c.in_ok-place.place.len = c.deref_mut.ensures.len ∙ c.in-Ok.ensures.len in
     let read = rw long at c.in-Err.ensures.read in
     refused_by tag_of demands image container holds disk c.requires.disk c.args.part c.args.block c.in_ok-place.place
-        c.in_ok-place.ensures.place c.in-Err.bad c.miss_of.result c.miss_of.ensures
-        (read.damaged (store_told_by disk container ∙ told))
+    c.in_ok-place.ensures.place c.in-Err.bad c.miss_of.result c.miss_of.ensures
+    (read.damaged (store_told_by disk container ∙ told))
 
 pub returns-in-Ok-block_text-clause-shown : goal.returns-in-Ok-block_text-clause-shown
 returns-in-Ok-block_text-clause-shown g c = λ tag_of demands image told holds.
     let disk = g.D.Disk.state c.args.disk.now in
     let container = c.args.container.now in
     let bytes : c.deref.result.now ≡ c.fill.new.out = c.deref.ensures.value
-        ∙ written_back c.in-Ok.bytes.len c.fill.new.out _ (c.fill.auto.out ∙ c.deref_mut.ensures.len) in
+    ∙ written_back c.in-Ok.bytes.len c.fill.new.out _ (c.fill.auto.out ∙ c.deref_mut.ensures.len) in
     let long : length c.fill.new.out ≡ c.in_ok-place.place.len = c.fill.auto.out ∙ c.deref_mut.ensures.len ∙ c.in-Ok.ensures.len in
     let shown = shown_by tag_of demands image container holds disk c.requires.disk c.args.part c.args.block
-        c.in_ok-place.place c.in_ok-place.ensures.place c.fill.new.out long (c.in_default-fill.ensures.bytes told) in
+    c.in_ok-place.place c.in_ok-place.ensures.place c.fill.new.out long (c.in_default-fill.ensures.bytes told) in
     shown ∙ ap done (ap (λ (l : List ℕ). block_text c.args.part c.args.block l) (sym bytes) ∙ sym c.in-Ok-block_text.ensures)

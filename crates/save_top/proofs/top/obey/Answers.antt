@@ -14,7 +14,7 @@ returns-in-Err-clause-says g c = λ told is fresh.
     let reply = reply_to (g.G.Signer.tag_of c.args.signer.now) (g.G.Signer.is_demanding c.args.signer.now) c.args.order told.start in
     let failure = c.in-Err.ensures.failure told is fresh c.args.order.act in
     says_before (state c.args.desk.now) (state c.open.new.desk) (state c.fail.new.desk) reply.status reply.text
-        c.fail.result c.in-Err.ensures.quiet (c.fail.ensures.says reply failure)
+    c.fail.result c.in-Err.ensures.quiet (c.fail.ensures.says reply failure)
 
 pub returns-in-Info-clause-known : goal.returns-in-Info-clause-known
 returns-in-Info-clause-known g c = end_done c.info.result c.info.ensures.known

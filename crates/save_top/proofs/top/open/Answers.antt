@@ -33,6 +33,6 @@ returns-in-Err-clause-failure g c = λ told is fresh act.
     let demands = g.G.Signer.is_demanding c.args.signer.now in
     let start : image_told old ≡ told.start = start_told old told is fresh in
     let caused = subst (λ (image : List ℕ). IsCaused (fault_of tag_of demands image) c.in-Err.fault) start
-        (c.in-Err.ensures.caused (fresh_tells old told is fresh)) in
+    (c.in-Err.ensures.caused (fresh_tells old told is fresh)) in
     c.of_fault.ensures.said (reply_by (fault_of tag_of demands told.start) act told.start)
-        (fault_by (fault_of tag_of demands told.start) act told.start c.in-Err.fault caused)
+    (fault_by (fault_of tag_of demands told.start) act told.start c.in-Err.fault caused)

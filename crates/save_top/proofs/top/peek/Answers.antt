@@ -13,7 +13,7 @@ returns-in-Ok-clause-says g c = λ tag_of demands image told holds.
     let says = rw c.as_slice.ensures.value at c.say.ensures.says in
     says_as reply (done c.in-Ok.text.items) (state c.args.desk.now) (state c.say.new.desk) c.say.result shown
     (says_before (state c.args.desk.now) (state c.show.new.disk) (state c.say.new.desk) 0 c.in-Ok.text.items
-        c.say.result (c.in-Ok.ensures.quiet holds.clean) says)
+    c.say.result (c.in-Ok.ensures.quiet holds.clean) says)
 
 pub returns-in-Err-clause-says : goal.returns-in-Err-clause-says
 returns-in-Err-clause-says g c = λ tag_of demands image told holds.
@@ -21,8 +21,8 @@ returns-in-Err-clause-says g c = λ tag_of demands image told holds.
     let reply = peek_reply image c.args.container.now.header c.args.part c.args.block in
     let miss = c.in-Err.ensures.miss tag_of demands image told holds in
     says_before (state c.args.desk.now) (state c.show.new.disk) (state c.fail.new.desk) reply.status reply.text
-        c.fail.result (c.in-Err.ensures.quiet holds.clean)
-        (c.fail.ensures.says reply (c.of_miss.ensures.said reply miss))
+    c.fail.result (c.in-Err.ensures.quiet holds.clean)
+    (c.fail.ensures.says reply (c.of_miss.ensures.said reply miss))
 
 pub returns-in-Ok-clause-silent : goal.returns-in-Ok-clause-silent
 returns-in-Ok-clause-silent g c =

@@ -33,4 +33,4 @@ returns-clause-complete g c = λ order is_order none told is fresh.
     let same = same_order order c.in-Some.order (sym is_order ∙ sym c.in-Some.ensures) in
     let reply = reply_to (g.G.Signer.tag_of c.args.signer.now) (g.G.Signer.is_demanding c.args.signer.now) c.in-Some.order told.start in
     rw same (ended (state c.args.desk.now) (state c.obey.new.desk) reply c.obey.result
-        (c.obey.ensures.says told is fresh) told is c.obey.ensures.known c.obey.ensures.disk c.obey.ensures.sink none)
+    (c.obey.ensures.says told is fresh) told is c.obey.ensures.known c.obey.ensures.disk c.obey.ensures.sink none)

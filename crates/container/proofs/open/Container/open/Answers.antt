@@ -2,7 +2,7 @@ use Rattle.save_bytes.proofs.SpaceLemmas.{Rose-later}
 use Rattle.std.proofs.Common.{arith, ◌≡◌, List, ℕ, Option, None, sym, ◌∙◌, ap, subst}
 use Rattle.std.proofs.lemmas.Result.{err_from_is_err_and}
 use Rattle.save_disk.specs.Tells.{image_told}
-use Rattle.container_header.specs.Sound.{IsSound}
+use Rattle.container_header.specs.Sound.{IsSoundHeader}
 use Rattle.container.specs.declared.fault.OpenFault.{OpenFault}
 use Rattle.container.specs.Openings.{active_table, digest_fault, parts_fault, IsCaused}
 use Rattle.container.proofs.ReadLemmas.{shown_before}
@@ -21,15 +21,15 @@ returns-in_err-check_table-clause-caused g c =
     let table = c.in_ok-table.table.items in
     let start = c.in_ok-header.ensures in
     let same : table ≡ active_table image header =
-        shown_before (λ (l : List ℕ). table ≡ active_table l header) state (g.D.Disk.state c.read_header.new.disk)
-        start.quiet start.steady.size c.in_ok-table.ensures.table sure in
+    shown_before (λ (l : List ℕ). table ≡ active_table l header) state (g.D.Disk.state c.read_header.new.disk)
+    start.quiet start.steady.size c.in_ok-table.ensures.table sure in
     let at = table_next (g.G.Signer.tag_of c.args.signer.now) (g.G.Signer.is_demanding c.args.signer.now) image header
-        table (start.header sure) (start.tag sure) same in
+    table (start.header sure) (start.tag sure) same in
     let fault = c.in_err-check_table.field-0.0 in
     let digest = ap (λ (l : List ℕ). digest_fault l header) (sym c.deref.ensures.value) ∙ c.in_err-check_table.ensures.fault in
     subst (λ (o : Option OpenFault). IsCaused o fault) (sym at)
-        (caused_first (digest_fault table header) (parts_fault table header) fault
-        (caused_by (digest_fault table header) fault digest)))
+    (caused_first (digest_fault table header) (parts_fault table header) fault
+    (caused_by (digest_fault table header) fault digest)))
 
 pub returns-in_err-parts-clause-caused : goal.returns-in_err-parts-clause-caused
 returns-in_err-parts-clause-caused g c =
@@ -41,10 +41,10 @@ returns-in_err-parts-clause-caused g c =
     let table = c.in_ok-table.table.items in
     let start = c.in_ok-header.ensures in
     let same : table ≡ active_table image header =
-        shown_before (λ (l : List ℕ). table ≡ active_table l header) state (g.D.Disk.state c.read_header.new.disk)
-        start.quiet start.steady.size c.in_ok-table.ensures.table sure in
+    shown_before (λ (l : List ℕ). table ≡ active_table l header) state (g.D.Disk.state c.read_header.new.disk)
+    start.quiet start.steady.size c.in_ok-table.ensures.table sure in
     let at = table_next (g.G.Signer.tag_of c.args.signer.now) (g.G.Signer.is_demanding c.args.signer.now) image header
-        table (start.header sure) (start.tag sure) same in
+    table (start.header sure) (start.tag sure) same in
     let fault = c.in_err-parts.field-0.0 in
     let digest : digest_fault table header ≡ None = ap (λ (l : List ℕ). digest_fault l header) (sym c.deref.ensures.value) ∙ c.in_ok-check_table.ensures.none in
     let parts = subst (λ (l : List ℕ). IsCaused (parts_fault l header) fault) c.deref-2.ensures.value c.in_err-parts.ensures.caused in
@@ -58,7 +58,7 @@ returns-clause-whole g c =
     let parts = c.in_ok-parts.ensures.parts in
     let len = start.len ∙ sym start.steady.size ∙ sym read.steady.size ∙ sym held.steady.size ∙ held.opened.disk_of.size in
     record {
-      sound = subst (λ (n : ℕ). IsSound c.in_ok-header.header n) len start.sound;
+      sound = subst (λ (n : ℕ). IsSoundHeader c.in_ok-header.header n) len start.sound;
       table_len = read.len;
       count = parts.count;
       first = parts.first.part_of;
@@ -75,8 +75,8 @@ returns-clause-opened g c = λ sure.
     let table = c.in_ok-table.table.items in
     let start = c.in_ok-header.ensures in
     let same : table ≡ active_table image header =
-        shown_before (λ (l : List ℕ). table ≡ active_table l header) state (g.D.Disk.state c.read_header.new.disk)
-        start.quiet start.steady.size c.in_ok-table.ensures.table sure in
+    shown_before (λ (l : List ℕ). table ≡ active_table l header) state (g.D.Disk.state c.read_header.new.disk)
+    start.quiet start.steady.size c.in_ok-table.ensures.table sure in
     let at = table_next tag_of demands image header table (start.header sure) (start.tag sure) same in
     let digest : digest_fault table header ≡ None = ap (λ (l : List ℕ). digest_fault l header) (sym c.deref.ensures.value) ∙ c.in_ok-check_table.ensures.none in
     let parts : parts_fault table header ≡ None = ap (λ (l : List ℕ). parts_fault l header) (sym c.deref-2.ensures.value) ∙ c.in_ok-parts.ensures.none in

@@ -14,9 +14,9 @@ returns g c =
     let before = c.in-Ok.ensures in
     let image = image_state (states new.disk.now) container.image in
     let told : IsTrue (shown states store).told
-        → IsTrue image.told = λ is. sym
-        (store_told image container.parts.first container.table.items container.parts.second)
-        ∙ before.reads.stays.space.told is in (
+    → IsTrue image.told = λ is. sym
+    (store_told image container.parts.first container.table.items container.parts.second)
+    ∙ before.reads.stays.space.told is in (
       (refl, λ _. tt, before.reads),
       record {
         piece = held_piece (shown states store) (states new.disk.now) container.image c.args.at c.args.most c.in-Ok.run'.0 c.in-Ok.run'.1

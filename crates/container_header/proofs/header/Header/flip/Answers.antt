@@ -1,6 +1,6 @@
 use Rattle.std.proofs.Common.{◌≡◌, ◌<◌, length, arith, sym, subst, ap, ◌∙◌}
 use Rattle.container_header.specs.declared.header.Header.{Header}
-use Rattle.container_header.specs.Sound.{active_at, inactive_at, IsSound}
+use Rattle.container_header.specs.Sound.{active_at, inactive_at, IsSoundHeader}
 use Rattle.container_header.specs.Raw.{IsOfRaw}
 use Rattle.container_header.proofs.Soundness.{sound-flipped, active_at-flipped, inactive_at-flipped}
 use Rattle.container_header.proofs.Flips.{flip_bytes, places_fit, flipped-of_raw}
@@ -27,7 +27,7 @@ returns-clause-of_raw c = λ h.
     subst IsOfRaw (sym (returns-clause-flipped c)) (flipped-of_raw c.args.self.now c.args.hash.now size h)
 
 pub returns-clause-sound : goal.returns-clause-sound
-returns-clause-sound c = λ len s. subst (λ (header : Header). IsSound header len) (sym (returns-clause-flipped c))
+returns-clause-sound c = λ len s. subst (λ (header : Header). IsSoundHeader header len) (sym (returns-clause-flipped c))
     (sound-flipped c.args.self.now c.args.hash.now len s)
 
 pub returns-clause-active : goal.returns-clause-active

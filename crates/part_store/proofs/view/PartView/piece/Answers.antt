@@ -2,14 +2,14 @@ use Rattle.std.proofs.Common.{refl, length, sym, subst, IsTrue}
 use Rattle.std.specs.Result.{result_err}
 use Rattle.save_bytes.specs.State.{Shape}
 use Rattle.save_bytes.proofs.CallLemmas.{Reads-join}
-use Rattle.part_store.proofs.PartLemmas.{true-can_view, part_from_base, found_inside, found_piece}
+use Rattle.part_store.proofs.PartLemmas.{true-can_view_part, part_from_base, found_inside, found_piece}
 use Rattle.part_store.proofs.view.PartView.piece.Goals as goal
 
 pub piece-requires-clause-inside : goal.piece-requires-clause-inside
 piece-requires-clause-inside g c =
     let view = c.args.self.now in
     let states = g.S.Space.state in
-    let can = true-can_view (states view.base.now).shape view.part.now (length view.table.now) c.requires.inside.sound in
+    let can = true-can_view_part (states view.base.now).shape view.part.now (length view.table.now) c.requires.inside.sound in
     let shape = c.in-Ok.ensures.base.stays.space.shape in
     found_inside _ (states c.locate.new.self.base.now) c.args.at c.args.most c.in-Ok.run'.0 c.in-Ok.run'.1
     (subst (λ (shape : Shape). IsTrue shape.sound) (sym shape) can.contents.sound) c.in-Ok.ensures.found
@@ -24,7 +24,7 @@ returns g c =
     let refusal = result_err c.piece.result in
     let before = c.in-Ok.ensures in
     let same = before.same in
-    let can = true-can_view (space.state first).shape view.part.now (length view.table.now) c.requires.inside.sound in
+    let can = true-can_view_part (space.state first).shape view.part.now (length view.table.now) c.requires.inside.sound in
     let small = g.met.S.Space.size_fits first can.contents.sound in
     let reads = Reads-join space.state space.keeps space.lands g.met.S.Space.keeps_join first mid last refusal before.base
     c.piece.follows.holds-at-none in
