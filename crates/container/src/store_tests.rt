@@ -16,10 +16,9 @@ use difi::{Difi, LevelPlace};
 use ivfc_tree::Status;
 use page_image::ImageState;
 use part_store::Part;
-use save_bytes::{Bad, Space, set_u32, set_u64};
+use save_bytes::{Bad, Space, set_u32};
 use save_disk::{Call, Disk, MemDesk, ZeroSigner};
-use save_samples::{Sample, sample};
-use sha2::{Digest, Sha256};
+use save_samples::{Sample, put_digest, sample};
 use std::alloc::Global;
 use std::process::Abort;
 use std::test::Fail;
@@ -30,17 +29,6 @@ const HEAD: [u8; 32] = [
     b'S', b'A', b'V', b'E', 0, 0, 4, 0, 0x20, 0, 0, 0, 0, 0, 0, 0, 216, 0, 0, 0, 0, 0, 0, 0, 0, 2,
     0, 0, 0, 0, 0, 0,
 ];
-
-/// Puts the digest of bytes of the image at its place.
-fn put_digest(image: &mut [u8], at: usize, size: usize, entry: usize)
-    requires image { length image.old ≡ 110592 }
-    requires inside { at + size ≤ 100000 }
-    requires entry { entry ≤ 100000 }
-    ensures { length image.new ≡ 110592 }
-{
-    let digest = Sha256::digest(&image[at..at + size]);
-    image[entry..entry + 32].copy_from_slice(&digest);
-}
 
 /// How many cells the store of an image has.
 fn len_of(alloc: Global, image: &[u8]) -> Result<u64, Fail> {
@@ -100,8 +88,10 @@ fn copy_twice<D: Disk>(
     requires disk { IsDiskOf (D.state disk.old) container.old.image }
     requires first { IsInside (store_of (D.state disk.old) container.old).shape at (length first.old) }
     requires last { IsInside (store_of (D.state disk.old) container.old).shape at (length last.old) }
-    ensures first { IsTrue (store_of (D.state disk.old) container.old).told → OnOk result (AreBytesAt (store_of (D.state disk.old) container.old).cells at first.new) }
-    ensures last { IsTrue (store_of (D.state disk.old) container.old).told → OnOk result (AreBytesAt (store_of (D.state disk.old) container.old).cells at last.new) }
+    ensures first { IsTrue (store_of (D.state disk.old) container.old).told
+        → OnOk result (AreBytesAt (store_of (D.state disk.old) container.old).cells at first.new) }
+    ensures last { IsTrue (store_of (D.state disk.old) container.old).told
+        → OnOk result (AreBytesAt (store_of (D.state disk.old) container.old).cells at last.new) }
     ensures kept { IsKept container.old container.new }
     ensures disk { IsDiskOf (D.state disk.new) container.new.image }
     ensures sectors { (number : ℕ) → Leaves (Sector number) (D.state disk.old) container.old.image (D.state disk.new) container.new.image }
@@ -303,17 +293,10 @@ fn topmost_failing_block_is_named(rt: HostRuntime) -> Result<(), Fail> {
     Ok(())
 }
 
-// The two partitions change places in the header: the data region's external level four is then part 0's.
 #[test]
 fn a_loose_image_is_read(rt: HostRuntime) -> Result<(), Fail> {
     let alloc = rt.alloc();
-    let mut image = sample(alloc, Sample::Dual)?;
-    set_u64(&mut image, 0x128, 304);
-    set_u64(&mut image, 0x138, 0);
-    set_u64(&mut image, 0x148, 45_056);
-    set_u64(&mut image, 0x150, 65_536);
-    set_u64(&mut image, 0x158, 4096);
-    set_u64(&mut image, 0x160, 40_960);
+    let image = sample(alloc, Sample::Loose)?;
     assert_eq!(rt; len_of(alloc, &image)?, 34_328);
     assert_eq!(rt; lent(&rt, alloc, &image, 0, 10)?, Err(blames(0, 1, 0)));
     assert_eq!(rt; lent(&rt, alloc, &image, 32_767, 10)?, Err(blames(0, 1, 0)));

@@ -5,9 +5,8 @@ ghost use Rattle.std.specs.Prelude.{◌≡◌, ◌+◌, ◌≤◌, length};
 use super::*;
 use container_header::{Extent, HeaderFault, Kind};
 use difi::{DifiFault, LevelPlace};
-use save_bytes::set_u64;
 use save_disk::{Call, MemDesk, PlainSigner, Signer, ZeroSigner};
-use save_samples::{Sample, sample};
+use save_samples::{Sample, put_digest, sample};
 use sha2::{Digest, Sha256};
 use std::alloc::{AllocError, Global};
 use std::test::Fail;
@@ -20,16 +19,6 @@ fn fault_of<G: Signer>(
 ) -> Result<Option<OpenFault>, AllocError> {
     let mut desk = MemDesk::new(alloc, image, &[])?;
     Ok(Container::open(alloc, &mut desk, signer).err())
-}
-
-/// Puts the digest of a table into a DISA's header.
-fn put_digest(image: &mut [u8], at: usize, size: usize)
-    requires image { length image.old ≡ 110592 }
-    requires inside { at + size ≤ 100000 }
-    ensures { length image.new ≡ 110592 }
-{
-    let digest = Sha256::digest(&image[at..at + size]);
-    image[0x16C..0x18C].copy_from_slice(&digest);
 }
 
 /// A level of the hash tree.
@@ -87,17 +76,10 @@ fn two_partitions_open_with_their_numbers(rt: HostRuntime) -> Result<(), Fail> {
     Ok(())
 }
 
-// The two partitions change places in the header: the data region's external level four is then part 0's.
 #[test]
 fn loose_where_part_0_is_external(rt: HostRuntime) -> Result<(), Fail> {
     let alloc = rt.alloc();
-    let mut image = sample(alloc, Sample::Dual)?;
-    set_u64(&mut image, 0x128, 304);
-    set_u64(&mut image, 0x138, 0);
-    set_u64(&mut image, 0x148, 45_056);
-    set_u64(&mut image, 0x150, 65_536);
-    set_u64(&mut image, 0x158, 4096);
-    set_u64(&mut image, 0x160, 40_960);
+    let image = sample(alloc, Sample::Loose)?;
     let mut desk = MemDesk::new(alloc, &image, &[])?;
     let container = Container::open(alloc, &mut desk, &ZeroSigner)?;
     assert!(rt; container.loose());
@@ -161,7 +143,7 @@ fn first_fault_is_named(rt: HostRuntime) -> Result<(), Fail> {
     let alloc = rt.alloc();
     let mut image = sample(alloc, Sample::Dual)?;
     image[1840] = b'd';
-    put_digest(&mut image, 1536, 604);
+    put_digest(&mut image, 1536, 604, 0x16C);
     let magic = DifiFault::Magic { which: 1 };
     let second = OpenFault::Difi {
         part: 1,
@@ -169,7 +151,7 @@ fn first_fault_is_named(rt: HostRuntime) -> Result<(), Fail> {
     };
     assert_eq!(rt; fault_of(alloc, &image, &ZeroSigner)?, Some(second));
     image[1536] = b'd';
-    put_digest(&mut image, 1536, 604);
+    put_digest(&mut image, 1536, 604, 0x16C);
     let first = OpenFault::Difi {
         part: 0,
         fault: magic,

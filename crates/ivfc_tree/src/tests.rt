@@ -13,8 +13,9 @@ ghost use Rattle.ivfc_tree.specs.View.{CanViewHashes, IsVerified, view_state};
 ghost use Rattle.ivfc_tree.specs.Held.{shown, HashKeeps, hash_lands};
 
 use super::*;
-use difi::{Difi, Extent2, LevelPlace};
-use save_bytes::{Bad, MemSpace, Space};
+use difi::{Difi, LevelPlace};
+use save_bytes::{Bad, Extent, MemSpace, Space};
+use save_samples::LONE_DIFI;
 use sha2::{Digest, Sha256};
 use std::alloc::{AllocError, Global};
 use std::process::Abort;
@@ -59,11 +60,11 @@ fn wide_tree() -> Difi
         ivfc3: level(10_000, 131_104, 9),
         ivfc4: level(150_000, 2_097_157, 9),
         dpfs3: level(4_096, 2_250_000, 12),
-        master: Extent2 {
+        master: Extent {
             at: 0x10C,
             size: 64,
         },
-        ..no_tree()
+        ..LONE_DIFI
     }
 }
 
@@ -73,33 +74,6 @@ fn level(at: u64, size: u64, log: u32) -> LevelPlace
     ensures log { result.log ≡ log }
 {
     LevelPlace { at, size, log }
-}
-
-/// What the trees have in common, without their levels.
-fn no_tree() -> Difi
-    ensures external { result.external ≡ false }
-    ensures master { result.master.size ≡ 32 }
-    ensures log { result.dpfs2.log ≡ 7 }
-{
-    Difi {
-        place: 0,
-        ivfc_at: 0x44,
-        dpfs_at: 0xBC,
-        master: Extent2 {
-            at: 0x10C,
-            size: 32,
-        },
-        external: false,
-        external_at: 0,
-        selector: 0,
-        ivfc1: level(0, 0, 9),
-        ivfc2: level(0, 0, 9),
-        ivfc3: level(0, 0, 9),
-        ivfc4: level(0, 0, 9),
-        dpfs1: level(0, 4, 0),
-        dpfs2: level(16, 128, 7),
-        dpfs3: level(512, 0, 7),
-    }
 }
 
 /// The byte at a place of a base before a tree is put there. It is never 0.
@@ -216,7 +190,7 @@ fn small_tree() -> Difi
         ivfc3: level(64, 32, 9),
         ivfc4: level(96, 5, 9),
         dpfs3: level(512, 101, 7),
-        ..no_tree()
+        ..LONE_DIFI
     }
 }
 
@@ -254,7 +228,7 @@ fn coarse_tree() -> Difi
         ivfc3: level(64, 64, 16),
         ivfc4: level(128, 65_539, 16),
         dpfs3: level(4_096, 70_000, 12),
-        ..no_tree()
+        ..LONE_DIFI
     }
 }
 
@@ -274,7 +248,7 @@ fn external_tree() -> Difi
         ivfc3: level(200, 1_056, 10),
         ivfc4: level(64, 132_072, 12),
         dpfs3: level(4_096, 2_000, 12),
-        ..no_tree()
+        ..LONE_DIFI
     }
 }
 

@@ -8,10 +8,10 @@ ghost use Rattle.ivfc_tree.specs.Levels.{HasBlock};
 ghost use Rattle.part_store.specs.Parts.{CanViewPart};
 
 use super::*;
-use difi::{Difi, Extent2, LevelPlace};
+use difi::Difi;
 use ivfc_tree::Status;
 use save_bytes::{Bad, MemSpace, set_u32};
-use save_samples::{Sample, sample};
+use save_samples::{LONE_DIFI, Sample, sample};
 use std::alloc::{AllocError, Global};
 use std::test::Fail;
 
@@ -28,15 +28,7 @@ const LEVEL_ONE: usize = 4096;
 /// The active table.
 const TABLE: usize = 1024;
 
-fn level(at: u64, size: u64, log: u32) -> LevelPlace
-    ensures at { result.at ≡ at }
-    ensures size { result.size ≡ size }
-    ensures log { result.log ≡ log }
-{
-    LevelPlace { at, size, log }
-}
-
-/// The descriptor in the sample's table, by the numbers of its layout.
+/// What is needed of the sample's descriptor.
 #[tactic(auto, unfolding(ivfc_tree::specs::Levels::level_of))]
 fn lone() -> Difi
     ensures levels { HasSoundLevels result 106496 }
@@ -50,25 +42,7 @@ fn lone() -> Difi
     ensures block4 { HasBlock result 4 0 }
     ensures last { HasBlock result 4 8 }
 {
-    Difi {
-        place: 0,
-        ivfc_at: 0x44,
-        dpfs_at: 0xBC,
-        master: Extent2 {
-            at: 0x10C,
-            size: 32,
-        },
-        external: false,
-        external_at: 0,
-        selector: 0,
-        ivfc1: level(0, 32, 9),
-        ivfc2: level(4096, 32, 9),
-        ivfc3: level(8192, 288, 12),
-        ivfc4: level(12_288, 34_816, 12),
-        dpfs1: level(0, 4, 0),
-        dpfs2: level(4096, 128, 7),
-        dpfs3: level(8192, 49_152, 12),
-    }
+    LONE_DIFI
 }
 
 /// The partition with nothing changed, under a number.

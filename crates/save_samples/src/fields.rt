@@ -1,6 +1,6 @@
 //! What the headers and descriptors share: names, extents, levels, digests.
 
-ghost use Rattle.std.specs.Prelude.{◌+◌, ◌≤◌, length};
+ghost use Rattle.std.specs.Prelude.{◌≡◌, ◌+◌, ◌≤◌, length};
 
 use save_bytes::{set_u32, set_u64};
 use sha2::{Digest, Sha256};
@@ -29,9 +29,10 @@ pub(crate) fn put_level(bytes: &mut [u8], field: usize, at: u64, size: u64, log:
 }
 
 /// Puts the SHA-256 of the `size` bytes from `at` on into the 32 bytes from `entry` on.
-pub(crate) fn put_digest(image: &mut [u8], at: usize, size: usize, entry: usize)
+pub fn put_digest(image: &mut [u8], at: usize, size: usize, entry: usize)
     requires block { at + size ≤ length image.old }
     requires entry { entry + 32 ≤ length image.old }
+    ensures { length image.new ≡ length image.old }
 {
     let digest = Sha256::digest(&image[at..at + size]);
     image[entry..entry + 32].copy_from_slice(&digest);

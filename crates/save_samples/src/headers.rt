@@ -25,6 +25,16 @@ pub(crate) fn put_dual_disa(header: &mut [u8])
     put_extent(header, 0x58, 45_056, 65_536);
 }
 
+/// The descriptors and partitions of a DISA with two of them, in the other order.
+pub(crate) fn turn_partitions(header: &mut [u8])
+    requires { length header.old ≡ 256 }
+{
+    put_extent(header, 0x28, 304, 300);
+    put_extent(header, 0x38, 0, 300);
+    put_extent(header, 0x48, 45_056, 65_536);
+    put_extent(header, 0x58, 4096, 40_960);
+}
+
 fn put_disa(header: &mut [u8], partitions: u32, primary: u64, table: u64)
     requires { length header.old ≡ 256 }
 {

@@ -6,7 +6,7 @@ use crate::fields::put_digest;
 use crate::filesystem::{
     put_save_header, put_vsxe_header, put_with_chained_tables, put_with_placed_tables,
 };
-use crate::headers::{put_diff, put_dual_disa, put_single_disa};
+use crate::headers::{put_diff, put_dual_disa, put_single_disa, turn_partitions};
 use crate::partition::{DATA, LEVEL_FOUR, LONE, TREE, put_descriptor, put_digests};
 use crate::which::Sample;
 use std::alloc::{AllocError, Global};
@@ -23,6 +23,7 @@ pub fn sample(alloc: Global, which: Sample) -> Result<Vec<u8>, AllocError>
     match which {
         Sample::Single => put_single(&mut image),
         Sample::Dual => put_dual(&mut image),
+        Sample::Loose => put_loose(&mut image),
         Sample::Vsxe => put_vsxe(&mut image),
     }
     Ok(image)
@@ -48,6 +49,7 @@ fn put_single(image: &mut [u8])
 
 fn put_dual(image: &mut [u8])
     requires { length image.old ≡ 110592 }
+    ensures { length image.new ≡ 110592 }
 {
     let level_four = &mut image[LEVEL_FOUR..];
     put_save_header(level_four);
@@ -57,6 +59,13 @@ fn put_dual(image: &mut [u8])
     put_digests(image, 1536 + 0x10C);
     put_dual_disa(&mut image[0x100..0x200]);
     put_digest(image, 1536, 604, 0x100 + 0x6C);
+}
+
+fn put_loose(image: &mut [u8])
+    requires { length image.old ≡ 110592 }
+{
+    put_dual(image);
+    turn_partitions(&mut image[0x100..0x200]);
 }
 
 fn put_vsxe(image: &mut [u8])

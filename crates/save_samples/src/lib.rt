@@ -4,6 +4,7 @@
 //! compare the two.
 #![tactic(auto)]
 
+mod descriptors;
 mod fields;
 mod filesystem;
 mod headers;
@@ -11,6 +12,8 @@ mod images;
 mod partition;
 mod which;
 
+pub use descriptors::{EXTERNAL_DIFI, LONE_DIFI, LONG_DIFI};
+pub use fields::put_digest;
 pub use images::sample;
 pub use which::Sample;
 

@@ -1,6 +1,7 @@
 ghost use Rattle.std.specs.Prelude.{◌≡◌, length};
 
 use super::*;
+use difi::Difi;
 use save_bytes::u64_at;
 use sha2::{Digest, Sha256};
 use std::process::Abort;
@@ -227,6 +228,37 @@ fn dual_has_its_tables_in_part_0(rt: HostRuntime) -> Result<(), Fail> {
         (512, 0x40_8000_0001),
     ];
     assert_numbers(&rt, &image, LEVEL_FOUR + 208, &table);
+    Ok(())
+}
+
+#[test]
+fn loose_is_dual_with_its_partitions_turned(rt: HostRuntime) -> Result<(), Fail> {
+    let image = sample(rt.alloc(), Sample::Loose)?;
+    let places = [
+        (0x08, 2),
+        (0x10, 512),
+        (0x18, 1536),
+        (0x20, 604),
+        (0x28, 304),
+        (0x30, 300),
+        (0x38, 0),
+        (0x40, 300),
+        (0x48, 45_056),
+        (0x50, 65_536),
+        (0x58, 4096),
+        (0x60, 40_960),
+    ];
+    assert_numbers(&rt, &image, 0x100, &places);
+    let dual = sample(rt.alloc(), Sample::Dual)?;
+    assert!(rt; image[0x168..].starts_with(&dual[0x168..]));
+    Ok(())
+}
+
+#[test]
+fn single_has_its_descriptor(rt: HostRuntime) -> Result<(), Fail> {
+    let image = sample(rt.alloc(), Sample::Single)?;
+    let table = &image[1024..1324];
+    assert_eq!(rt; Difi::read(table, 0, 300, 106_496), Ok(LONE_DIFI));
     Ok(())
 }
 

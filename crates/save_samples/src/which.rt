@@ -7,6 +7,9 @@ pub enum Sample {
     Single,
     /// A DISA with two partitions: the tables of its SAVE lie in part 0, and the data region is part 1.
     Dual,
+    /// `Dual` with the partitions in the other order: level four of part 0 is the data region, which lies outside its
+    /// double-copy tree.
+    Loose,
     /// A DIFF: the tables of its VSXE are chains in the data region.
     Vsxe,
 }

@@ -8,7 +8,7 @@ ghost use Rattle.std.specs.Prelude.{◌≡◌, ◌+◌, ◌≤◌, length};
 use super::*;
 use save_bytes::{Words, set_u32, set_u64};
 use save_disk::{Call, MemDesk, PlainSigner, Signer, ZeroSigner};
-use save_samples::{Sample, sample};
+use save_samples::{Sample, put_digest, sample};
 use sha2::{Digest, Sha256};
 use std::alloc::{AllocError, Global};
 use std::process::Abort;
@@ -80,15 +80,6 @@ fn assert_block(
     Ok(())
 }
 
-/// Puts the digest of a table into a DISA's header.
-fn put_digest(image: &mut [u8], at: usize, size: usize)
-    requires image { length image.old ≡ 110592 }
-    requires inside { at + size ≤ 100000 }
-{
-    let digest = Sha256::digest(&image[at..at + size]);
-    image[0x16C..0x18C].copy_from_slice(&digest);
-}
-
 #[test]
 fn info_says_each_kind(rt: HostRuntime) -> Result<(), Fail> {
     let alloc = rt.alloc();
@@ -146,18 +137,11 @@ fn block_is_said_whole(rt: HostRuntime) -> Result<(), Fail> {
     Ok(())
 }
 
-// The two partitions change places in the header: the data region's external level four is then part 0's, and the
-// bytes of part 1 follow its 32,768 bytes.
+// The bytes of part 1 follow the 32,768 bytes of part 0.
 #[test]
 fn part_1_is_shown_behind_part_0(rt: HostRuntime) -> Result<(), Fail> {
     let alloc = rt.alloc();
-    let mut image = sample(alloc, Sample::Dual)?;
-    set_u64(&mut image, 0x128, 304);
-    set_u64(&mut image, 0x138, 0);
-    set_u64(&mut image, 0x148, 45_056);
-    set_u64(&mut image, 0x150, 65_536);
-    set_u64(&mut image, 0x158, 4096);
-    set_u64(&mut image, 0x160, 40_960);
+    let image = sample(alloc, Sample::Loose)?;
     let info =
         "kind DISA\nactive primary\ntable 1536 604\npart A 45056 65536\npart B 4096 40960\nhash 1f2f002023c9df27c3b5c618b2f236417038727a8aafcc4e92234e278e76ecf4\n";
     let damaged = (REFUSED, "refused Damaged 0 1 0\n");
@@ -288,11 +272,11 @@ fn first_fault_of_a_descriptor_is_said(rt: HostRuntime) -> Result<(), Fail> {
     assert_reply(&rt, alloc, &smallest(), &ZeroSigner, "F info", magic)?;
     let mut image = sample(alloc, Sample::Dual)?;
     image[1840 + 0x39] = 2;
-    put_digest(&mut image, 1536, 604);
+    put_digest(&mut image, 1536, 604, 0x16C);
     let layout = (REFUSED, "refused DifiLayout 1 5\n");
     assert_reply(&rt, alloc, &image, &ZeroSigner, "F peek 0 0", layout)?;
     image[1536 + 0x44 + 4] = 1;
-    put_digest(&mut image, 1536, 604);
+    put_digest(&mut image, 1536, 604, 0x16C);
     let version = (REFUSED, "refused DifiVersion 0 2\n");
     assert_reply(&rt, alloc, &image, &ZeroSigner, "F peek 0 0", version)?;
     Ok(())
