@@ -5,6 +5,7 @@ use Rattle.std.proofs.lemmas.List.{take-take, drop-take}
 use Rattle.container_header.specs.declared.header.Header.{Header as Fields}
 use Rattle.container_header.specs.declared.fault.HeaderFault.{HeaderFault}
 use Rattle.container_header.specs.Conditions.{reading}
+use Rattle.container.specs.Signers.{Signing}
 use Rattle.container.specs.declared.fault.OpenFault.{OpenFault}
 use Rattle.container.specs.declared.fault.OpenFault.TheVariants.{Memory, Disk, Header, Tag, TableHash, Difi}
 use Rattle.container.specs.Openings.{active_table, tag_in, header_in, tag_fault, table_fault, fault_by, fault_of, first_of, IsCaused}
@@ -43,42 +44,42 @@ caused_second one other fault none h = subst (λ (o : Option OpenFault). IsCause
 pub none_of_both : (one other : Option OpenFault) → one ≡ None → other ≡ None → first_of one other ≡ None
 none_of_both one other first second = ap (λ (o : Option OpenFault). first_of o other) first ∙ second
 
-abbrev tag_between : (List ℕ → List ℕ) → Bool → List ℕ → List ℕ → Option OpenFault
-tag_between tag_of demands found header = if demands && not (bytes_eq found (tag_of header)) then Some (Tag (tag_of header) found) else None
+abbrev tag_between : Signing → List ℕ → List ℕ → Option OpenFault
+tag_between sign found header = if sign.demands && not (bytes_eq found (sign.tag header)) then Some (Tag (sign.tag header) found) else None
 
-module _ (tag_of : List ℕ → List ℕ) (demands : Bool) (image : List ℕ) where
+module _ (sign : Signing) (image : List ℕ) where
   -- the header's fault is the image's
-  pub header_fault : (fault : HeaderFault) → reading image ≡ Err fault → fault_of tag_of demands image ≡ Some (Header fault)
+  pub header_fault : (fault : HeaderFault) → reading image ≡ Err fault → fault_of sign image ≡ Some (Header fault)
   unfolding fault_of
-  header_fault fault is = ap (λ (r : Result Fields HeaderFault). fault_by tag_of demands image r) is
+  header_fault fault is = ap (λ (r : Result Fields HeaderFault). fault_by sign image r) is
 
   -- under a sound header the tag's fault is the image's, and else the table's
   pub fault_under : (header : Fields) → reading image ≡ Ok header
-      → fault_of tag_of demands image ≡ first_of (tag_fault tag_of demands image)
+      → fault_of sign image ≡ first_of (tag_fault sign image)
       (table_fault (active_table image header) header)
   unfolding fault_of
-  fault_under header is = ap (λ (r : Result Fields HeaderFault). fault_by tag_of demands image r) is
+  fault_under header is = ap (λ (r : Result Fields HeaderFault). fault_by sign image r) is
 
   pub tag_first : (header : Fields) (fault : OpenFault) → reading image ≡ Ok header
-      → tag_fault tag_of demands image ≡ Some fault → IsCaused (fault_of tag_of demands image) fault
+      → tag_fault sign image ≡ Some fault → IsCaused (fault_of sign image) fault
   tag_first header fault is tag =
       caused_by _ fault (fault_under header is
       ∙ ap (λ (o : Option OpenFault). first_of o (table_fault (active_table image header) header)) tag)
 
   -- under a sound header and its tag the active table has the fault, or none
   pub table_next : (header : Fields) (table : List ℕ) → reading image ≡ Ok header
-      → tag_fault tag_of demands image ≡ None → table ≡ active_table image header
-      → fault_of tag_of demands image ≡ table_fault table header
+      → tag_fault sign image ≡ None → table ≡ active_table image header
+      → fault_of sign image ≡ table_fault table header
   table_next header table is none same =
       fault_under header is
       ∙ ap (λ (o : Option OpenFault). first_of o (table_fault (active_table image header) header)) none
       ∙ ap (λ (l : List ℕ). table_fault l header) (sym same)
 
   -- the tag and the header stand in the first 512 bytes
-  pub tag_of_front : tag_fault tag_of demands (take 512 image) ≡ tag_fault tag_of demands image
+  pub tag_of_front : tag_fault sign (take 512 image) ≡ tag_fault sign image
   tag_of_front =
       let tag : tag_in (take 512 image) ≡ tag_in image = take-take 16 512 image (lit≤ tt) in
       let header : header_in (take 512 image) ≡ header_in image =
       ap (λ (l : List ℕ). take 256 l) (drop-take 256 256 image) ∙ take-take 256 256 (drop 256 image) (lit≤ tt) in
-      ap (λ (l : List ℕ). tag_between tag_of demands (tag_in (take 512 image)) l) header
-      ∙ ap (λ (l : List ℕ). tag_between tag_of demands l (header_in image)) tag
+      ap (λ (l : List ℕ). tag_between sign (tag_in (take 512 image)) l) header
+      ∙ ap (λ (l : List ℕ). tag_between sign l (header_in image)) tag

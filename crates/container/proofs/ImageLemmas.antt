@@ -21,7 +21,7 @@ use Rattle.ivfc_tree.specs.Paths.{block_state, cell_in}
 use Rattle.save_bytes.specs.CellNumbers.{value_of}
 use Rattle.ivfc_tree.specs.View.{status_of}
 use Rattle.part_store.specs.declared.part.Part.{Part}
-use Rattle.part_store.specs.Parts.{CanViewPart, contents_of, master_of, part_state}
+use Rattle.part_store.specs.Parts.{CanViewPart, contents_of, master_of, part_state, status_in}
 use Rattle.part_store.proofs.PartLemmas.{hashes_there, contents_there, can_view_part-true}
 use Rattle.page_image.specs.declared.state.ImageState.{ImageState}
 use Rattle.page_image.specs.Images.{IsDiskOf, image_state}
@@ -30,7 +30,6 @@ use Rattle.container.specs.Openings.{active_table, partition_of}
 use Rattle.container.specs.declared.parts.Parts.{Parts}
 use Rattle.container.specs.Parts.{IsPartOf, IsUntouched, IsPartRead, AreRead, part_at, part_count}
 use Rattle.container.specs.Stores.{state_of}
-use Rattle.container.specs.Statuses.{status_in}
 use Rattle.container.specs.ImageCells.{contents_in, path_in, cell_at, IsHeld, AreImageCells}
 use Rattle.container.proofs.PartLemmas.{sound_descriptors}
 use Rattle.container.proofs.StoreLemmas.{four_fits}
@@ -41,15 +40,16 @@ pub partition_there : (header : Header) (image_len number : ℕ) → IsSoundHead
 partition_there header image_len number sound there =
     ⊎_elim
     (λ (zeroth : number < 1). let is : number ≡ 0 = omega arith in rw is sound.partition_a)
-    (λ (later : 1 ≤ number). let is : number ≡ 1 =
-    omega (arith, sound.two_parts, there) in let both : header.parts ≡ 2 =
-    omega (arith, sound.two_parts, there) in rw is (sound.partition_b both))
+    (λ (later : 1 ≤ number).
+    let is : number ≡ 1 = omega (arith, sound.two_parts, there) in
+    rw is (sound.partition_b (omega (arith, sound.two_parts, there))))
     (cases_lt number 1)
 
 module _ (disk : disks.State) (image : ImageState) (header : Header) (table : List ℕ) (disk_of : IsDiskOf disk image)
     (sound : IsSoundHeader header image.len) (whole : length table ≡ header.table_size) where
   -- a part of a whole container can be viewed
-  pub part_view : (number : ℕ) (part : Part) → number < header.parts → IsPartOf header number part → CanViewPart (image_state disk image).shape part (length table)
+  pub part_view : (number : ℕ) (part : Part) → number < header.parts → IsPartOf header number part
+      → CanViewPart (image_state disk image).shape part (length table)
   part_view number part there is =
       let partition = partition_there header image.len number sound there in
       let descriptor = (sound_descriptors header image.len sound).each number there in
@@ -82,12 +82,9 @@ module _ (disk : disks.State) (image : ImageState) (header : Header) (table : Li
       and_from _ _ (rw (one.number_is, other.number_is) refl)
       (and_from _ _ (can_view_part-true (image_state disk image).shape first (length table) view)
       (and_from _ _ (can_view_part-true (image_state disk image).shape part (length table) next)
-      (lt-ltb _ _ (omega (
-        arith,
-        four_fits (image_state disk image) first table (image_size_fits disk image) view,
-        four_fits (image_state disk image) part table (image_size_fits disk image) next,
-        image.layout.most,
-      )))))
+      (lt-ltb _ _
+          (let fits = four_fits (image_state disk image) first table (image_size_fits disk image) view in
+          omega (arith, fits, four_fits (image_state disk image) part table (image_size_fits disk image) next, image.layout.most)))))
 
 -- a part of a number is the first or the second
 pub data IsOne (parts : Parts) (number : ℕ) (part : Part) : Type 0 where
@@ -147,8 +144,7 @@ module _ (base : State) (bytes : List ℕ) (header : Header) (number : ℕ) (par
       faults = omega arith;
       cause = tt;
       told = λ told. refl;
-      twins =
-          λ told. record { bottom = λ x h. refl; is_fixed = λ x h. refl };
+      twins = λ told. record { bottom = λ x h. refl; is_fixed = λ x h. refl };
     };
     cells = λ told y below. sym (same y below);
   }
@@ -164,8 +160,7 @@ module _ (base : State) (bytes : List ℕ) (header : Header) (number : ℕ) (par
       faults = omega arith;
       cause = tt;
       told = λ told. refl;
-      twins =
-          λ told. record { bottom = λ x h. refl; is_fixed = λ x h. refl };
+      twins = λ told. record { bottom = λ x h. refl; is_fixed = λ x h. refl };
     };
     cells = λ told z below. sym (ap Byte
         (place_of-chosen (λ y. slice_index bytes y) part.at part.difi part.dpfs z untouched.contents.unmarked

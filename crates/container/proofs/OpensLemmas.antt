@@ -15,6 +15,7 @@ use Rattle.difi.specs.declared.fault.DifiFault.{DifiFault}
 use Rattle.difi.specs.Conditions.{reading as difi_reading}
 use Rattle.difi.proofs.SoundLemmas.{is_read}
 use Rattle.difi.proofs.CompleteLemmas.{reading-sound}
+use Rattle.container.specs.Signers.{Signing}
 use Rattle.container.specs.declared.fault.OpenFault.{OpenFault}
 use Rattle.container.specs.Openings.{active_table, tag_in, header_in, part_reading, fault_of}
 use Rattle.container.specs.Openings.{descriptor_fault, second_fault, parts_fault, digest_fault, table_fault, tag_fault, first_of}
@@ -105,26 +106,26 @@ read_or_not : (r : Result Fields HeaderFault)
 read_or_not (Ok header) = inl (header, refl)
 read_or_not (Err fault) = inr (fault, refl)
 
-module _ (tag_of : List ℕ → List ℕ) (demands : Bool) (image : List ℕ) where
+module _ (sign : Signing) (image : List ℕ) where
   -- an image that opens has no fault
-  pub no_fault : Opens tag_of demands image → fault_of tag_of demands image ≡ None
+  pub no_fault : Opens sign image → fault_of sign image ≡ None
   no_fault opens =
       let header = opens.header in
       let table = active_table image header in
-      fault_under tag_of demands image header (reading-is image header opens.sound)
-      ∙ none_of_both (tag_fault tag_of demands image) (table_fault table header)
-      (tag_passes (tag_in image) (tag_of (header_in image)) _ demands opens.tag)
+      fault_under sign image header (reading-is image header opens.sound)
+      ∙ none_of_both (tag_fault sign image) (table_fault table header)
+      (tag_passes (tag_in image) (sign.tag (header_in image)) _ sign.demands opens.tag)
       (none_of_both (digest_fault table header) (parts_fault table header)
       (digest_none table header opens.table)
       (parts_none table header opens.sound.sound.one_part opens.parts))
 
-  opens_under : (header : Fields) → reading image ≡ Ok header → fault_of tag_of demands image ≡ None
-      → Opens tag_of demands image
+  opens_under : (header : Fields) → reading image ≡ Ok header → fault_of sign image ≡ None
+      → Opens sign image
   opens_under header is none =
       let table = active_table image header in
       let sound = reading-ok image header is in
-      let rest : first_of (tag_fault tag_of demands image) (table_fault table header) ≡ None =
-      sym (fault_under tag_of demands image header is) ∙ none in
+      let rest : first_of (tag_fault sign image) (table_fault table header) ≡ None =
+      sym (fault_under sign image header is) ∙ none in
       let tag = both_none _ _ rest in
       let below = both_none (digest_fault table header) (parts_fault table header) tag.1 in
       record {
@@ -132,12 +133,12 @@ module _ (tag_of : List ℕ → List ℕ) (demands : Bool) (image : List ℕ) wh
         sound = sound;
         table = digest_same table header below.0;
         parts = parts_sound table header sound.sound.two_parts below.1;
-        tag = tag_found (tag_in image) (tag_of (header_in image)) _ demands tag.0;
+        tag = tag_found (tag_in image) (sign.tag (header_in image)) _ sign.demands tag.0;
       }
 
   -- and one that has none opens
-  pub opens_without_fault : fault_of tag_of demands image ≡ None → Opens tag_of demands image
+  pub opens_without_fault : fault_of sign image ≡ None → Opens sign image
   opens_without_fault none = elim (read_or_not (reading image)) [
     | inl read ↦ opens_under read.0 read.1 none
-    | inr unread ↦ absurd (let fault = header_fault tag_of demands image unread.0 unread.1 in cc)
+    | inr unread ↦ absurd (let fault = header_fault sign image unread.0 unread.1 in cc)
   ]

@@ -1,3 +1,4 @@
+pub mod Signers
 pub mod Openings
 pub mod Opens
 pub mod Parts
@@ -5,5 +6,4 @@ pub mod Levels
 pub mod Containers
 pub mod Stores
 pub mod StoreHeld
-pub mod Statuses
 pub mod ImageCells

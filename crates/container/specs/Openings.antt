@@ -9,6 +9,7 @@ use Rattle.container_header.specs.Sound.{active_at}
 use Rattle.difi.specs.declared.descriptor.Difi.{Difi as Descriptor}
 use Rattle.difi.specs.declared.fault.DifiFault.{DifiFault}
 use Rattle.difi.specs.Conditions.{reading as difi_reading}
+use Rattle.container.specs.Signers.{Signing}
 use Rattle.container.specs.declared.fault.OpenFault.{OpenFault}
 use Rattle.container.specs.declared.fault.OpenFault.TheVariants.{Memory, Disk, Header as HeaderIs, Tag, TableHash, Difi as DifiIs}
 
@@ -60,18 +61,18 @@ abbrev pub table_fault : List ℕ → Header → Option OpenFault
 table_fault table header = first_of (digest_fault table header) (parts_fault table header)
 
 -- a signer that demands its tag finds it
-abbrev pub tag_fault : (List ℕ → List ℕ) → Bool → List ℕ → Option OpenFault
-tag_fault tag_of demands image =
-    if demands && not (bytes_eq (tag_in image) (tag_of (header_in image)))
-    then Some (Tag (tag_of (header_in image)) (tag_in image)) else None
+abbrev pub tag_fault : Signing → List ℕ → Option OpenFault
+tag_fault sign image =
+    if sign.demands && not (bytes_eq (tag_in image) (sign.tag (header_in image)))
+    then Some (Tag (sign.tag (header_in image)) (tag_in image)) else None
 
-abbrev pub fault_by : (List ℕ → List ℕ) → Bool → List ℕ → Result Header HeaderFault → Option OpenFault
-fault_by tag_of demands image (Ok header) = first_of (tag_fault tag_of demands image) (table_fault (active_table image header) header)
-fault_by tag_of demands image (Err fault) = Some (HeaderIs fault)
+abbrev pub fault_by : Signing → List ℕ → Result Header HeaderFault → Option OpenFault
+fault_by sign image (Ok header) = first_of (tag_fault sign image) (table_fault (active_table image header) header)
+fault_by sign image (Err fault) = Some (HeaderIs fault)
 
 -- the first fault of an image under a signer: the header's, the tag's, the table's, the descriptors'
-unfoldable pub fault_of : (List ℕ → List ℕ) → Bool → List ℕ → Option OpenFault
-fault_of tag_of demands image = fault_by tag_of demands image (header_reading image)
+unfoldable pub fault_of : Signing → List ℕ → Option OpenFault
+fault_of sign image = fault_by sign image (header_reading image)
 
 -- a fault has its cause; want of memory is free, and that the disk failed is shown by its count
 abbrev pub IsCaused : Option OpenFault → OpenFault → Type 0

@@ -6,6 +6,7 @@ use Rattle.container_header.specs.declared.header.Header.{Header}
 use Rattle.container_header.specs.Sound.{IsHeaderOf}
 use Rattle.difi.specs.Fields.{fields}
 use Rattle.difi.specs.Sound.{IsSoundDifi, IsDescriptor}
+use Rattle.container.specs.Signers.{Signing}
 use Rattle.container.specs.Openings.{tag_in, header_in, active_table, descriptor_of, partition_of}
 
 -- the active table has the SHA-256 that the header says
@@ -23,9 +24,9 @@ HasSoundDescriptor table header part = IsSoundDescriptor table (descriptor_of he
 
 -- the image has a sound header, its active table matches it, each part has a sound descriptor in that, and a signer that
 -- demands its tag finds it
-pub record Opens (tag_of : List ℕ → List ℕ) (demands : Bool) (image : List ℕ) : Type 0 where
+pub record Opens (sign : Signing) (image : List ℕ) : Type 0 where
   pub header : Header
   pub sound : IsHeaderOf header image
   pub table : TableMatches image header
   pub parts : (part : ℕ) → part < header.parts → HasSoundDescriptor (active_table image header) header part
-  pub tag : IsTrue demands → tag_in image ≡ tag_of (header_in image)
+  pub tag : IsTrue sign.demands → tag_in image ≡ sign.tag (header_in image)

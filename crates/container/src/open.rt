@@ -4,6 +4,7 @@ ghost use Rattle.std.specs.Prelude.{◌≡◌, ◌≢◌, ◌≤◌, IsTrue, IfO
 ghost use Rattle.save_disk.specs.State.{IsQuiet, IsSteady, Rose};
 ghost use Rattle.save_disk.specs.Tells.{tells, image_told};
 ghost use Rattle.page_image.specs.Images.{IsOpened};
+ghost use Rattle.container.specs.Signers.{signing};
 ghost use Rattle.container.specs.Openings.{IsCaused, digest_fault, fault_of};
 
 use crate::fault::OpenFault;
@@ -72,11 +73,11 @@ impl Container {
         signer: &G,
     ) -> Result<Container, OpenFault>
         ensures opened { IfOk result (λ container. IsTrue (tells (D.state disk.old))
-            → IsOpenOf (G.tag_of signer.now) (G.is_demanding signer.now) (image_told (D.state disk.old)) container) }
+            → IsOpenOf (signing G.tag_of G.is_demanding signer.now) (image_told (D.state disk.old)) container) }
         ensures image { IfOk result (λ container. IsOpened (D.state disk.new) container.image) }
         ensures whole { IfOk result IsWholeContainer }
         ensures caused { IfErr result (λ fault. IsTrue (tells (D.state disk.old))
-            → IsCaused (fault_of (G.tag_of signer.now) (G.is_demanding signer.now) (image_told (D.state disk.old))) fault) }
+            → IsCaused (fault_of (signing G.tag_of G.is_demanding signer.now) (image_told (D.state disk.old))) fault) }
         ensures disk { IfErr result (λ fault. fault ≡ OpenFault.Disk → Rose (D.state disk.old).counts.disk (D.state disk.new).counts.disk) }
         ensures quiet { IsQuiet (D.state disk.old) (D.state disk.new) }
         ensures steady { IsSteady (D.state disk.old) (D.state disk.new) }

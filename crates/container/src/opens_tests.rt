@@ -1,6 +1,7 @@
 //! Which images open: what opening comes to tells whether the definition holds.
 
 ghost use Rattle.std.specs.Prelude.{◌↔◌, IfOk, IsTrue, None};
+ghost use Rattle.container.specs.Signers.{signing};
 ghost use Rattle.container.specs.Openings.{IsCaused};
 ghost use Rattle.container.specs.Opens.{Opens};
 
@@ -27,7 +28,7 @@ fn is_of_image(fault: &OpenFault) -> bool
 /// Whether an image opens under a signer.
 fn opens<G: Signer>(alloc: Global, image: &[u8], signer: &G) -> Result<bool, OpenFault>
     ensures { IfOk result (λ is_open. IsTrue is_open
-        ↔ Opens (G.tag_of signer.now) (G.is_demanding signer.now) image.now) }
+        ↔ Opens (signing G.tag_of G.is_demanding signer.now) image.now) }
 {
     let Ok(mut desk) = MemDesk::new(alloc, image, &[]) else {
         return Err(OpenFault::Memory);

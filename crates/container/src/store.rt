@@ -9,10 +9,10 @@ ghost use Rattle.save_bytes.specs.Refusals.{NeverDamaged};
 ghost use Rattle.save_bytes.specs.Answers.{IsPiece};
 ghost use Rattle.save_bytes.specs.Reads.{Reads};
 ghost use Rattle.ivfc_tree.specs.Levels.{HasBlock};
-ghost use Rattle.part_store.specs.Parts.{IsFound};
+ghost use Rattle.part_store.specs.Parts.{IsFound, status_in};
 ghost use Rattle.page_image.specs.Images.{image_state, IsDiskOf};
+ghost use Rattle.container.specs.Signers.{Signing};
 ghost use Rattle.container.specs.Parts.{part_count, part_at};
-ghost use Rattle.container.specs.Statuses.{status_in};
 ghost use Rattle.container.specs.StoreHeld.{shown, store_of, IsStoreOf, IsKept, ReadsImage, StoreKeeps, store_lands};
 ghost use Rattle.container.specs.ImageCells.{IsHeld, AreImageCells, AreImageStatuses};
 ghost use Rattle.container.specs.Containers.{IsOpenOf, IsWholeContainer};
@@ -39,12 +39,13 @@ impl Container {
         ensures holds { IsStoreOf result self.entry disk.entry }
         ensures sound { IsWholeContainer self.old → IsTrue (shown D.state result).shape.sound }
         // As the container was opened, the cells are those of the image.
-        ensures cells { (tag_of : List ℕ → List ℕ) (demands : Bool) (image : List ℕ) → IsWholeContainer self.old
-            → IsOpenOf tag_of demands image self.old → IsHeld image self.old.image
+        ensures cells { (sign : Signing) (image : List ℕ) → IsWholeContainer self.old
+            → IsOpenOf sign image self.old → IsHeld image self.old.image
             → AreImageCells image self.old.header self.old.parts (store_of (D.state disk.old) self.old).cells }
-        ensures statuses { (tag_of : List ℕ → List ℕ) (demands : Bool) (image : List ℕ) → IsWholeContainer self.old
-            → IsOpenOf tag_of demands image self.old → IsHeld image self.old.image
-            → AreImageStatuses image self.old.header self.old.parts (λ part level block. status_in (image_state (D.state disk.old) self.old.image) part self.old.table.items level block) }
+        ensures statuses { (sign : Signing) (image : List ℕ) → IsWholeContainer self.old
+            → IsOpenOf sign image self.old → IsHeld image self.old.image
+            → AreImageStatuses image self.old.header self.old.parts (λ part level block.
+            status_in (image_state (D.state disk.old) self.old.image) part self.old.table.items level block) }
     {
         Store {
             container: self,
@@ -146,7 +147,8 @@ impl<'a, D: Disk> Store<'a, D> {
         requires part { part < part_count self.old.container.now.parts.second }
         requires there { IfSome (part_at self.old.container.now.parts part) (λ found. HasBlock found.difi level block) }
         ensures status { IsTrue (shown D.state self.old).told → IfOk result (λ status. IfSome (part_at self.old.container.now.parts part)
-            (λ found. status ≡ status_in (image_state (D.state self.old.disk.now) self.old.container.now.image) found self.old.container.now.table.items level block)) }
+            (λ found. status ≡ status_in (image_state (D.state self.old.disk.now) self.old.container.now.image) found
+            self.old.container.now.table.items level block)) }
         ensures plain { NeverDamaged (result_err result) }
         ensures reads { Reads (shown D.state) (StoreKeeps D.state) (store_lands D.state) self.old self.new (result_err result) }
     {

@@ -6,10 +6,9 @@ ghost use Rattle.save_bytes.specs.State.{IsInside};
 ghost use Rattle.save_bytes.specs.Refusals.{NeverDamaged};
 ghost use Rattle.save_bytes.specs.Reads.{Reads};
 ghost use Rattle.ivfc_tree.specs.Levels.{HasBlock};
-ghost use Rattle.part_store.specs.Parts.{CanViewPart, part_state, IsFound};
+ghost use Rattle.part_store.specs.Parts.{CanViewPart, part_state, status_in, IsFound};
 ghost use Rattle.container.specs.Parts.{part_count, part_at};
 ghost use Rattle.container.specs.Stores.{store_state};
-ghost use Rattle.container.specs.Statuses.{status_in};
 
 use crate::parts::Parts;
 use ivfc_tree::Status;
@@ -93,7 +92,8 @@ pub(crate) fn tell<S: Space>(
     requires sound { IsTrue (store_state (S.state image.old) parts.old table.old).shape.sound }
     requires part { number < part_count parts.old.second }
     requires there { IfSome (part_at parts.old number) (λ part. HasBlock part.difi level block) }
-    ensures status { IsTrue (S.state image.old).told → IfOk result (λ status. IfSome (part_at parts.old number) (λ part. status ≡ status_in (S.state image.old) part table.old level block)) }
+    ensures status { IsTrue (S.state image.old).told → IfOk result (λ status. IfSome (part_at parts.old number)
+        (λ part. status ≡ status_in (S.state image.old) part table.old level block)) }
     ensures plain { NeverDamaged (result_err result) }
     ensures reads { Reads S.state S.keeps S.lands image.old image.new (result_err result) }
     ensures parts { parts.new ≡ parts.old }

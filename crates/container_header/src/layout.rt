@@ -2,7 +2,8 @@
 
 ghost use Rattle.std.specs.Prelude.{◌≡◌, ◌||◌, ◌++◌};
 ghost use Rattle.save_bytes.specs.Extents.{overlap, some_overlap};
-ghost use Rattle.container_header.specs.Conditions.{table_at, regions, is_bad_descriptor, is_bad_partition, table_faults, descriptor_faults, partition_faults, first_failing};
+ghost use Rattle.container_header.specs.Conditions.{table_at, regions, is_bad_descriptor, is_bad_partition};
+ghost use Rattle.container_header.specs.Conditions.{table_faults, descriptor_faults, partition_faults, first_failing};
 
 use crate::header::Header;
 use save_bytes::Extent;

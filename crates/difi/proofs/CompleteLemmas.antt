@@ -14,7 +14,7 @@ use Rattle.difi.specs.Conditions.{has_bad_external, has_too_few_entries}
 use Rattle.difi.specs.Sound.{HasParts, HasBlockSizes, IsPlaced, HasCopies, HasHashLevels, HasExternalLevel, HasSoundLevels, IsSoundDifi, IsDescriptor}
 use Rattle.save_bytes.specs.Extents.{lies_inside, overlap, AreApart}
 use Rattle.save_bytes.proofs.ExtentLemmas.{AllApart, some_overlap-apart, list_any-apart}
-use Rattle.difi.proofs.TestLemmas.{not-ends_inside, is_outside-between}
+use Rattle.difi.proofs.TestLemmas.{inner, some_outside-inside, not-ends_inside, is_outside-between}
 use Rattle.difi.proofs.TestLemmas.{eqb-not_empty, ltb-enough_entries, is_bad_part-inside, ltb-one_of_two, not-named}
 use Rattle.difi.proofs.TestLemmas.{not-numbered}
 use Rattle.difi.proofs.Verdicts.{passes, reading-ok}
@@ -50,10 +50,6 @@ has_overlapping_copies-none : (difi : Difi) (part_len : ℕ) → HasCopies difi 
 unfolding has_overlapping_copies
 has_overlapping_copies-none difi part_len h = some_overlap-apart (pairs difi) ((h.apart12, (h.apart13, tt)), ((h.apart23, tt), (tt, tt)))
 
--- four levels, of which the last is not looked at where it is external
-abbrev inner : Bool → Extent → Extent → Extent → Extent → List Extent
-inner external one two three four = take (cond external 3 4) (one ∷ two ∷ three ∷ four ∷ [])
-
 inner_apart : (external : Bool) (one two three four : Extent) → AreApart one two → AreApart one three
     → AreApart two three → (external ≡ false → AreApart one four) → (external ≡ false → AreApart two four)
     → (external ≡ false → AreApart three four) → AllApart (inner external one two three four)
@@ -63,12 +59,9 @@ inner_apart false one two three four a b c d e f = ((a, (b, (d refl, tt))), ((c,
 inner_inside : (external : Bool) (one two three four : Extent) (end : ℕ) → one.at + one.size ≤ end
     → two.at + two.size ≤ end → three.at + three.size ≤ end → (external ≡ false → four.at + four.size ≤ end)
     → some_outside (inner external one two three four) end ≡ false
-inner_inside true one two three four end a b c d =
-    or_from _ _ (not-ends_inside one end a) (or_from _ _ (not-ends_inside two end b) (or_from _ _ (not-ends_inside three end c) refl))
+inner_inside true one two three four end a b c d = some_outside-inside (inner true one two three four) end (a, (b, (c, tt)))
 inner_inside false one two three four end a b c d =
-    or_from _ _ (not-ends_inside one end a)
-    (or_from _ _ (not-ends_inside two end b)
-    (or_from _ _ (not-ends_inside three end c) (or_from _ _ (not-ends_inside four end (d refl)) refl)))
+    some_outside-inside (inner false one two three four) end (a, (b, (c, (d refl, tt))))
 
 pub has_bad_level-none : (difi : Difi) → HasHashLevels difi → has_bad_level difi ≡ false
 unfolding has_bad_level

@@ -14,7 +14,7 @@ use Rattle.difi.specs.Conditions.{has_bad_external, has_too_few_entries}
 use Rattle.difi.specs.Sound.{HasParts, HasBlockSizes, IsPlaced, HasCopies, HasHashLevels, HasExternalLevel, IsSoundDifi, IsDescriptor}
 use Rattle.save_bytes.specs.Extents.{AreApart}
 use Rattle.save_bytes.proofs.ExtentLemmas.{AllApart, all_apart, apart_from}
-use Rattle.difi.proofs.TestLemmas.{ends_inside, between, not_empty, enough_entries}
+use Rattle.difi.proofs.TestLemmas.{inner, all_inside, ends_inside, between, not_empty, enough_entries}
 use Rattle.difi.proofs.TestLemmas.{part_inside, part_size, one_of_two, named, numbered}
 use Rattle.difi.proofs.Verdicts.{holds, all_pass}
 
@@ -59,10 +59,6 @@ copies difi part_len in_partition long_enough none_overlap =
       apart23 = apart.1.0.0;
     }
 
--- four levels, of which the last is not looked at where it is external
-abbrev inner : Bool → Extent → Extent → Extent → Extent → List Extent
-inner external one two three four = take (cond external 3 4) (one ∷ two ∷ three ∷ four ∷ [])
-
 record InnerApart (external : Bool) (one two three four : Extent) : Type 0 where
   apart12 : AreApart one two
   apart13 : AreApart one three
@@ -102,22 +98,11 @@ record InnerInside (external : Bool) (one two three four : Extent) (end : ℕ) :
 inner_inside : (external : Bool) (one two three four : Extent) (end : ℕ)
     → some_outside (inner external one two three four) end ≡ false → InnerInside external one two three four end
 inner_inside true one two three four end h =
-    let first = or_parts _ _ h in
-    let second = or_parts _ _ first.1 in
-    let third = or_parts _ _ second.1 in
-    record { inside1 = ends_inside one end first.0; inside2 = ends_inside two end second.0; inside3 = ends_inside three end third.0; inside4 = λ e. cc }
+    let all = all_inside (inner true one two three four) end h in
+    record { inside1 = all.0; inside2 = all.1.0; inside3 = all.1.1.0; inside4 = λ e. cc }
 inner_inside false one two three four end h =
-    let first = or_parts _ _ h in
-    let second = or_parts _ _ first.1 in
-    let third = or_parts _ _ second.1 in
-    let fourth = or_parts _ _ third.1 in
-    record {
-      inside1 = ends_inside one end first.0;
-      inside2 = ends_inside two end second.0;
-      inside3 =
-          ends_inside three end third.0;
-      inside4 = λ e. ends_inside four end fourth.0;
-    }
+    let all = all_inside (inner false one two three four) end h in
+    record { inside1 = all.0; inside2 = all.1.0; inside3 = all.1.1.0; inside4 = λ e. all.1.1.1.0 }
 
 pub hash_tree : (difi : Difi) → has_bad_level difi ≡ false → has_overlapping_levels difi ≡ false → has_too_few_entries difi ≡ false → HasHashLevels difi
 unfolding has_bad_level has_overlapping_levels has_too_few_entries

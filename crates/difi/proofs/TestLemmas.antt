@@ -1,11 +1,13 @@
 -- Each test of a descriptor as a plain fact, in both directions.
-use Rattle.std.proofs.Common.{◌≡◌, ℕ, ◌+◌, ◌*◌, ◌/◌, ◌<◌, ◌≤◌, false, not, ◌==◌, nat_lt, bytes_eq, List, arith}
-use Rattle.std.proofs.lemmas.Bool.{ltb-false, le-ltb, eqb-true, eq-eqb, not-false, not_from_true}
+use Rattle.std.proofs.Common.{◌≡◌, ℕ, ◌+◌, ◌*◌, ◌/◌, ◌<◌, ◌≤◌, Bool, false, not, ◌==◌, nat_lt, bytes_eq}
+use Rattle.std.proofs.Common.{List, [], ◌∷◌, take, cond, refl, arith}
+use Rattle.std.proofs.lemmas.Bool.{ltb-false, le-ltb, eqb-true, eq-eqb, not-false, not_from_true, or_parts, or_from}
 use Rattle.std.proofs.lemmas.Slice.Eq.{bytes_eq-Decides}
 use Rattle.std.proofs.lemmas.Bool.Decides.{nat_tests}
 use Rattle.save_bytes.specs.declared.extent.Extent.{Extent}
 use Rattle.save_bytes.specs.Extents.{lies_inside}
 use Rattle.save_bytes.proofs.ExtentLemmas.{inside, not-lies_inside}
+use Rattle.difi.specs.Places.{some_outside}
 use Rattle.difi.specs.Sound.{IsBetween}
 use Rattle.difi.specs.Conditions.{is_outside, is_bad_part}
 
@@ -15,6 +17,24 @@ ends_inside extent high h = (inside extent 0 high h).ends
 
 pub not-ends_inside : (extent : Extent) (high : ℕ) → extent.at + extent.size ≤ high → not (lies_inside extent 0 high) ≡ false
 not-ends_inside extent high h = not-lies_inside extent 0 high (record { begins = omega arith; ends = h })
+
+-- each of a list lies inside 0 to an end
+abbrev pub AllInside : List Extent → ℕ → Type 0
+AllInside [] end = Unit {0}
+AllInside (extent ∷ extents) end = (extent.at + extent.size ≤ end) × AllInside extents end
+
+pub all_inside : (extents : List Extent) (end : ℕ) → some_outside extents end ≡ false → AllInside extents end
+all_inside [] end h = tt
+all_inside (extent ∷ extents) end h =
+    let parts = or_parts _ _ h in (ends_inside extent end parts.0, all_inside extents end parts.1)
+
+pub some_outside-inside : (extents : List Extent) (end : ℕ) → AllInside extents end → some_outside extents end ≡ false
+some_outside-inside [] end h = refl
+some_outside-inside (extent ∷ extents) end h = or_from _ _ (not-ends_inside extent end h.0) (some_outside-inside extents end h.1)
+
+-- four levels, of which the last is not looked at where it is external
+abbrev pub inner : Bool → Extent → Extent → Extent → Extent → List Extent
+inner external one two three four = take (cond external 3 4) (one ∷ two ∷ three ∷ four ∷ [])
 
 pub between : (low high n : ℕ) → is_outside low high n ≡ false → IsBetween low high n
 between low high n h = grind (arith, nat_tests)

@@ -94,7 +94,7 @@ rest_is difi at inside =
       block = λ k h. same_block at k (block_size difi.ivfc4) some (omega (arith, h));
     }
 
-byte_cell : (found : BlockState) (part value : ℕ) → IsByte (cell_in found part value)
+pub byte_cell : (found : BlockState) (part value : ℕ) → IsByte (cell_in found part value)
     → cell_in found part value ≡ Byte value
 byte_cell Good part value byte = refl
 byte_cell (BlankAt level block) part value byte = absurd byte

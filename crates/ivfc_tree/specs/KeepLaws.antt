@@ -5,10 +5,23 @@ use Rattle.save_bytes.specs.Stays.{SameCells, SameTwins}
 use Rattle.save_bytes.specs.Spots.{Spot, Mark, Frame, Hold, LandsAsBefore}
 use Rattle.difi.specs.declared.descriptor.Difi.{Difi}
 use Rattle.ivfc_tree.specs.declared.view.IvfcView.{IvfcView}
+use Rattle.ivfc_tree.specs.declared.state.IvfcState.{IvfcState}
 use Rattle.ivfc_tree.specs.Levels.{IsLevel, level_of}
+use Rattle.ivfc_tree.specs.Marks.{AsManyMarks}
 use Rattle.ivfc_tree.specs.View.{CanViewHashes, can_view_hashes, HasLevels, HasTree, view_state}
 use Rattle.ivfc_tree.specs.Held.{shown, SameHold, SameOwn, HashKeeps, IsOnPath, MarksPath, HashLands, hash_lands}
 use Rattle.ivfc_tree.specs.ViewLaws.{level4_size, true-can_view_hashes, tree_of, view_cells}
+
+pub AsManyMarks-same : (s : IvfcState) → AsManyMarks s s
+AsManyMarks-same s = record { marks1 = refl; marks2 = refl; marks3 = refl; marks4 = refl }
+
+pub AsManyMarks-join : (s t u : IvfcState) → AsManyMarks s t → AsManyMarks t u → AsManyMarks s u
+AsManyMarks-join s t u h k = record {
+  marks1 = k.marks1 ∙ h.marks1;
+  marks2 = k.marks2 ∙ h.marks2;
+  marks3 = k.marks3 ∙ h.marks3;
+  marks4 = k.marks4 ∙ h.marks4;
+}
 
 module _ {S : Type 0} where
   SameHold-same : (s : IvfcView S) → SameHold s s
@@ -19,7 +32,7 @@ module _ {S : Type 0} where
     same_master = refl;
     master_len = refl;
     same_state = refl;
-    marks = record { marks1 = refl; marks2 = refl; marks3 = refl; marks4 = refl };
+    marks = AsManyMarks-same s.state.now;
   }
 
   SameHold-join : (s t u : IvfcView S) → SameHold s t → SameHold t u → SameHold s u
@@ -30,12 +43,7 @@ module _ {S : Type 0} where
     same_master = k.same_master ∙ h.same_master;
     master_len = k.master_len ∙ h.master_len;
     same_state = k.same_state ∙ h.same_state;
-    marks = record {
-      marks1 = k.marks.marks1 ∙ h.marks.marks1;
-      marks2 = k.marks.marks2 ∙ h.marks.marks2;
-      marks3 = k.marks.marks3 ∙ h.marks.marks3;
-      marks4 = k.marks.marks4 ∙ h.marks.marks4;
-    };
+    marks = AsManyMarks-join s.state.now t.state.now u.state.now h.marks k.marks;
   }
 
   SameOwn-same : (spot : Spot) (s : IvfcView S) → SameOwn spot s s

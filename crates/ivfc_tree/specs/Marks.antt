@@ -1,5 +1,5 @@
 -- Which blocks were put or cleared in the present transaction. They count as good.
-use Rattle.std.specs.Prelude.{◌≡◌, ℕ, Bool, false, ◌==◌, List, length, get_or, if◌then◌else◌}
+use Rattle.std.specs.Prelude.{◌≡◌, ℕ, Bool, false, ◌&&◌, ◌==◌, List, length, get_or, if◌then◌else◌}
 use Rattle.difi.specs.declared.descriptor.Difi.{Difi}
 use Rattle.difi.specs.Places.{blocks_of}
 use Rattle.ivfc_tree.specs.declared.state.IvfcState.{IvfcState}
@@ -20,6 +20,12 @@ pub record IsMadeFor (difi : Difi) (state : IvfcState) : Type 0 where
   pub marks2 : length state.put2.items ≡ blocks_of difi.ivfc2
   pub marks3 : length state.put3.items ≡ blocks_of difi.ivfc3
   pub marks4 : length state.put4.items ≡ blocks_of difi.ivfc4
+
+-- the same as a test
+abbrev pub is_made_for : Difi → IvfcState → Bool
+is_made_for difi state =
+    (length state.put1.items == blocks_of difi.ivfc1) && ((length state.put2.items == blocks_of difi.ivfc2)
+    && ((length state.put3.items == blocks_of difi.ivfc3) && (length state.put4.items == blocks_of difi.ivfc4)))
 
 -- nothing was put or cleared
 abbrev pub HasNoMarks : IvfcState → Type 0

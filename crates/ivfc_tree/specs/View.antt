@@ -19,7 +19,7 @@ use Rattle.ivfc_tree.specs.declared.state.IvfcState.{IvfcState}
 use Rattle.ivfc_tree.specs.declared.view.Status.{Status}
 use Rattle.ivfc_tree.specs.declared.view.Status.TheVariants.{Good as GoodStatus, Blank as BlankStatus, Bad as BadStatus}
 use Rattle.ivfc_tree.specs.Levels.{IsLevel, level_of}
-use Rattle.ivfc_tree.specs.Marks.{IsMadeFor}
+use Rattle.ivfc_tree.specs.Marks.{IsMadeFor, is_made_for}
 use Rattle.ivfc_tree.specs.Paths.{block_state, cell_in}
 
 -- what a view needs of its base, its descriptor, its master hash and its state: the base is laid out as the double-copy
@@ -41,8 +41,7 @@ unfoldable pub can_view_hashes : Shape → Difi → ℕ → IvfcState → Bool
 can_view_hashes base difi master_len state =
     base.sound && (base.plain && (not base.doubled && ((base.first == 0) && ((base.size == view_size difi) && ((master_len == difi.master.size)
     && (not (has_bad_log difi) && (not (has_bad_level difi) && (not (has_overlapping_levels difi) && (not (has_too_few_entries difi)
-    && ((length state.put1.items == blocks_of difi.ivfc1) && ((length state.put2.items == blocks_of difi.ivfc2)
-    && ((length state.put3.items == blocks_of difi.ivfc3) && (length state.put4.items == blocks_of difi.ivfc4)))))))))))))
+    && is_made_for difi state)))))))))
 
 -- what follows where the base's size is a number of 64 bits: the levels lie in the base, apart from each other, in blocks
 -- of 2 ^ 9 to 2 ^ 16 bytes

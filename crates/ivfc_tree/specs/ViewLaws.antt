@@ -16,7 +16,7 @@ use Rattle.difi.proofs.CompleteLemmas.{has_bad_log-none, has_bad_level-none, has
 use Rattle.difi.proofs.PlaceLemmas.{block_below}
 use Rattle.ivfc_tree.specs.declared.state.IvfcState.{IvfcState}
 use Rattle.ivfc_tree.specs.Levels.{IsLevel, level_of, level4_of, HasBlock, ivfc_level, padded_block, hash_entry, parent_of}
-use Rattle.ivfc_tree.specs.Marks.{SameMarks}
+use Rattle.ivfc_tree.specs.Marks.{IsMadeFor, is_made_for, SameMarks}
 use Rattle.ivfc_tree.specs.Paths.{own_state, marked_state}
 use Rattle.ivfc_tree.specs.View.{CanViewHashes, can_view_hashes, HasLevels, HasTree, view_state}
 
@@ -80,6 +80,25 @@ levels_apart difi h upper level some less within =
     (λ level here less. absurd (omega (arith, here.1, less)))
     upper (some, omega (arith, less, within)) level (omega (arith, some, less), within) less
 
+-- a state has a mark for each block exactly where the test passes
+pub is_made_for-true : (difi : Difi) (state : IvfcState) → IsMadeFor difi state → is_made_for difi state ≡ true
+is_made_for-true difi state h =
+    and_from _ _ (eq-eqb _ _ h.marks1)
+    (and_from _ _ (eq-eqb _ _ h.marks2)
+    (and_from _ _ (eq-eqb _ _ h.marks3) (eq-eqb _ _ h.marks4)))
+
+pub true-is_made_for : (difi : Difi) (state : IvfcState) → is_made_for difi state ≡ true → IsMadeFor difi state
+true-is_made_for difi state h =
+    let first = and_parts _ _ h in
+    let second = and_parts _ _ first.1 in
+    let third = and_parts _ _ second.1 in
+    record {
+      marks1 = eqb-true _ _ first.0;
+      marks2 = eqb-true _ _ second.0;
+      marks3 = eqb-true _ _ third.0;
+      marks4 = eqb-true _ _ third.1;
+    }
+
 -- the test passes where a view can be made
 pub can_view_hashes-true : (base : Shape) (difi : Difi) (master_len : ℕ) (state : IvfcState)
     → CanViewHashes base difi master_len state
@@ -96,9 +115,7 @@ can_view_hashes-true base difi master_len state h =
     (and_from _ _ (ap not (has_bad_level-none difi h.hash_levels))
     (and_from _ _ (ap not (has_overlapping_levels-none difi h.hash_levels))
     (and_from _ _ (ap not (has_too_few_entries-none difi h.hash_levels))
-    (and_from _ _ (eq-eqb _ _ h.made.marks1)
-    (and_from _ _ (eq-eqb _ _ h.made.marks2)
-    (and_from _ _ (eq-eqb _ _ h.made.marks3) (eq-eqb _ _ h.made.marks4)))))))))))))
+    (is_made_for-true difi state h.made))))))))))
 
 -- and only there
 pub true-can_view_hashes : (base : Shape) (difi : Difi) (master_len : ℕ) (state : IvfcState)
@@ -116,9 +133,6 @@ true-can_view_hashes base difi master_len state h =
     let level = and_parts _ _ logs.1 in
     let overlaps = and_parts _ _ level.1 in
     let entries = and_parts _ _ overlaps.1 in
-    let marks1 = and_parts _ _ entries.1 in
-    let marks2 = and_parts _ _ marks1.1 in
-    let marks3 = and_parts _ _ marks2.1 in
     record {
       sound = sound.0;
       plain = plain.0;
@@ -128,12 +142,7 @@ true-can_view_hashes base difi master_len state h =
       whole_master = eqb-true _ _ master.0;
       block_sizes = block_sizes difi (not-true _ logs.0);
       hash_levels = hash_tree difi (not-true _ level.0) (not-true _ overlaps.0) (not-true _ entries.0);
-      made = record {
-        marks1 = eqb-true _ _ marks1.0;
-        marks2 = eqb-true _ _ marks2.0;
-        marks3 = eqb-true _ _ marks3.0;
-        marks4 = eqb-true _ _ marks3.1;
-      };
+      made = true-is_made_for difi state entries.1;
     }
 
 -- what can be viewed has its tree in the base
@@ -169,13 +178,6 @@ tree_of base difi master_len state small h =
     } where
       in_level3 : (at size : ℕ) → at + size ≤ difi.dpfs3.size → at + size ≤ view_size difi
       in_level3 at size h = omega (arith, h)
-
-pub view_tree : (base : Shape) (difi : Difi) (master_len : ℕ) (state : IvfcState)
-    → (IsTrue base.sound → base.size < 2 ^ 64)
-    → can_view_hashes base difi master_len state ≡ true → HasTree base difi master_len
-view_tree base difi master_len state fits sound =
-    let view = true-can_view_hashes base difi master_len state sound in
-    tree_of base difi master_len state (fits view.sound) view
 
 -- the entry of a block lies in the level above it, and that has the block in which it lies
 pub record HasParent (difi : Difi) (upper block : ℕ) : Type 0 where

@@ -1,7 +1,7 @@
 -- A partition's cells through both of its trees.
 use Rattle.std.proofs.Common.{◌≡◌, ℕ, ◌+◌, ◌^◌, ◌<◌, Bool, true, false, not, IsTrue, IsFalse, List, length, drop}
 use Rattle.std.proofs.Common.{Option, Some, None, Result, Ok, Err, refl, sym, ◌∙◌, ap, subst, arith}
-use Rattle.std.proofs.lemmas.Bool.{and_parts, and_from, le-leb, leb-true, eq-eqb, eqb-true}
+use Rattle.std.proofs.lemmas.Bool.{not-true, and_parts, and_from, le-leb, leb-true}
 use Rattle.save_bytes.specs.declared.space.Bad.{Bad}
 use Rattle.save_bytes.specs.Cells.{Cell, Byte, Blank, Spoilt, IsByte}
 use Rattle.save_bytes.specs.CellNumbers.{value_of}
@@ -16,7 +16,7 @@ use Rattle.save_bytes.specs.declared.space.Bad.TheVariants.{Disk, Damaged}
 use Rattle.save_bytes.specs.Refusals.{NeverDamaged}
 use Rattle.save_bytes.specs.Answers.{IsPiece}
 use Rattle.save_bytes.specs.Stays.{SameCells, SameTwins, Stays}
-use Rattle.save_bytes.proofs.SpaceLemmas.{UnlessDisk-map, Stays-join}
+use Rattle.save_bytes.proofs.SpaceLemmas.{UnlessDisk-map}
 use Rattle.save_bytes.proofs.ExtentLemmas.{apart, overlap-apart}
 use Rattle.difi.specs.Contents.{view_size}
 use Rattle.save_bytes.specs.Reads.{Reads}
@@ -27,16 +27,13 @@ use Rattle.dpfs_tree.specs.declared.state.DpfsState.{DpfsState}
 use Rattle.dpfs_tree.specs.View.{HasContents, contents_state, IsLocated}
 use Rattle.dpfs_tree.specs.ViewLaws.{can_view_contents-true as contents_pass, true-can_view_contents as contents_hold, tree_of as contents_of_base}
 use Rattle.dpfs_tree.proofs.SameLemmas.{view_stays as contents_stay}
-use Rattle.ivfc_tree.specs.declared.path.BlockState.{BlockState}
-use Rattle.ivfc_tree.specs.declared.path.BlockState.TheVariants.{Good, Blank as BlankAt, Bad as BadAt}
-use Rattle.ivfc_tree.specs.Paths.{cell_in}
 use Rattle.ivfc_tree.specs.Levels.{level_of, level4_of}
 use Rattle.ivfc_tree.specs.declared.state.IvfcState.{IvfcState}
 use Rattle.ivfc_tree.specs.View.{CanViewHashes, HasTree as HasHashes, IsVerified}
 use Rattle.ivfc_tree.specs.View.{view_state as hashed_state}
-use Rattle.ivfc_tree.specs.ViewLaws.{tree_of as hashes_of, place_inside}
+use Rattle.ivfc_tree.specs.ViewLaws.{tree_of as hashes_of, place_inside, is_made_for-true, true-is_made_for}
 use Rattle.ivfc_tree.proofs.LevelLemmas.{level4_is}
-use Rattle.ivfc_tree.proofs.ViewLemmas.{view_stays as hashed_stay}
+use Rattle.ivfc_tree.proofs.ViewLemmas.{byte_cell, view_stays as hashed_stay}
 use Rattle.part_store.specs.declared.part.Part.{Part}
 use Rattle.part_store.specs.Parts.{master_of, contents_of, hashed_of, part_state, CanViewPart, can_view_part, IsFound}
 
@@ -80,12 +77,6 @@ place_there base part table at small view inside =
     let there = place_inside (contents_of base part).shape part.difi (length (master_of table part.difi)) at (hashes_there base part table small view) inside in
     subst (λ (level : LevelPlace). level.at + at < view_size part.difi) (level4_is part.difi) there
 
-pub place_small : (base : State) (part : Part) (table : List ℕ) (at : ℕ) → base.shape.size < 2 ^ 64
-    → CanViewPart base.shape part (length table) → at < part.difi.ivfc4.size → (level4_of part.difi).at + at < 2 ^ 64
-place_small base part table at small view inside =
-    let contents = contents_there base part (length table) small view in
-    omega (arith, place_there base part table at small view inside, contents.view_fits, small)
-
 -- a byte of level four lies in the contents
 pub four_small : (contents : Shape) (difi : Difi) (master_len at : ℕ) → HasHashes contents difi master_len → at < difi.ivfc4.size
     → (level4_of difi).at + at < 2 ^ 64
@@ -99,20 +90,10 @@ byte_value (Byte value) byte = refl
 byte_value (Blank part level block) byte = absurd byte
 byte_value (Spoilt part level block) byte = absurd byte
 
-byte_in : (found : BlockState) (part value : ℕ) → IsByte (cell_in found part value) → cell_in found part value ≡ Byte value
-byte_in Good part value byte = refl
-byte_in (BlankAt level block) part value byte = absurd byte
-byte_in (BadAt level block) part value byte = absurd byte
-
 -- bytes that could not be located
 pub unlocated : (s base : State) (at most : ℕ) (bad : Bad) → NeverDamaged (Some bad) → IsFound s base at most (Err bad)
 unlocated s base at most Disk never = record { some = tt; bounded = tt; inside = tt; in_base = tt; cells = λ told. tt; damaged = λ told. tt }
 unlocated s base at most (Damaged part level block) never = absurd never
-
--- bytes that could not be verified
-pub unverified : (s base : State) (at most : ℕ) (bad : Bad) → IsVerified s at most (Err bad) → IsFound s base at most (Err bad)
-unverified s base at most bad verified =
-    record { some = tt; bounded = tt; inside = tt; in_base = tt; cells = λ told. tt; damaged = verified.damaged }
 
 -- where verified bytes of level four lie in the base of the contents
 module _ (first mid last : State) (part_at : ℕ) (difi : Difi) (dpfs : DpfsState) (number : ℕ) (master : List ℕ) (ivfc : IvfcState)
@@ -138,7 +119,7 @@ module _ (first mid last : State) (part_at : ℕ) (difi : Difi) (dpfs : DpfsStat
             let shown : first.cells ((level4_of difi).at + at + k) ≡ last.cells (place + k) =
             sym (stays.cells told ((level4_of difi).at + at + k) in_first) ∙ ap mid.cells (located.places told_mid k h) ∙ sym same in
             let byte : IsByte (last.cells (place + k)) = subst IsByte (sym same) (bytes told_mid (place + k)) in
-            byte_in _ number _ (verified.bytes told k (omega (arith, h, located.bounded)))
+            byte_cell _ number _ (verified.bytes told k (omega (arith, h, located.bounded)))
             ∙ ap (λ (x : ℕ). Byte (value_of (first.cells x))) (sym there)
             ∙ ap (λ (cell : Cell). Byte (value_of cell)) shown
             ∙ byte_value (last.cells (place + k)) byte);
@@ -172,19 +153,6 @@ found_piece s base at most place m plain same_told found (Err Disk) h =
     record { some = tt; bounded = tt; inside = tt; bytes = λ told. tt; damaged = λ told. tt; plain = λ plain. tt }
 found_piece s base at most place m plain same_told found (Err (Damaged part level block)) h = absurd (h.plain plain)
 
--- a space that was refused bytes lends none
-pub refused_piece : (s base : State) (at most : ℕ) (bad : Bad) → IsFalse s.shape.plain → IsFound s base at most (Err bad) → IsPiece s at most (Err bad)
-refused_piece s base at most bad worn found =
-    record {
-      some = tt;
-      bounded = tt;
-      inside = tt;
-      bytes = λ told. tt;
-      damaged = found.damaged;
-      plain =
-          λ plain. absurd (let no = worn in cc);
-    }
-
 -- What is known of a base from its contents, after a call that left alone each of their spots.
 module _ {S : Type 0} (states : S → State) (keeps : Spot → S → S → Type 0) (lands : S → ℕ → Spot → Type 0)
     (keeps_hold : (s t : S) → keeps Frame s t → keeps Hold s t)
@@ -193,12 +161,11 @@ module _ {S : Type 0} (states : S → State) (keeps : Spot → S → S → Type 
     → IsTrue (states t).told → ((spot : Spot) → keeps spot s t) → SameCells (states s) (states t) × SameTwins (states s) (states t))
     (keeps_lands : (s t : S) → IsTrue (states s).shape.sound → IsFalse (states s).shape.doubled → IsTrue (states s).told
     → IsTrue (states t).told → ((spot : Spot) → keeps spot s t) → LandsAsBefore (states s).shape.size (lands s) (lands t)) where
-  -- a call that reads the contents reads their base
-  pub base_reads : (old new : DpfsView S) (refusal : Option Bad) → IsTrue (states old.base.now).shape.sound
+  reads_below : (old new : DpfsView S) (refusal : Option Bad) → IsTrue (states old.base.now).shape.sound
       → IsFalse (states old.base.now).shape.doubled
       → Reads (shown_contents states) (ContentsKeep keeps) (contents_land states lands) old new refusal
       → Reads states keeps lands old.base.now new.base.now refusal
-  base_reads old new refusal sound single reads =
+  reads_below old new refusal sound single reads =
       let one = old.base.now in
       let two = new.base.now in
       let kept : IsTrue (states one).told → (spot : Spot) → keeps spot one two = λ told spot. (reads.spots told spot).2 in
@@ -219,6 +186,15 @@ module _ {S : Type 0} (states : S → State) (keeps : Spot → S → S → Type 
         spots = kept;
         reach = λ told. UnlessDisk-map refusal (λ still. keeps_lands one two sound single told still (kept told)) (space.told told);
       }
+
+  -- a call that reads the contents reads their base
+  pub base_reads : (base : S) (old new : DpfsView S) (refusal : Option Bad) → old.base.now ≡ base
+      → IsTrue (states base).shape.sound → IsFalse (states base).shape.doubled
+      → Reads (shown_contents states) (ContentsKeep keeps) (contents_land states lands) old new refusal
+      → Reads states keeps lands base new.base.now refusal
+  base_reads base old new refusal is sound single reads =
+      subst (λ (s : S). Reads states keeps lands s new.base.now refusal) is
+      (reads_below old new refusal (rw is sound) (rw is single) reads)
 
 -- what stays in the contents stays in the partition
 pub part_stays : (first last : State) (part : Part) (table : List ℕ) (refusal : Option Bad)
@@ -249,18 +225,9 @@ part_from_base base last part table refusal small view stays =
     let tree = contents_there base part (length table) small view in
     part_stays base last part table refusal small view stays.space.shape (contents_stay base last part.at part.difi part.dpfs refusal tree stays)
 
--- and after a call on the partition
-pub part_later : (first mid last : State) (part : Part) (table : List ℕ) (refusal : Option Bad)
-    → first.shape.size < 2 ^ 64 → CanViewPart first.shape part (length table) → mid.shape ≡ first.shape
-    → Stays (part_state first part table) (part_state mid part table) None → Stays mid last refusal
-    → Stays (part_state first part table) (part_state last part table) refusal
-part_later first mid last part table refusal small view shape before stays =
-    let there : CanViewPart mid.shape part (length table) = rw shape view in
-    Stays-join (part_state first part table) (part_state mid part table) (part_state last part table) refusal before
-    (part_from_base mid last part table refusal (rw shape small) there stays)
-
 -- where bytes were found there is one
-pub found_inside : (s base : State) (at most place m : ℕ) → IsTrue base.shape.sound → IsFound s base at most (Ok (place, m)) → IsInside base.shape place 1
+pub found_inside : (s base : State) (at most place m : ℕ) → IsTrue base.shape.sound → IsFound s base at most (Ok (place, m))
+    → IsInside base.shape place 1
 found_inside s base at most place m sound found = record { sound = sound; inside = omega (arith, found.some, found.in_base) }
 
 -- the test passes where a view can be made
@@ -271,13 +238,7 @@ can_view_part-true base part n view =
     (and_from _ _ (le-leb _ _ view.difi)
     (and_from _ _ (le-leb _ _ view.master)
     (and_from _ _ (ap not (overlap-apart difi_part part.difi.master view.apart))
-    (and_from _ _ (eq-eqb _ _ view.made.marks1)
-    (and_from _ _ (eq-eqb _ _ view.made.marks2)
-    (and_from _ _ (eq-eqb _ _ view.made.marks3) (eq-eqb _ _ view.made.marks4)))))))
-
-not-true : (b : Bool) → not b ≡ true → b ≡ false
-not-true true h = cc
-not-true false h = refl
+    (is_made_for-true part.difi part.ivfc view.made))))
 
 -- and only there
 pub true-can_view_part : (base : Shape) (part : Part) (n : ℕ) → can_view_part base part n ≡ true → CanViewPart base part n
@@ -287,13 +248,10 @@ true-can_view_part base part n test =
     let difi = and_parts _ _ contents.1 in
     let master = and_parts _ _ difi.1 in
     let apart_from_it = and_parts _ _ master.1 in
-    let marks1 = and_parts _ _ apart_from_it.1 in
-    let marks2 = and_parts _ _ marks1.1 in
-    let marks3 = and_parts _ _ marks2.1 in
     record {
       contents = contents_hold base part.at part.difi part.dpfs contents.0;
       difi = leb-true _ _ difi.0;
       master = leb-true _ _ master.0;
       apart = apart difi_part part.difi.master (not-true _ apart_from_it.0);
-      made = record { marks1 = eqb-true _ _ marks1.0; marks2 = eqb-true _ _ marks2.0; marks3 = eqb-true _ _ marks3.0; marks4 = eqb-true _ _ marks3.1 };
+      made = true-is_made_for part.difi part.ivfc apart_from_it.1;
     }

@@ -1,17 +1,18 @@
 -- A partition: its hash tree over the contents of its double-copy tree.
-use Rattle.std.specs.Prelude.{◌≡◌, ℕ, ◌+◌, ◌<◌, ◌≤◌, Bool, ◌&&◌, not, ◌==◌, nat_le, IsTrue, List, length, take, drop, Result, IfOk}
+use Rattle.std.specs.Prelude.{◌≡◌, ℕ, ◌+◌, ◌<◌, ◌≤◌, Bool, ◌&&◌, not, nat_le, IsTrue, List, length, take, drop, Result, IfOk}
 use Rattle.std.specs.Result.{result_err}
 use Rattle.save_bytes.specs.declared.space.Bad.{Bad}
 use Rattle.save_bytes.specs.Refusals.{IfDamaged}
 use Rattle.save_bytes.specs.Cells.{Blames}
 use Rattle.save_bytes.specs.State.{Shape, State}
 use Rattle.difi.specs.declared.descriptor.Difi.{Difi}
-use Rattle.difi.specs.Places.{blocks_of}
 use Rattle.save_bytes.specs.Extents.{overlap, AreApart}
 use Rattle.difi.specs.Sound.{difi_part}
 use Rattle.dpfs_tree.specs.View.{contents_state, CanViewContents, can_view_contents}
-use Rattle.ivfc_tree.specs.Marks.{IsMadeFor}
-use Rattle.ivfc_tree.specs.View.{view_state as hashed_state}
+use Rattle.ivfc_tree.specs.Marks.{IsMadeFor, is_made_for}
+use Rattle.ivfc_tree.specs.declared.view.Status.{Status}
+use Rattle.ivfc_tree.specs.Paths.{block_state}
+use Rattle.ivfc_tree.specs.View.{view_state as hashed_state, status_of}
 use Rattle.part_store.specs.declared.part.Part.{Part}
 
 -- the master hash in the table that has the descriptor
@@ -36,9 +37,7 @@ unfoldable pub can_view_part : Shape → Part → ℕ → Bool
 can_view_part base part table_len =
     can_view_contents base part.at part.difi part.dpfs
     && (nat_le (part.difi.place + 0x44) table_len && (nat_le (part.difi.place + part.difi.master.at + part.difi.master.size) table_len
-    && (not (overlap difi_part part.difi.master)
-    && ((length part.ivfc.put1.items == blocks_of part.difi.ivfc1) && ((length part.ivfc.put2.items == blocks_of part.difi.ivfc2)
-    && ((length part.ivfc.put3.items == blocks_of part.difi.ivfc3) && (length part.ivfc.put4.items == blocks_of part.difi.ivfc4)))))))
+    && (not (overlap difi_part part.difi.master) && is_made_for part.difi part.ivfc)))
 
 -- the bytes of level four, each by its hash path up to the master hash in the table
 abbrev pub hashed_of : State → Part → List ℕ → State
@@ -47,6 +46,11 @@ hashed_of base part table = hashed_state (contents_of base part) part.number (ma
 abbrev pub part_state : State → Part → List ℕ → State
 part_state base part table =
     record (hashed_of base part table) { shape = record (hashed_of base part table).shape { sound = can_view_part base.shape part (length table) } }
+
+-- what is told of a block of the partition
+abbrev pub status_in : State → Part → List ℕ → ℕ → ℕ → Status
+status_in base part table level block =
+    status_of (block_state (contents_of base part).cells (master_of table part.difi) part.difi part.ivfc level block)
 
 -- Where bytes of a space lie in the base as a call left it, and how many lie there in one piece. Or the cell at the place
 -- is no byte, and is named.

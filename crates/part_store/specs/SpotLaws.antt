@@ -9,7 +9,7 @@ use Rattle.dpfs_tree.specs.Held.{ContentsLand}
 use Rattle.dpfs_tree.specs.SameLaws.{lands_as_before}
 use Rattle.ivfc_tree.specs.View.{HasLevels}
 use Rattle.ivfc_tree.specs.Held.{HashLands}
-use Rattle.ivfc_tree.specs.KeepLaws.{HashLands-before}
+use Rattle.ivfc_tree.specs.KeepLaws.{AsManyMarks-same, AsManyMarks-join, HashLands-before}
 use Rattle.part_store.specs.declared.part.Part.{Part}
 use Rattle.part_store.specs.Parts.{contents_of}
 use Rattle.part_store.specs.Spots.{SamePart, PartSpot, PartLands}
@@ -21,7 +21,7 @@ SamePart-same part = record {
   descriptor = refl;
   selector = refl;
   copies = refl;
-  hashes = record { marks1 = refl; marks2 = refl; marks3 = refl; marks4 = refl };
+  hashes = AsManyMarks-same part.ivfc;
 }
 
 pub PartSpot-same : (spot : Spot) (part : Part) → PartSpot spot part part
@@ -36,12 +36,7 @@ SamePart-join a b c h k = record {
   descriptor = k.descriptor ∙ h.descriptor;
   selector = k.selector ∙ h.selector;
   copies = k.copies ∙ h.copies;
-  hashes = record {
-    marks1 = k.hashes.marks1 ∙ h.hashes.marks1;
-    marks2 = k.hashes.marks2 ∙ h.hashes.marks2;
-    marks3 = k.hashes.marks3 ∙ h.hashes.marks3;
-    marks4 = k.hashes.marks4 ∙ h.hashes.marks4;
-  };
+  hashes = AsManyMarks-join a.ivfc b.ivfc c.ivfc h.hashes k.hashes;
 }
 
 pub PartSpot-join : (spot : Spot) (a b c : Part) → SamePart a b → PartSpot spot a b → PartSpot spot b c → PartSpot spot a c

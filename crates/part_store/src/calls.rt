@@ -11,7 +11,7 @@ ghost use Rattle.ivfc_tree.specs.Levels.{HasBlock, level4_of};
 ghost use Rattle.ivfc_tree.specs.Paths.{block_state};
 ghost use Rattle.ivfc_tree.specs.View.{CanViewHashes, view_state, IsVerified, status_of};
 ghost use Rattle.dpfs_tree.specs.Held.{shown_contents, ContentsKeep, contents_land};
-ghost use Rattle.part_store.specs.Parts.{CanViewPart, contents_of, master_of, part_state, IsFound};
+ghost use Rattle.part_store.specs.Parts.{CanViewPart, part_state, status_in, IsFound};
 
 use crate::part::Part;
 use difi::Difi;
@@ -42,7 +42,7 @@ fn verify_in<S: Space>(
 }
 
 // Tells the state of a block over the contents of the double-copy tree.
-fn status_in<S: Space>(
+fn status_over<S: Space>(
     contents: &mut S,
     number: u8,
     difi: &Difi,
@@ -74,8 +74,8 @@ pub(crate) fn status<S: Space>(
 ) -> Result<Status, Bad>
     requires view { CanViewPart (S.state base.old).shape part.old (length table.old) }
     requires there { HasBlock part.old.difi level block }
-    ensures status { IsTrue (S.state base.old).told → IfOk result (λ status. status
-        ≡ status_of (block_state (contents_of (S.state base.old) part.old).cells (master_of table.old part.old.difi) part.old.difi part.old.ivfc level block)) }
+    ensures status { IsTrue (S.state base.old).told
+        → IfOk result (λ status. status ≡ status_in (S.state base.old) part.old table.old level block) }
     ensures plain { NeverDamaged (result_err result) }
     ensures reads { Reads S.state S.keeps S.lands base.old base.new (result_err result) }
     ensures part { part.new ≡ part.old }
@@ -90,7 +90,7 @@ pub(crate) fn status<S: Space>(
     let ivfc = &mut part.ivfc;
     let master = &mut table[start..end];
     let mut contents = DpfsView::new(base, place, &difi, dpfs);
-    status_in(&mut contents, number, &difi, master, ivfc, level, block)
+    status_over(&mut contents, number, &difi, master, ivfc, level, block)
 }
 
 // Where a byte of level four lies in the contents.
@@ -121,7 +121,8 @@ fn find_in<S: Space>(
     requires view { CanViewHashes (shown_contents S.state contents.old).shape difi.now (length master.old) state.old }
     requires inside { at + 1 ≤ difi.now.ivfc4.size }
     requires some { 1 ≤ most }
-    ensures found { IsFound (view_state (shown_contents S.state contents.old) number master.old difi.now state.old) (S.state contents.new.base.now) at most result }
+    ensures found { IsFound (view_state (shown_contents S.state contents.old) number master.old difi.now state.old)
+        (S.state contents.new.base.now) at most result }
     ensures reads { Reads (shown_contents S.state) (ContentsKeep S.keeps) (contents_land S.state S.lands) contents.old contents.new (result_err result) }
     ensures master { master.new ≡ master.old }
     ensures state { state.new ≡ state.old }

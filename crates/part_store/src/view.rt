@@ -10,9 +10,7 @@ ghost use Rattle.save_bytes.specs.Answers.{IsPiece};
 ghost use Rattle.save_bytes.specs.Stays.{Stays};
 ghost use Rattle.save_bytes.specs.Reads.{Reads};
 ghost use Rattle.ivfc_tree.specs.Levels.{HasBlock};
-ghost use Rattle.ivfc_tree.specs.Paths.{block_state};
-ghost use Rattle.ivfc_tree.specs.View.{status_of};
-ghost use Rattle.part_store.specs.Parts.{CanViewPart, contents_of, master_of, IsFound};
+ghost use Rattle.part_store.specs.Parts.{CanViewPart, status_in, IsFound};
 ghost use Rattle.part_store.specs.Held.{shown, IsPartViewOf, SamePartView};
 ghost use Rattle.part_store.specs.contracts.view.PartView.{the_row};
 ghost use mir.Syntax.{named};
@@ -88,7 +86,7 @@ impl<'a, S: Space> PartView<'a, S> {
         requires sound { IsTrue (shown S.state self.old).shape.sound }
         requires there { HasBlock self.old.part.now.difi level block }
         ensures status { IsTrue (shown S.state self.old).told → IfOk result (λ status. status
-            ≡ status_of (block_state (contents_of (S.state self.old.base.now) self.old.part.now).cells (master_of self.old.table.now self.old.part.now.difi) self.old.part.now.difi self.old.part.now.ivfc level block)) }
+            ≡ status_in (S.state self.old.base.now) self.old.part.now self.old.table.now level block) }
         ensures plain { NeverDamaged (result_err result) }
         ensures stays { Stays (shown S.state self.old) (shown S.state self.new) (result_err result) }
         ensures base { Reads S.state S.keeps S.lands self.old.base.now self.new.base.now (result_err result) }

@@ -1,7 +1,9 @@
 -- Laws of ranges of bytes: each test as a plain fact, in both directions, and how the search for two that overlap goes on.
-use Rattle.std.proofs.Common.{◌≡◌, ℕ, ◌+◌, ◌<◌, ◌≤◌, max, min, true, false, not, ◌||◌, List, [], ◌∷◌, length, get_or, drop, refl, ap, sym, ◌∙◌, inl, inr, arith}
+use Rattle.std.proofs.Common.{◌≡◌, ℕ, ◌+◌, ◌<◌, ◌≤◌, max, min, true, false, not, ◌||◌, List, [], ◌∷◌, length, get_or}
+use Rattle.std.proofs.Common.{drop, refl, ap, sym, ◌∙◌, inl, inr, arith}
 use Rattle.std.specs.List.{list_any}
-use Rattle.std.proofs.lemmas.Bool.{cases_lt, ltb-false, ltb-true, lt-ltb, le-ltb, leb-true, le-leb, and_parts, and_from, not-false, not_from_true, or_parts, or_from, or_left}
+use Rattle.std.proofs.lemmas.Bool.{cases_lt, ltb-false, ltb-true, lt-ltb, le-ltb, leb-true, le-leb, and_parts}
+use Rattle.std.proofs.lemmas.Bool.{and_from, not-false, not_from_true, or_parts, or_from, or_left}
 use Rattle.std.proofs.lemmas.List.{drop_more, drop_all}
 use Rattle.save_bytes.specs.declared.extent.Extent.{Extent}
 use Rattle.save_bytes.specs.Writes.{IsWithin}

@@ -21,6 +21,7 @@ use Rattle.ivfc_tree.specs.Paths.{cell_in}
 use Rattle.ivfc_tree.specs.ViewLaws.{level4_size, level4_log}
 use Rattle.ivfc_tree.proofs.HashLemmas.{block_bytes-is}
 use Rattle.part_store.specs.declared.part.Part.{Part}
+use Rattle.container.specs.Signers.{Signing}
 use Rattle.container.specs.Openings.{active_table}
 use Rattle.container.specs.declared.parts.Parts.{Parts}
 use Rattle.container.specs.Parts.{part_at, part_count, AreRead}
@@ -165,7 +166,7 @@ pub no_part : (image : List ℕ) (header : Header) (number block : ℕ) → head
     → peek_reply image header number block ≡ refused (no_part_line header.parts)
 no_part image header number block past = then_false (nat_lt number header.parts) _ _ (le-ltb number header.parts past)
 
-module _ (tag_of : List ℕ → List ℕ) (demands : Bool) (image : List ℕ) (container : Container) (holds : Holds tag_of demands image container) where
+module _ (sign : Signing) (image : List ℕ) (container : Container) (holds : Holds sign image container) where
   -- the parts are those of the image's table
   parts_read : AreRead (active_table image container.header) container.header container.parts
   parts_read = rw (← holds.opened.table) holds.opened.parts

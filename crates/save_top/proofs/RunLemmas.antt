@@ -7,6 +7,7 @@ use Rattle.save_disk.specs.Stops.{Since, AtEachMoment}
 use Rattle.save_disk.specs.Tells.{image_of, image_told, NoneRose, Tells}
 use Rattle.save_top.specs.declared.failure.Failure.{Failure}
 use Rattle.save_top.specs.declared.failure.Failure.TheVariants.{Memory as NoMemory, Disk as DiskFailed, Refused}
+use Rattle.container.specs.Signers.{Signing}
 use Rattle.container.specs.declared.fault.OpenFault.{OpenFault}
 use Rattle.container.specs.declared.fault.OpenFault.TheVariants.{Memory, Disk, Header, Tag, TableHash, Difi}
 use Rattle.container.specs.Openings.{IsCaused}
@@ -27,7 +28,8 @@ pub start_told : (state : State) (told : Told) → state.told ≡ Some told → 
 start_told state told is fresh = ap image_of is ∙ ap (image_after told.grain told.start) fresh.silent
 
 -- a fault that has its cause is said as the image's
-pub fault_by : (expected : Option OpenFault) (act : Act) (image : List ℕ) (fault : OpenFault) → IsCaused expected fault → IsFaultBy (reply_by expected act image) fault
+pub fault_by : (expected : Option OpenFault) (act : Act) (image : List ℕ) (fault : OpenFault) → IsCaused expected fault
+    → IsFaultBy (reply_by expected act image) fault
 fault_by expected act image Memory caused = tt
 fault_by expected act image Disk caused = tt
 fault_by expected act image (Header fault) caused = ap (λ (o : Option OpenFault). reply_by o act image) caused
@@ -36,7 +38,8 @@ fault_by expected act image TableHash caused = ap (λ (o : Option OpenFault). re
 fault_by expected act image (Difi part fault) caused = ap (λ (o : Option OpenFault). reply_by o act image) caused
 
 -- what is said after a call that left the trace as it was
-pub says_before : (old mid new : State) (status : ℕ) (text : List ℕ) (result : ℕ) → IsQuiet old mid → Says status text mid new result → Says status text old new result
+pub says_before : (old mid new : State) (status : ℕ) (text : List ℕ) (result : ℕ) → IsQuiet old mid
+    → Says status text mid new result → Says status text old new result
 says_before old mid new status text result quiet says = record {
   front = λ told is. says.front told (quiet ∙ is);
   whole = λ done. (let all = says.whole done in (all.0, λ told is. all.1 told (quiet ∙ is)));
@@ -45,10 +48,6 @@ says_before old mid new status text result quiet says = record {
 -- what was said is all that happened, on every desk that tells its trace
 pub silent_says : (status : ℕ) (text : List ℕ) (old new : State) (result : ℕ) → Says status text old new result → Tells OnlySays old new
 silent_says status text old new result says = λ told is. (let since = says.front told is in (since.0, since.1.only, since.2))
-
-pub silent_quiet : (old new : State) → IsQuiet old new → Tells OnlySays old new
-silent_quiet old new quiet = λ told is.
-    ([], tt, quiet ∙ is ∙ ap (λ (events : List Event). Some (record told { events = events })) (sym (append-nil told.events)))
 
 pub silent_after : (old mid new : State) → IsQuiet old mid → Tells OnlySays mid new → Tells OnlySays old new
 silent_after old mid new quiet says = λ told is. says told (quiet ∙ is)
@@ -59,7 +58,8 @@ reply_of NoMemory = (refused [], tt)
 reply_of DiskFailed = (refused [], tt)
 reply_of (Refused line) = (refused line.items, refl)
 
-pub says_as : (one other : Reply) (old new : State) (result : ℕ) → one ≡ other → Says other.status other.text old new result → Says one.status one.text old new result
+pub says_as : (one other : Reply) (old new : State) (result : ℕ) → one ≡ other
+    → Says other.status other.text old new result → Says one.status one.text old new result
 says_as one other old new result same says = rw same says
 
 -- done, or the sink failed
@@ -69,26 +69,35 @@ end_done result known = ⊎_elim (λ (done : result ≡ 0). inl (omega (arith, d
 -- no command ends as words that are no form
 pub end_is_not_2 : (result : ℕ) → IsEnd result → result ≡ 2 → ⊥
 end_is_not_2 result ends two =
-    ⊎_elim (λ (low : result ≤ 1). absurd (omega (arith, low, two)))
-    (λ rest. ⊎_elim (λ (three : result ≡ 3). absurd (omega (arith, three, two))) (λ more. ⊎_elim (λ (five : result ≡ 5). absurd (omega (arith, five, two))) (λ (six : result ≡ 6). absurd (omega (arith, six, two))) more) rest)
-    ends
+    elim ends [
+      | inl low ↦ omega (arith, low, two)
+      | inr (inl three) ↦ omega (arith, three, two)
+      | inr (inr (inl five)) ↦ omega (arith, five, two)
+      | inr (inr (inr six)) ↦ omega (arith, six, two)
+    ]
 
-module _ (old new : State) (reply : Reply) (result : ℕ) (says : Says reply.status reply.text old new result) (told : Told) (is : old.told ≡ Some told) where
+module _ (old new : State) (reply : Reply) (result : ℕ) (says : Says reply.status reply.text old new result)
+    (told : Told) (is : old.told ≡ Some told) where
   pub at_moments : Since (AtEachMoment (SaysFront reply.text)) told new.told
   at_moments = let since = says.front told is in (since.0, front_at_each_moment reply.text since.0 since.1, since.2)
 
   pub at_end : result ≤ 1 → (result ≡ reply.status) × Since (SaysAll reply.text) told new.told
   at_end done = let all = says.whole done in (all.0, all.1 told is)
 
-  pub ended : IsEnd result → (result ≡ 3 → Rose old.counts.disk new.counts.disk) → (result ≡ 5 → Rose old.counts.sink new.counts.sink) → NoneRose old new → (result ≡ reply.status) ⊎ (result ≡ 6)
-  ended ends disk sink none =
-      ⊎_elim (λ (low : result ≤ 1). inl (says.whole low).0)
-      (λ rest. ⊎_elim (λ (three : result ≡ 3). absurd (none.disk (disk three))) (λ more. ⊎_elim (λ (five : result ≡ 5). absurd (none.sink (sink five))) (λ (six : result ≡ 6). inr six) more) rest)
-      ends
+  pub ended : IsEnd result → (result ≡ 3 → Rose old.counts.disk new.counts.disk)
+      → (result ≡ 5 → Rose old.counts.sink new.counts.sink) → NoneRose old new → (result ≡ reply.status) ⊎ (result ≡ 6)
+  ended ends disk sink none = elim ends [
+    | inl low ↦ inl (says.whole low).0
+    | inr (inl three) ↦ absurd (none.disk (disk three))
+    | inr (inr (inl five)) ↦ absurd (none.sink (sink five))
+    | inr (inr (inr six)) ↦ inr six
+  ]
 
 -- what an order answers on an image that opens
-pub opened_reply : (tag_of : List ℕ → List ℕ) (demands : Bool) (image : List ℕ) (container : Container) (order : Order) (act : Act) → Holds tag_of demands image container → order.act ≡ act → reply_to tag_of demands order image ≡ act_reply act image (Ok container.header)
-opened_reply tag_of demands image container order act holds is =
-    ap (λ (o : Option OpenFault). reply_by o order.act image) (no_fault tag_of demands image holds.opened.opens)
+pub opened_reply : (sign : Signing) (image : List ℕ) (container : Container) (order : Order) (act : Act)
+    → Holds sign image container → order.act ≡ act
+    → reply_to sign order image ≡ act_reply act image (Ok container.header)
+opened_reply sign image container order act holds is =
+    ap (λ (o : Option OpenFault). reply_by o order.act image) (no_fault sign image holds.opened.opens)
     ∙ ap (λ (r : Result Fields HeaderFault). act_reply order.act image r) holds.opened.header
     ∙ ap (λ (a : Act). act_reply a image (Ok container.header)) is

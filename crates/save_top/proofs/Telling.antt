@@ -3,7 +3,7 @@ use Rattle.std.proofs.Common.{◌≡◌, ℕ, zero, suc, List, [], ◌∷◌, �
 use Rattle.std.proofs.lemmas.List.{append-nil, take-append-drop}
 use Rattle.save_disk.specs.Trace.{Event, Write, Sync, Said, OnlySays, said_of}
 use Rattle.save_disk.specs.Stops.{AtEachMoment}
-use Rattle.save_top.specs.Output.{IsFront, SaysFront, SaysAll}
+use Rattle.save_top.specs.Output.{IsFront, SaysFront}
 
 -- nothing was written or synced, and with the rest what was said is the text
 pub record SaysBefore (rest text : List ℕ) (events : List Event) : Type 0 where
@@ -32,12 +32,6 @@ said_more text rest next n events is before = record {
       ∙ append_assoc (said_of events) (take n rest) (drop n rest)
       ∙ ap (λ (l : List ℕ). said_of events ++ l) (take-append-drop n rest) ∙ before.front;
 }
-
-pub said_front : (text rest : List ℕ) (events : List Event) → SaysBefore rest text events → SaysFront text events
-said_front text rest events before = record { only = before.only; front = (rest, before.front) }
-
-pub said_all : (text : List ℕ) (events : List Event) → SaysBefore [] text events → SaysAll text events
-said_all text events before = record { only = before.only; whole = sym (append-nil (said_of events)) ∙ before.front }
 
 only_front : (events : List Event) (moment : ℕ) → OnlySays events → OnlySays (take moment events)
 only_front events zero only = tt

@@ -5,6 +5,7 @@ use Rattle.save_bytes.specs.declared.space.Bad.TheVariants.{Disk as DiskFailed, 
 use Rattle.difi.specs.declared.descriptor.Difi.{Difi}
 use Rattle.difi.specs.Places.{block_size, blocks_of}
 use Rattle.page_image.specs.WriteOuts.{IsClean}
+use Rattle.container.specs.Signers.{Signing}
 use Rattle.container.specs.declared.open.Container.{Container}
 use Rattle.container.specs.declared.parts.Parts.{Parts}
 use Rattle.container.specs.Parts.{part_count}
@@ -17,9 +18,9 @@ use Rattle.save_top.specs.Texts.{no_part_line, no_block_line, damaged_line}
 use Rattle.save_top.specs.Replies.{Reply, refused}
 
 -- a container holds this image, as it was opened under a signer, and nothing of it was changed
-pub record Holds (tag_of : List ℕ → List ℕ) (demands : Bool) (image : List ℕ) (container : Container) : Type 0 where
+pub record Holds (sign : Signing) (image : List ℕ) (container : Container) : Type 0 where
   pub whole : IsWholeContainer container
-  pub opened : IsOpenOf tag_of demands image container
+  pub opened : IsOpenOf sign image container
   pub held : IsHeld image container.image
   pub clean : IsClean container.image
 

@@ -9,6 +9,7 @@ use Rattle.difi.specs.Places.{blocks_of}
 use Rattle.ivfc_tree.specs.declared.path.BlockState.{BlockState}
 use Rattle.ivfc_tree.specs.declared.path.BlockState.TheVariants.{Good, Blank, Bad}
 use Rattle.ivfc_tree.specs.Levels.{block_bytes}
+use Rattle.container.specs.Signers.{Signing}
 use Rattle.container.specs.declared.fault.OpenFault.{OpenFault}
 use Rattle.container.specs.Openings.{active_table, part_reading, fault_of}
 use Rattle.container.specs.ImageCells.{contents_in, path_in}
@@ -60,5 +61,5 @@ reply_by (Some fault) act image = refused (open_fault_line fault)
 reply_by None act image = act_reply act image (reading image)
 
 -- what a command answers on an image, under a signer
-abbrev pub reply_to : (List ℕ → List ℕ) → Bool → Order → List ℕ → Reply
-reply_to tag_of demands order image = reply_by (fault_of tag_of demands image) order.act image
+abbrev pub reply_to : Signing → Order → List ℕ → Reply
+reply_to sign order image = reply_by (fault_of sign image) order.act image

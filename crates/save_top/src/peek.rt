@@ -9,6 +9,7 @@ ghost use Rattle.save_disk.specs.State.{IsQuiet, IsSteady, Rose};
 ghost use Rattle.save_disk.specs.Tells.{tells};
 ghost use Rattle.page_image.specs.Images.{IsDiskOf};
 ghost use Rattle.page_image.specs.WriteOuts.{IsClean};
+ghost use Rattle.container.specs.Signers.{Signing};
 ghost use Rattle.container.specs.Parts.{part_count};
 ghost use Rattle.container.specs.Containers.{IsWholeContainer, OfPart};
 ghost use Rattle.difi.specs.Places.{block_size};
@@ -149,9 +150,9 @@ pub fn show<D: Disk>(
 ) -> Result<Vec<u8>, Miss>
     requires whole { IsWholeContainer container.old }
     requires disk { IsDiskOf (D.state disk.old) container.old.image }
-    ensures shown { (tag_of : List ℕ → List ℕ) (demands : Bool) (image : List ℕ) → IsTrue (tells (D.state disk.old)) → Holds tag_of demands image container.old
+    ensures shown { (sign : Signing) (image : List ℕ) → IsTrue (tells (D.state disk.old)) → Holds sign image container.old
         → IfOk result (λ text. peek_reply image container.old.header part block ≡ done text.items) }
-    ensures miss { (tag_of : List ℕ → List ℕ) (demands : Bool) (image : List ℕ) → IsTrue (tells (D.state disk.old)) → Holds tag_of demands image container.old
+    ensures miss { (sign : Signing) (image : List ℕ) → IsTrue (tells (D.state disk.old)) → Holds sign image container.old
         → IfErr result (IsMissBy (peek_reply image container.old.header part block)) }
     ensures quiet { IsClean container.old.image → IsQuiet (D.state disk.old) (D.state disk.new) }
     ensures steady { IsSteady (D.state disk.old) (D.state disk.new) }

@@ -4,7 +4,10 @@ ghost use Rattle.std.specs.Prelude.{◌≡◌, ◌+◌, ◌≤◌, [], ◌∷◌
 ghost use Rattle.std.specs.Fmt.{decimal};
 ghost use Rattle.hex.specs.Hex.{encode_lower};
 ghost use Rattle.arrayvec.specs.ArrayVec.{array_vec_len};
-ghost use Rattle.save_top.specs.Texts.{number_line, pair_line, triple_line, extent_line, kind_line, active_line, table_lines, part_lines, unique_line, info_text, fault_line, difi_line, open_fault_line, no_part_line, no_block_line, damaged_line};
+ghost use Rattle.save_top.specs.Texts.{number_line, pair_line, triple_line, extent_line, kind_line};
+ghost use Rattle.save_top.specs.Texts.{active_line, table_lines, part_lines, unique_line, info_text};
+ghost use Rattle.save_top.specs.Texts.{fault_line, difi_line, open_fault_line, no_part_line, no_block_line};
+ghost use Rattle.save_top.specs.Texts.{damaged_line};
 
 use arrayvec::ArrayVec;
 use container::OpenFault;

@@ -7,6 +7,7 @@ ghost use Rattle.save_disk.specs.Trace.{OnlySays};
 ghost use Rattle.save_disk.specs.Tells.{Tells, WhenFresh, NoneRose, tells};
 ghost use Rattle.page_image.specs.Images.{IsDiskOf};
 ghost use Rattle.page_image.specs.WriteOuts.{IsClean};
+ghost use Rattle.container.specs.Signers.{Signing, signing};
 ghost use Rattle.container.specs.Openings.{fault_of};
 ghost use Rattle.container.specs.Containers.{IsWholeContainer};
 ghost use Rattle.save_top.specs.declared.form.Order.{Order};
@@ -98,8 +99,9 @@ fn peek<D: Desk>(
     requires whole { IsWholeContainer container.old }
     requires disk { IsDiskOf (D.state desk.old) container.old.image }
     requires clean { IsClean container.old.image }
-    ensures says { (tag_of : List ℕ → List ℕ) (demands : Bool) (image : List ℕ) → IsTrue (tells (D.state desk.old)) → Holds tag_of demands image container.old
-        → Says (peek_reply image container.old.header part block).status (peek_reply image container.old.header part block).text (D.state desk.old) (D.state desk.new) result }
+    ensures says { (sign : Signing) (image : List ℕ) → IsTrue (tells (D.state desk.old)) → Holds sign image container.old
+        → let reply = peek_reply image container.old.header part block in
+        Says reply.status reply.text (D.state desk.old) (D.state desk.new) result }
     ensures silent { Tells OnlySays (D.state desk.old) (D.state desk.new) }
     ensures known { IsEnd result }
     ensures disk { result ≡ 3 → Rose (D.state desk.old).counts.disk (D.state desk.new).counts.disk }
@@ -114,12 +116,12 @@ fn peek<D: Desk>(
 
 // Opens the image at the desk.
 fn open<D: Desk, G: Signer>(alloc: Global, desk: &mut D, signer: &G) -> Result<Container, Failure>
-    ensures opened { IfOk result (λ container. WhenFresh (λ told. Holds (G.tag_of signer.now) (G.is_demanding signer.now) told.start container) (D.state desk.old)) }
+    ensures opened { IfOk result (λ container. WhenFresh (λ told. Holds (signing G.tag_of G.is_demanding signer.now) told.start container) (D.state desk.old)) }
     ensures whole { IfOk result IsWholeContainer }
     ensures disk { IfOk result (λ container. IsDiskOf (D.state desk.new) container.image) }
     ensures clean { IfOk result (λ container. IsClean container.image) }
     ensures failure { IfErr result (λ failure. WhenFresh (λ told. (act : Act)
-        → IsFailureBy (reply_by (fault_of (G.tag_of signer.now) (G.is_demanding signer.now) told.start) act told.start) failure) (D.state desk.old)) }
+        → IsFailureBy (reply_by (fault_of (signing G.tag_of G.is_demanding signer.now) told.start) act told.start) failure) (D.state desk.old)) }
     ensures cause { IfErr result (λ failure. failure ≡ Failure.Disk → Rose (D.state desk.old).counts.disk (D.state desk.new).counts.disk) }
     ensures quiet { IsQuiet (D.state desk.old) (D.state desk.new) }
     ensures steady { IsSteady (D.state desk.old) (D.state desk.new) }
@@ -132,7 +134,7 @@ fn open<D: Desk, G: Signer>(alloc: Global, desk: &mut D, signer: &G) -> Result<C
 
 // Does what an order asks for.
 fn obey<D: Desk, G: Signer>(alloc: Global, order: Order, desk: &mut D, signer: &G) -> u8
-    ensures says { WhenFresh (λ told. let reply = reply_to (G.tag_of signer.now) (G.is_demanding signer.now) order told.start in
+    ensures says { WhenFresh (λ told. let reply = reply_to (signing G.tag_of G.is_demanding signer.now) order told.start in
         Says reply.status reply.text (D.state desk.old) (D.state desk.new) result) (D.state desk.old) }
     ensures silent { Tells OnlySays (D.state desk.old) (D.state desk.new) }
     ensures known { IsEnd result }
@@ -160,19 +162,21 @@ pub fn run<D: Desk, G: Signer>(alloc: Global, words: &Words, desk: &mut D, signe
     // At each moment nothing was written or synced, and what was said is a front of the text that the
     // image of the start gives under this signer.
     ensures any_moment { (order : Order) → order_of words.now ≡ Some order
-        → WhenFresh (λ told. Since (AtEachMoment (SaysFront (reply_to (G.tag_of signer.now) (G.is_demanding signer.now) order told.start).text)) told (D.state desk.new).told) (D.state desk.old) }
+        → WhenFresh (λ told. let reply = reply_to (signing G.tag_of G.is_demanding signer.now) order told.start in
+        Since (AtEachMoment (SaysFront reply.text)) told (D.state desk.new).told) (D.state desk.old) }
 
     // On every desk that tells its trace, whatever came before and of whichever reads it tells, output alone was added.
     ensures silent { Tells OnlySays (D.state desk.old) (D.state desk.new) }
 
     // At 0 and 1 it is all of that text, and the status that goes with it.
     ensures whole { result ≤ 1 → (order : Order) → order_of words.now ≡ Some order
-        → WhenFresh (λ told. (result ≡ (reply_to (G.tag_of signer.now) (G.is_demanding signer.now) order told.start).status)
-        × Since (SaysAll (reply_to (G.tag_of signer.now) (G.is_demanding signer.now) order told.start).text) told (D.state desk.new).told) (D.state desk.old) }
+        → WhenFresh (λ told. let reply = reply_to (signing G.tag_of G.is_demanding signer.now) order told.start in
+        (result ≡ reply.status) × Since (SaysAll reply.text) told (D.state desk.new).told) (D.state desk.old) }
 
     // Where no count rose, the status is the one that goes with the text, or tells want of memory.
     ensures complete { (order : Order) → order_of words.now ≡ Some order → NoneRose (D.state desk.old) (D.state desk.new)
-        → WhenFresh (λ told. (result ≡ (reply_to (G.tag_of signer.now) (G.is_demanding signer.now) order told.start).status) ⊎ (result ≡ 6)) (D.state desk.old) }
+        → WhenFresh (λ told. let reply = reply_to (signing G.tag_of G.is_demanding signer.now) order told.start in
+        (result ≡ reply.status) ⊎ (result ≡ 6)) (D.state desk.old) }
 
     // Each fault has its cause.
     ensures disk_fault { result ≡ 3 → Rose (D.state desk.old).counts.disk (D.state desk.new).counts.disk }

@@ -5,6 +5,7 @@ use Rattle.save_disk.specs.Traces.{fresh}
 use Rattle.save_disk.specs.MemDesks.{memory_of, state_of}
 use Rattle.save_disk.specs.Tells.{tells, image_of, image_told}
 use Rattle.save_disk.proofs.Told.{fresh_tells}
+use Rattle.container.specs.Signers.{Signing, signing}
 use Rattle.container.specs.declared.fault.OpenFault.{OpenFault}
 use Rattle.container.specs.Openings.{fault_of, IsCaused}
 use Rattle.container.specs.Opens.{Opens}
@@ -23,27 +24,25 @@ module _ (desk : MemDesk) (image source : List ℕ) (trace : (memory_of desk).tr
   shown = ap image_of is_told
 
 -- a fault that comes where the image opens comes where none is found
-free : (tag_of : List ℕ → List ℕ) (demands : Bool) (image : List ℕ) (fault : OpenFault) → Opens tag_of demands image
-    → IsCaused (fault_of tag_of demands image) fault → IsCaused None fault
-free tag_of demands image fault opens =
-    subst (λ (o : Option OpenFault). IsCaused o fault) (no_fault tag_of demands image opens)
+free : (sign : Signing) (image : List ℕ) (fault : OpenFault) → Opens sign image
+    → IsCaused (fault_of sign image) fault → IsCaused None fault
+free sign image fault opens =
+    subst (λ (o : Option OpenFault). IsCaused o fault) (no_fault sign image opens)
 
 pub returns-in-Ok-open : goal.returns-in-Ok-open
 returns-in-Ok-open g c =
     let trace = c.in-Ok.ensures.trace in
-    let tag_of = g.G.Signer.tag_of c.args.signer.now in
-    let demands = g.G.Signer.is_demanding c.args.signer.now in
+    let sign = signing g.G.Signer.tag_of g.G.Signer.is_demanding c.args.signer.now in
     let opened = (c.in-Ok-open.ensures.opened (sure c.in-Ok.desk _ _ trace)).opens in
-    (λ is. subst (λ (i : List ℕ). Opens tag_of demands i) (shown c.in-Ok.desk _ _ trace) opened, λ opens. refl)
+    (λ is. subst (λ (i : List ℕ). Opens sign i) (shown c.in-Ok.desk _ _ trace) opened, λ opens. refl)
 
 pub returns-then-is_of_image : goal.returns-then-is_of_image
 returns-then-is_of_image g c =
     let fault = c.in-Err.fault in
-    let tag_of = g.G.Signer.tag_of c.args.signer.now in
-    let demands = g.G.Signer.is_demanding c.args.signer.now in
+    let sign = signing g.G.Signer.tag_of g.G.Signer.is_demanding c.args.signer.now in
     let same = shown c.in-Ok.desk _ _ c.in-Ok.ensures.trace in
     let told = c.in-Err.ensures.caused (sure c.in-Ok.desk _ _ c.in-Ok.ensures.trace) in
-    let caused = subst (λ (i : List ℕ). IsCaused (fault_of tag_of demands i) fault) same told in (
+    let caused = subst (λ (i : List ℕ). IsCaused (fault_of sign i) fault) same told in (
       λ is. absurd (cc),
-      λ opens. absurd (c.is_of_image.ensures c.if-is_of_image.true (free tag_of demands c.args.image.now fault opens caused)),
+      λ opens. absurd (c.is_of_image.ensures c.if-is_of_image.true (free sign c.args.image.now fault opens caused)),
     )

@@ -18,10 +18,8 @@ pub returns-clause-reads : goal.returns-clause-reads
 returns-clause-reads g c =
     let space = g.S.Space in
     let laws = g.met.S.Space in
-    let holds = c.new-contents.ensures.holds in
     let contents = c.requires.view.contents in
     let reads = base_reads space.state space.keeps space.lands laws.keeps_hold laws.keeps_shape laws.keeps_cells laws.keeps_lands
-    c.new-contents.result c.find_in.new.contents (result_err c.find_in.result)
-    (rw holds.base_now contents.sound) (rw holds.base_now contents.single) c.find_in.ensures.reads in
-    let same = rw holds.base_now at reads in
+    c.args.base.now c.new-contents.result c.find_in.new.contents (result_err c.find_in.result)
+    c.new-contents.ensures.holds.base_now contents.sound contents.single c.find_in.ensures.reads in
     search rules

@@ -32,8 +32,9 @@ can_view_part part at lone fresh made = record {
   made = made;
 }
 
-can_view_part_opened : {E : Type 0} (difi : Difi) (r : Result Part E) → IsLone difi → IfOk r (λ part. part.at ≡ 4096) → IfOk r (λ part. part.difi ≡ difi)
-    → IfOk r (λ part. IsFreshContents difi part.dpfs) → IfOk r (λ part. IsMadeFor difi part.ivfc) → IfOk r (λ part. CanViewPart (memory_shape 110592 512) part 300)
+can_view_part_opened : {E : Type 0} (difi : Difi) (r : Result Part E) → IsLone difi → IfOk r (λ part. part.at ≡ 4096)
+    → IfOk r (λ part. part.difi ≡ difi) → IfOk r (λ part. IsFreshContents difi part.dpfs)
+    → IfOk r (λ part. IsMadeFor difi part.ivfc) → IfOk r (λ part. CanViewPart (memory_shape 110592 512) part 300)
 can_view_part_opened difi (Err e) lone at same fresh made = tt
 can_view_part_opened difi (Ok part) lone at same fresh made =
     can_view_part part at (subst IsLone (sym same) lone) (subst (λ difi. IsFreshContents difi part.dpfs) (sym same) fresh)

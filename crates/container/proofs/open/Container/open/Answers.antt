@@ -1,54 +1,62 @@
-use Rattle.save_bytes.proofs.SpaceLemmas.{Rose-later}
-use Rattle.std.proofs.Common.{arith, ◌≡◌, List, ℕ, Option, None, sym, ◌∙◌, ap, subst}
+use Rattle.std.proofs.Common.{arith, ◌≡◌, List, ℕ, Option, None, IsTrue, sym, ◌∙◌, ap, subst}
 use Rattle.std.proofs.lemmas.Result.{err_from_is_err_and}
-use Rattle.save_disk.specs.Tells.{image_told}
+use Rattle.save_bytes.proofs.SpaceLemmas.{Rose-later}
+use Rattle.save_disk.specs.Tells.{tells, image_told}
 use Rattle.container_header.specs.Sound.{IsSoundHeader}
 use Rattle.container.specs.declared.fault.OpenFault.{OpenFault}
-use Rattle.container.specs.Openings.{active_table, digest_fault, parts_fault, IsCaused}
+use Rattle.container.specs.Signers.{signing}
+use Rattle.container.specs.Openings.{active_table, digest_fault, table_fault, parts_fault, fault_of, IsCaused}
 use Rattle.container.proofs.ReadLemmas.{shown_before}
 use Rattle.container.proofs.PartLemmas.{second_of}
 use Rattle.container.proofs.FaultLemmas.{caused_by, caused_none, caused_first, caused_second, none_of_both, table_next}
 use Rattle.container.proofs.OpensLemmas.{opens_without_fault}
+use Rattle.container.proofs.open.Container.open.Given.{Over}
+use Rattle.container.proofs.open.Container.open.Goals.{In_ok-table, In_ok-check_table}
 use Rattle.container.proofs.open.Container.open.Goals as goal
+
+-- the active table was read, and the image has the fault that the table has
+record IsTableRead (g : Over) (c : In_ok-table g) : Type 0 where
+  same : c.in_ok-table.table.items ≡ active_table (image_told (g.D.Disk.state c.args.disk.now)) c.in_ok-header.header
+  next : fault_of (signing g.G.Signer.tag_of g.G.Signer.is_demanding c.args.signer.now)
+      (image_told (g.D.Disk.state c.args.disk.now)) ≡ table_fault c.in_ok-table.table.items c.in_ok-header.header
+
+table_read : (g : Over) (c : In_ok-table g) → IsTrue (tells (g.D.Disk.state c.args.disk.now)) → IsTableRead g c
+table_read g c sure =
+    let state = g.D.Disk.state c.args.disk.now in
+    let header = c.in_ok-header.header in
+    let table = c.in_ok-table.table.items in
+    let start = c.in_ok-header.ensures in
+    let same = shown_before (λ (l : List ℕ). table ≡ active_table l header) state (g.D.Disk.state c.read_header.new.disk)
+    start.quiet start.steady.size c.in_ok-table.ensures.table sure in
+    record {
+      same = same;
+      next = table_next (signing g.G.Signer.tag_of g.G.Signer.is_demanding c.args.signer.now) (image_told state) header
+          table (start.header sure) (start.tag sure) same;
+    }
+
+digest_none : (g : Over) (c : In_ok-check_table g) → digest_fault c.in_ok-table.table.items c.in_ok-header.header ≡ None
+digest_none g c = ap (λ (l : List ℕ). digest_fault l c.in_ok-header.header) (sym c.deref.ensures.value) ∙ c.in_ok-check_table.ensures.none
 
 pub returns-in_err-check_table-clause-caused : goal.returns-in_err-check_table-clause-caused
 returns-in_err-check_table-clause-caused g c =
     let p = err_from_is_err_and c.from_residual-in_err-check_table.result c.from_residual-in_err-check_table.ensures.1 in
     rw (p.1, p.2) (λ sure.
-    let state = g.D.Disk.state c.args.disk.now in
-    let image = image_told state in
-    let header = c.in_ok-header.header in
-    let table = c.in_ok-table.table.items in
-    let start = c.in_ok-header.ensures in
-    let same : table ≡ active_table image header =
-    shown_before (λ (l : List ℕ). table ≡ active_table l header) state (g.D.Disk.state c.read_header.new.disk)
-    start.quiet start.steady.size c.in_ok-table.ensures.table sure in
-    let at = table_next (g.G.Signer.tag_of c.args.signer.now) (g.G.Signer.is_demanding c.args.signer.now) image header
-    table (start.header sure) (start.tag sure) same in
+    let read = table_read g (goal.at.returns-in_err-check_table-clause-caused g c).In_ok-table sure in
     let fault = c.in_err-check_table.field-0.0 in
-    let digest = ap (λ (l : List ℕ). digest_fault l header) (sym c.deref.ensures.value) ∙ c.in_err-check_table.ensures.fault in
-    subst (λ (o : Option OpenFault). IsCaused o fault) (sym at)
-    (caused_first (digest_fault table header) (parts_fault table header) fault
-    (caused_by (digest_fault table header) fault digest)))
+    let digest = ap (λ (l : List ℕ). digest_fault l c.in_ok-header.header) (sym c.deref.ensures.value)
+    ∙ c.in_err-check_table.ensures.fault in
+    subst (λ (o : Option OpenFault). IsCaused o fault) (sym read.next) (caused_first _ _ fault (caused_by _ fault digest)))
 
 pub returns-in_err-parts-clause-caused : goal.returns-in_err-parts-clause-caused
 returns-in_err-parts-clause-caused g c =
     let p = err_from_is_err_and c.from_residual-in_err-parts.result c.from_residual-in_err-parts.ensures.1 in
     rw (p.1, p.2) (λ sure.
-    let state = g.D.Disk.state c.args.disk.now in
-    let image = image_told state in
-    let header = c.in_ok-header.header in
-    let table = c.in_ok-table.table.items in
-    let start = c.in_ok-header.ensures in
-    let same : table ≡ active_table image header =
-    shown_before (λ (l : List ℕ). table ≡ active_table l header) state (g.D.Disk.state c.read_header.new.disk)
-    start.quiet start.steady.size c.in_ok-table.ensures.table sure in
-    let at = table_next (g.G.Signer.tag_of c.args.signer.now) (g.G.Signer.is_demanding c.args.signer.now) image header
-    table (start.header sure) (start.tag sure) same in
+    let at = goal.at.returns-in_err-parts-clause-caused g c in
     let fault = c.in_err-parts.field-0.0 in
-    let digest : digest_fault table header ≡ None = ap (λ (l : List ℕ). digest_fault l header) (sym c.deref.ensures.value) ∙ c.in_ok-check_table.ensures.none in
-    let parts = subst (λ (l : List ℕ). IsCaused (parts_fault l header) fault) c.deref-2.ensures.value c.in_err-parts.ensures.caused in
-    subst (λ (o : Option OpenFault). IsCaused o fault) (sym at) (caused_second (digest_fault table header) (parts_fault table header) fault digest parts))
+    let parts = subst (λ (l : List ℕ). IsCaused (parts_fault l c.in_ok-header.header) fault) c.deref-2.ensures.value
+    c.in_err-parts.ensures.caused in
+    subst (λ (o : Option OpenFault). IsCaused o fault) (sym (table_read g at.In_ok-table sure).next)
+    (caused_second _ _ fault (digest_none g at.In_ok-check_table) parts))
 
 pub returns-clause-whole : goal.returns-clause-whole
 returns-clause-whole g c =
@@ -67,23 +75,14 @@ returns-clause-whole g c =
 
 pub returns-clause-opened : goal.returns-clause-opened
 returns-clause-opened g c = λ sure.
-    let state = g.D.Disk.state c.args.disk.now in
-    let image = image_told state in
-    let tag_of = g.G.Signer.tag_of c.args.signer.now in
-    let demands = g.G.Signer.is_demanding c.args.signer.now in
-    let header = c.in_ok-header.header in
-    let table = c.in_ok-table.table.items in
-    let start = c.in_ok-header.ensures in
-    let same : table ≡ active_table image header =
-    shown_before (λ (l : List ℕ). table ≡ active_table l header) state (g.D.Disk.state c.read_header.new.disk)
-    start.quiet start.steady.size c.in_ok-table.ensures.table sure in
-    let at = table_next tag_of demands image header table (start.header sure) (start.tag sure) same in
-    let digest : digest_fault table header ≡ None = ap (λ (l : List ℕ). digest_fault l header) (sym c.deref.ensures.value) ∙ c.in_ok-check_table.ensures.none in
-    let parts : parts_fault table header ≡ None = ap (λ (l : List ℕ). parts_fault l header) (sym c.deref-2.ensures.value) ∙ c.in_ok-parts.ensures.none in
+    let at = goal.at.returns-clause-opened g c in
+    let read = table_read g at.In_ok-table sure in
+    let parts : parts_fault c.in_ok-table.table.items c.in_ok-header.header ≡ None =
+    ap (λ (l : List ℕ). parts_fault l c.in_ok-header.header) (sym c.deref-2.ensures.value) ∙ c.in_ok-parts.ensures.none in
     record {
-      opens = opens_without_fault tag_of demands image (at ∙ none_of_both (digest_fault table header) (parts_fault table header) digest parts);
-      header = start.header sure;
-      table = same;
+      opens = opens_without_fault _ _ (read.next ∙ none_of_both _ _ (digest_none g at.In_ok-check_table) parts);
+      header = c.in_ok-header.ensures.header sure;
+      table = read.same;
       parts = rw (← c.deref-2.ensures.value) c.in_ok-parts.ensures.parts;
     }
 

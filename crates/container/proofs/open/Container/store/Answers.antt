@@ -8,7 +8,7 @@ returns-clause-sound g c = λ whole.
     whole.sound whole.table_len container.parts.first container.parts.second whole.count whole.first whole.second
 
 pub returns-clause-cells : goal.returns-clause-cells
-returns-clause-cells g c = λ tag_of demands image whole opened held.
+returns-clause-cells g c = λ sign image whole opened held.
     let container = c.args.self.now in
     let parts = opened.parts in
     store_cells (g.D.Disk.state c.args.disk.now) container.image image container.header container.table.items
@@ -16,7 +16,7 @@ returns-clause-cells g c = λ tag_of demands image whole opened held.
     parts.count parts.first parts.second
 
 pub returns-clause-statuses : goal.returns-clause-statuses
-returns-clause-statuses g c = λ tag_of demands image whole opened held.
+returns-clause-statuses g c = λ sign image whole opened held.
     let container = c.args.self.now in
     store_paths (g.D.Disk.state c.args.disk.now) container.image image container.header container.table.items
     c.requires held whole.sound whole.table_len opened.table container.parts opened.parts
