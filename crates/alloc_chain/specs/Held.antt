@@ -3,9 +3,9 @@ use Rattle.std.specs.Prelude.{◌≡◌, ℕ}
 use Rattle.std.specs.Borrow.{MutBor}
 use Rattle.save_bytes.specs.Cells.{Cell}
 use Rattle.save_bytes.specs.State.{State}
-use Rattle.alloc_chain.specs.declared.info.ChainInfo.{ChainInfo}
+use Rattle.chain_nodes.specs.declared.info.ChainInfo.{ChainInfo}
 use Rattle.alloc_chain.specs.declared.chain.Chain.{Chain}
-use Rattle.alloc_chain.specs.Table.{table_in}
+use Rattle.chain_nodes.specs.Table.{table_in}
 
 -- what a contract sees of the space below a chain, and the table in it
 abbrev pub below : {S : Type 0} → (S → State) → Chain S → State

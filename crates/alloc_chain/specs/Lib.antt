@@ -1,11 +1,1 @@
-pub mod Table
-pub mod Chains
-pub mod Faults
-pub mod Runs
-pub mod Between
-pub mod Bounded
-pub mod Walks
-pub mod Shown
-pub mod ShownLaws
-pub mod Behind
 pub mod Held

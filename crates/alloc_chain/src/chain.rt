@@ -3,17 +3,15 @@
 ghost use Rattle.std.specs.Prelude.{◌≡◌, ℕ, ◌+◌, ◌<◌, ◌≤◌, IsTrue, List, length, IfOk};
 ghost use Rattle.std.specs.Result.{result_err};
 ghost use Rattle.save_bytes.specs.Reads.{Reads};
-ghost use Rattle.alloc_chain.specs.declared.node.Lead.TheVariants.{Opens, OpensFree};
-ghost use Rattle.alloc_chain.specs.Table.{index_of, word_v, HasAllocationTable, IsEntry};
-ghost use Rattle.alloc_chain.specs.Chains.{IsChain, IsFreeList};
-ghost use Rattle.alloc_chain.specs.Faults.{FailsAt, IsBroken, IsFreeBroken, IsFreeNeeded, refusal_of, FaultsOnly};
-ghost use Rattle.alloc_chain.specs.Runs.{IsChainPlace, HasLength, IsAtEnd, HasPosition, DoneUnlessDisk, IsRunIn, IsRestOfNode};
+ghost use Rattle.chain_nodes.specs.declared.node.Lead.TheVariants.{Opens, OpensFree};
+ghost use Rattle.chain_nodes.specs.Table.{index_of, word_v, HasAllocationTable, IsEntry};
+ghost use Rattle.chain_nodes.specs.Chains.{IsChain, IsFreeList};
+ghost use Rattle.chain_nodes.specs.Faults.{FailsAt, IsBroken, IsFreeBroken, IsFreeNeeded, refusal_of, FaultsOnly};
+ghost use Rattle.chain_nodes.specs.Runs.{IsChainPlace, HasLength, IsAtEnd, HasPosition, DoneUnlessDisk, IsRunIn, IsRestOfNode};
 ghost use Rattle.alloc_chain.specs.Held.{below, table_of, IsChainOver, SameChain};
 
-use crate::fault::ChainFault;
-use crate::info::{ChainInfo, Run};
 use crate::lists::{chain_len, chain_run, free_len, next_run};
-use crate::walk::Cursor;
+use chain_nodes::{ChainFault, ChainInfo, Cursor, Run};
 use save_bytes::Space;
 
 /// The chains of an allocation table in a space.

@@ -3,16 +3,15 @@
 ghost use Rattle.std.specs.Prelude.{◌≡◌, ℕ, ◌+◌, ◌<◌, ◌≤◌, IsTrue, List, length, IfOk};
 ghost use Rattle.std.specs.Result.{result_err};
 ghost use Rattle.save_bytes.specs.Reads.{Reads};
-ghost use Rattle.alloc_chain.specs.declared.node.Lead.TheVariants.{Opens, OpensFree};
-ghost use Rattle.alloc_chain.specs.Table.{table_in, index_of, word_v, HasWords, HasFault, HasAllocationTable, IsEntry};
-ghost use Rattle.alloc_chain.specs.Chains.{IsChain, IsFreeList};
-ghost use Rattle.alloc_chain.specs.Faults.{FailsAt, IsBroken, IsFreeBroken, IsFreeNeeded, refusal_of, FaultsOnly};
-ghost use Rattle.alloc_chain.specs.Runs.{IsChainPlace, IsAtEnd, HasLength, HasPosition, DoneUnlessDisk, IsRunIn, IsRestOfNode};
+ghost use Rattle.chain_nodes.specs.declared.node.Lead.TheVariants.{Opens, OpensFree};
+ghost use Rattle.chain_nodes.specs.Table.{table_in, index_of, word_v, HasWords, HasFault, HasAllocationTable, IsEntry};
+ghost use Rattle.chain_nodes.specs.Chains.{IsChain, IsFreeList};
+ghost use Rattle.chain_nodes.specs.Faults.{FailsAt, IsBroken, IsFreeBroken, IsFreeNeeded, refusal_of, FaultsOnly};
+ghost use Rattle.chain_nodes.specs.Runs.{IsChainPlace, IsAtEnd, HasLength, HasPosition, DoneUnlessDisk, IsRunIn, IsRestOfNode};
 
-use crate::fault::ChainFault;
-use crate::info::{ChainInfo, Run};
-use crate::node::{FLAG, Lead, read_entry};
-use crate::walk::{Cursor, advance, list_len, seek};
+use chain_nodes::{
+    ChainFault, ChainInfo, Cursor, FLAG, Lead, Run, advance, list_len, read_entry, seek,
+};
 use save_bytes::Space;
 
 // The first entry of the free list, or 0.
@@ -133,10 +132,9 @@ pub(crate) fn next_run<S: Space>(
         (λ e. IsChainPlace table info.count cursor → FailsAt table info.count Opens cursor.first e) (result_err result) }
     ensures reads { Reads S.state S.keeps S.lands base.old base.new (refusal_of (result_err result)) }
 {
-    let count = info.count;
-    if cursor.first > count || cursor.next > count || cursor.passed > u64::from(count) {
+    if !cursor.is_within(info.count) {
         return Err(ChainFault::Broken {
-            entry: cursor.first,
+            entry: cursor.first(),
         });
     }
     advance(base, info, Lead::Opens, cursor)

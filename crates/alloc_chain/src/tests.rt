@@ -1,6 +1,6 @@
 ghost use Rattle.std.specs.Prelude.{◌≡◌, ◌+◌, ◌*◌, ◌≤◌, length};
 ghost use Rattle.save_bytes.specs.Spots.{Frame};
-ghost use Rattle.alloc_chain.specs.Table.{HasAllocationTable};
+ghost use Rattle.chain_nodes.specs.Table.{HasAllocationTable};
 ghost use Rattle.alloc_chain.specs.Held.{below, SameChain};
 
 use super::*;
@@ -273,64 +273,5 @@ fn a_chain_of_1000_nodes_is_read_by_runs(rt: HostRuntime) -> Result<(), Fail> {
         Some(Run { block: 999, len: 1 })
     );
     assert_eq!(rt; by_runs(&mut chain, 1)?, (1000, 1000));
-    Ok(())
-}
-
-// How many bytes a chain of the table of 9 entries shows, and these bytes.
-fn shown_bytes(bytes: &mut [u8], out: &mut [u8]) -> Result<u64, Bad>
-    requires bytes { length bytes.old ≡ 116 }
-    requires out { length out.old ≤ 16 }
-{
-    let mut memory = MemSpace::new(bytes, 16);
-    let mut space = ChainSpace::new(&mut memory, NINE, 3, 4);
-    space_copy(&mut space, 116, out)?;
-    Ok(space.len())
-}
-
-// Puts bytes into a space that shows the chain.
-fn put_shown_bytes(bytes: &mut [u8], at: u64, put: &[u8]) -> Result<(), Bad>
-    requires bytes { length bytes.old ≡ 116 }
-    requires inside { at + length put.now ≤ 132 }
-    ensures len { length bytes.new ≡ 116 }
-{
-    let mut memory = MemSpace::new(bytes, 16);
-    let mut space = ChainSpace::new(&mut memory, NINE, 3, 4);
-    space.ready(at, put.len() as u64)?;
-    space.put(at, put)
-}
-
-#[test]
-fn the_blocks_of_a_chain_lie_behind_their_space(rt: HostRuntime) -> Result<(), Fail> {
-    let mut bytes = two_nodes();
-    let mut out = [0; 16];
-    assert_eq!(rt; shown_bytes(&mut bytes, &mut out).ok().unwrap_or(0), 132);
-    assert_eq!(rt; out, [2, 2, 2, 2, 3, 3, 3, 3, 4, 4, 4, 4, 8, 8, 8, 8]);
-    Ok(())
-}
-
-#[test]
-fn a_byte_put_at_one_place_shows_at_its_twin(rt: HostRuntime) -> Result<(), Fail> {
-    let mut bytes = two_nodes();
-    let mut out = [0; 16];
-    // The last two bytes of block 4 and the first two of block 8, behind the space.
-    assert!(rt; put_shown_bytes(&mut bytes, 126, &[91, 92, 93, 94]).is_ok());
-    assert_eq!(rt; &bytes[96..100], [4, 4, 91, 92].as_slice());
-    assert_eq!(rt; &bytes[112..116], [93, 94, 8, 8].as_slice());
-    // The first byte of block 2, in the space.
-    assert!(rt; put_shown_bytes(&mut bytes, 88, &[90]).is_ok());
-    assert!(rt; shown_bytes(&mut bytes, &mut out).is_ok());
-    assert_eq!(rt; out, [90, 2, 2, 2, 3, 3, 3, 3, 4, 4, 91, 92, 93, 94, 8, 8]);
-    Ok(())
-}
-
-#[test]
-fn nothing_is_put_where_the_chain_is_broken(rt: HostRuntime) -> Result<(), Fail> {
-    let mut bytes = two_nodes();
-    set_entry(&mut bytes, 9, 4, 0);
-    let before = bytes;
-    let mut out = [0; 16];
-    assert!(rt; put_shown_bytes(&mut bytes, 126, &[91, 92, 93, 94]).is_ok());
-    assert_eq!(rt; bytes, before);
-    assert!(rt; shown_bytes(&mut bytes, &mut out).is_ok());
     Ok(())
 }

@@ -1,10 +1,10 @@
 use Rattle.std.proofs.Common.{◌≡◌, length, ◌∙◌, ap}
 use Rattle.std.specs.Result.{result_err}
-use Rattle.alloc_chain.specs.declared.node.Lead.TheVariants.{Opens}
-use Rattle.alloc_chain.specs.Table.{table_in}
+use Rattle.chain_nodes.specs.declared.node.Lead.TheVariants.{Opens}
+use Rattle.chain_nodes.specs.Table.{table_in}
 use Rattle.save_bytes.proofs.CallLemmas.{IfOk-map}
-use Rattle.alloc_chain.proofs.FaultLemmas.{FaultsOnly-map}
-use Rattle.alloc_chain.proofs.ExactLemmas.{same_list, chain_done}
+use Rattle.chain_nodes.proofs.FaultLemmas.{FaultsOnly-map}
+use Rattle.chain_nodes.proofs.ExactLemmas.{same_list, chain_done}
 use Rattle.alloc_chain.proofs.lists.chain_len.Goals as goal
 
 pub returns-clause-exact : goal.returns-clause-exact

@@ -1,9 +1,9 @@
 use Rattle.std.proofs.Common.{◌<◌, ℕ, List, length, Some, Err, sym, subst}
-use Rattle.alloc_chain.specs.declared.node.Lead.TheVariants.{Opens}
-use Rattle.alloc_chain.specs.Table.{table_in}
-use Rattle.alloc_chain.specs.Runs.{IsRunIn}
-use Rattle.alloc_chain.proofs.FaultLemmas.{FaultsOnly-map}
-use Rattle.alloc_chain.proofs.ExactLemmas.{same_list, run_in, chain_done}
+use Rattle.chain_nodes.specs.declared.node.Lead.TheVariants.{Opens}
+use Rattle.chain_nodes.specs.Table.{table_in}
+use Rattle.chain_nodes.specs.Runs.{IsRunIn}
+use Rattle.chain_nodes.proofs.FaultLemmas.{FaultsOnly-map}
+use Rattle.chain_nodes.proofs.ExactLemmas.{same_list, run_in, chain_done}
 use Rattle.alloc_chain.proofs.lists.chain_run.Goals as goal
 
 pub returns-in-Ok-Some-clause-exact : goal.returns-in-Ok-Some-clause-exact

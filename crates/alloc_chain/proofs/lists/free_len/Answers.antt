@@ -2,71 +2,63 @@ use Rattle.std.proofs.Common.{◌≡◌, ℕ, length, IfOk, Err, ◌∙◌, ap, 
 use Rattle.std.specs.Result.{result_err}
 use Rattle.save_bytes.specs.Cells.{Cell}
 use Rattle.save_bytes.proofs.CallLemmas.{IfOk-map}
-use Rattle.alloc_chain.specs.declared.node.Lead.TheVariants.{OpensFree}
-use Rattle.alloc_chain.specs.Table.{table_in, index_of, word_v}
-use Rattle.alloc_chain.specs.Faults.{IsBroken, FailsAt}
-use Rattle.alloc_chain.specs.Faults.IsFreeBroken.{InList}
-use Rattle.alloc_chain.specs.Faults.IsFreeNeeded.{Listed}
-use Rattle.alloc_chain.specs.Runs.{HasLength}
-use Rattle.alloc_chain.proofs.TableLemmas.{table_stays}
-use Rattle.alloc_chain.proofs.FaultLemmas.{FaultsOnly-later}
-use Rattle.alloc_chain.proofs.ExactLemmas.{same_list, done_unless_disk, no_free_break, no_free_need}
+use Rattle.chain_nodes.specs.declared.node.Lead.TheVariants.{OpensFree}
+use Rattle.chain_nodes.specs.Table.{table_in, index_of, word_v}
+use Rattle.chain_nodes.specs.Faults.{IsBroken, FailsAt}
+use Rattle.chain_nodes.specs.Faults.IsFreeBroken.{InList}
+use Rattle.chain_nodes.specs.Faults.IsFreeNeeded.{Listed}
+use Rattle.chain_nodes.specs.Runs.{HasLength}
+use Rattle.chain_nodes.proofs.TableLemmas.{table_stays}
+use Rattle.chain_nodes.proofs.FaultLemmas.{FaultsOnly-later}
+use Rattle.chain_nodes.proofs.ExactLemmas.{same_list, done_unless_disk, no_free_break, no_free_need}
 use Rattle.alloc_chain.proofs.lists.free_len.Goals as goal
 
 pub returns-in-Err-clause-exact : goal.returns-in-Err-clause-exact
 returns-in-Err-clause-exact g c = λ told list free.
-    let s = g.S.Space.state c.args.base.now in
     let info = c.args.info in
-    let table = table_in s.cells info in
-    let few = c.requires.few in
-    done_unless_disk s info told (λ n. n ≡ length list) (Err c.in-Err.fault)
-    (no_free_break table info.count list few free.linked free.once)
-    (no_free_need table info.count list few free.read free.linked)
+    let table = table_in (g.S.Space.state c.args.base.now).cells info in
+    done_unless_disk (g.S.Space.state c.args.base.now) info told (λ n. n ≡ length list) (Err c.in-Err.fault)
+    (no_free_break table info.count list c.requires.few free.linked free.once)
+    (no_free_need table info.count list c.requires.few free.read free.linked)
     c.in-Err.ensures.faults tt
 
 pub returns-clause-length : goal.returns-clause-length
 returns-clause-length g c = λ told.
     let old = g.S.Space.state c.args.base.now in
-    let mid = g.S.Space.state c.free_first.new.base in
     let info = c.args.info in
     let table = table_in old.cells info in
-    let stays = c.in-Ok.ensures.reads.stays in
     let first = c.in-Ok.ensures.first told in
-    let there = c.list_len.ensures.length (stays.space.told told) in
+    let there = c.list_len.ensures.length (c.in-Ok.ensures.reads.stays.space.told told) in
     let here : IfOk c.list_len.result (HasLength table info.count OpensFree c.in-Ok.first) =
     subst (λ (t : ℕ → ℕ → Cell). IfOk c.list_len.result (HasLength t info.count OpensFree c.in-Ok.first))
-    (table_stays old mid info c.requires stays told) there in
+    (table_stays old (g.S.Space.state c.free_first.new.base) info c.requires c.in-Ok.ensures.reads.stays told) there in
     subst (λ (f : ℕ). IfOk c.list_len.result (HasLength table info.count OpensFree f)) first.1 here
 
 pub returns-clause-faults : goal.returns-clause-faults
 returns-clause-faults g c =
     let old = g.S.Space.state c.args.base.now in
-    let mid = g.S.Space.state c.free_first.new.base in
     let info = c.args.info in
-    let stays = c.in-Ok.ensures.reads.stays in
-    FaultsOnly-later old mid info (result_err c.list_len.result) c.requires stays
+    FaultsOnly-later old (g.S.Space.state c.free_first.new.base) info (result_err c.list_len.result) c.requires c.in-Ok.ensures.reads.stays
     (λ told e broken.
     (let here : IsBroken (table_in old.cells info) info.count OpensFree c.in-Ok.first e =
     subst (λ (t : ℕ → ℕ → Cell). IsBroken t info.count OpensFree c.in-Ok.first e)
-    (table_stays old mid info c.requires stays told) broken in
+    (table_stays old (g.S.Space.state c.free_first.new.base) info c.requires c.in-Ok.ensures.reads.stays told) broken in
     InList (subst (λ (f : ℕ). IsBroken (table_in old.cells info) info.count OpensFree f e) (c.in-Ok.ensures.first told).1 here)))
     (λ told e fails.
     (let here : FailsAt (table_in old.cells info) info.count OpensFree c.in-Ok.first e =
     subst (λ (t : ℕ → ℕ → Cell). FailsAt t info.count OpensFree c.in-Ok.first e)
-    (table_stays old mid info c.requires stays told) fails in
+    (table_stays old (g.S.Space.state c.free_first.new.base) info c.requires c.in-Ok.ensures.reads.stays told) fails in
     Listed (subst (λ (f : ℕ). FailsAt (table_in old.cells info) info.count OpensFree f e) (c.in-Ok.ensures.first told).1 here)))
     c.list_len.ensures.faults
 
 pub returns-clause-exact : goal.returns-clause-exact
 returns-clause-exact g c = λ told list free.
-    let s = g.S.Space.state c.args.base.now in
     let info = c.args.info in
-    let table = table_in s.cells info in
-    let few = c.requires.few in
-    done_unless_disk s info told (λ n. n ≡ length list) c.list_len.result
-    (no_free_break table info.count list few free.linked free.once)
-    (no_free_need table info.count list few free.read free.linked)
+    let table = table_in (g.S.Space.state c.args.base.now).cells info in
+    done_unless_disk (g.S.Space.state c.args.base.now) info told (λ n. n ≡ length list) c.list_len.result
+    (no_free_break table info.count list c.requires.few free.linked free.once)
+    (no_free_need table info.count list c.requires.few free.read free.linked)
     (returns-clause-faults g c)
     (IfOk-map c.list_len.result (λ n (other, linked, is). is
-    ∙ ap length (same_list table info.count few OpensFree (index_of (word_v table 0)) list free.linked other
+    ∙ ap length (same_list table info.count c.requires.few OpensFree (index_of (word_v table 0)) list free.linked other
     linked)) (returns-clause-length g c told))

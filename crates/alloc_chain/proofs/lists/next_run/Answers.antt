@@ -1,10 +1,10 @@
 use Rattle.std.specs.Result.{result_err}
-use Rattle.alloc_chain.specs.declared.node.Lead.TheVariants.{Opens}
-use Rattle.alloc_chain.specs.Table.{table_in}
-use Rattle.alloc_chain.specs.Runs.{IsRunIn}
+use Rattle.chain_nodes.specs.declared.node.Lead.TheVariants.{Opens}
+use Rattle.chain_nodes.specs.Table.{table_in}
+use Rattle.chain_nodes.specs.Runs.{IsRunIn}
 use Rattle.save_bytes.proofs.CallLemmas.{IfOk-map}
-use Rattle.alloc_chain.proofs.FaultLemmas.{FaultsOnly-map}
-use Rattle.alloc_chain.proofs.ExactLemmas.{run_in, chain_done}
+use Rattle.chain_nodes.proofs.FaultLemmas.{FaultsOnly-map}
+use Rattle.chain_nodes.proofs.ExactLemmas.{run_in, chain_done}
 use Rattle.alloc_chain.proofs.lists.next_run.Goals as goal
 
 pub returns-clause-exact : goal.returns-clause-exact

@@ -1,4 +1,4 @@
-use Rattle.alloc_chain.specs.Table.{HasAllocationTable}
+use Rattle.chain_nodes.specs.Table.{HasAllocationTable}
 use Rattle.alloc_chain.proofs.tests.by_runs.Given as goal
 
 abbrev pub invariant-loop-runs : goal.invariant-loop-runs

@@ -1,0 +1,5 @@
+pub mod Table
+pub mod Chains
+pub mod Faults
+pub mod Runs
+pub mod Between

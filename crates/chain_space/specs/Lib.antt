@@ -1,0 +1,5 @@
+pub mod Bounded
+pub mod Walks
+pub mod Shown
+pub mod ShownLaws
+pub mod Behind
