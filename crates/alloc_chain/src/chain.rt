@@ -1,16 +1,17 @@
 //! Chains of blocks in a space.
 
-ghost use Rattle.std.specs.Prelude.{◌≡◌, ℕ, ◌+◌, ◌<◌, ◌≤◌, IsTrue, List, length, IfOk};
+ghost use Rattle.std.specs.Prelude.{◌≡◌, ℕ, ◌+◌, ◌<◌, ◌≤◌, nat_eq, IsTrue, List, length, IfOk};
+ghost use Rattle.std.specs.List.{IsDistinct};
 ghost use Rattle.std.specs.Result.{result_err};
 ghost use Rattle.save_bytes.specs.Reads.{Reads};
 ghost use Rattle.chain_nodes.specs.declared.node.Lead.TheVariants.{Opens, OpensFree};
 ghost use Rattle.chain_nodes.specs.Table.{index_of, word_v, HasAllocationTable, IsEntry};
-ghost use Rattle.chain_nodes.specs.Chains.{IsChain, IsFreeList};
+ghost use Rattle.chain_nodes.specs.Chains.{IsLinkedBy, IsChain, IsFreeList};
 ghost use Rattle.chain_nodes.specs.Faults.{FailsAt, IsBroken, IsFreeBroken, IsFreeNeeded, refusal_of, FaultsOnly};
-ghost use Rattle.chain_nodes.specs.Runs.{IsChainPlace, HasLength, IsAtEnd, HasPosition, DoneUnlessDisk, IsRunIn, IsRestOfNode};
+ghost use Rattle.chain_nodes.specs.Runs.{IsListPlace, HasLength, IsAtEnd, HasPosition, DoneUnlessDisk, IsRunIn, IsRestOfNode};
 ghost use Rattle.alloc_chain.specs.Held.{below, table_of, IsChainOver, SameChain};
 
-use crate::lists::{chain_len, chain_run, free_len, next_run};
+use crate::lists::{chain_len, chain_run, free_len, free_start, next_run};
 use chain_nodes::{ChainFault, ChainInfo, Cursor, Run};
 use save_bytes::Space;
 
@@ -37,7 +38,7 @@ impl<'a, S: Space> Chain<'a, S> {
             → IfOk result (HasLength table self.old.info.count OpensFree (index_of (word_v table 0))) }
         ensures small { IfOk result (λ n. n ≤ self.old.info.count) }
         ensures exact { IsTrue (below S.state self.old).told → (list : List ℕ)
-            → IsFreeList (below S.state self.old) self.old.info list → DoneUnlessDisk result (λ n. n ≡ length list) }
+            → IsFreeList (table_of S.state self.old) self.old.info.count list → DoneUnlessDisk result (λ n. n ≡ length list) }
         ensures faults { let table = table_of S.state self.old in
             FaultsOnly (below S.state self.old) self.old.info (IsFreeBroken table self.old.info.count)
             (IsFreeNeeded table self.old.info.count) (result_err result) }
@@ -55,7 +56,7 @@ impl<'a, S: Space> Chain<'a, S> {
             → IfOk result (HasLength (table_of S.state self.old) self.old.info.count Opens first) }
         ensures small { IfOk result (λ n. n ≤ self.old.info.count) }
         ensures exact { IsTrue (below S.state self.old).told → (list : List ℕ)
-            → IsChain (below S.state self.old) self.old.info first list → DoneUnlessDisk result (λ n. n ≡ length list) }
+            → IsChain (table_of S.state self.old) self.old.info.count first list → DoneUnlessDisk result (λ n. n ≡ length list) }
         ensures faults { let table = table_of S.state self.old in FaultsOnly (below S.state self.old) self.old.info
             (λ e. IsEntry self.old.info.count first → IsBroken table self.old.info.count Opens first e)
             (FailsAt table self.old.info.count Opens first) (result_err result) }
@@ -75,7 +76,7 @@ impl<'a, S: Space> Chain<'a, S> {
         ensures run { IsTrue (below S.state self.old).told
             → IfOk result (IsRestOfNode (table_of S.state self.old) self.old.info.count Opens first pos) }
         ensures exact { IsTrue (below S.state self.old).told → (list : List ℕ)
-            → IsChain (below S.state self.old) self.old.info first list → pos < length list
+            → IsChain (table_of S.state self.old) self.old.info.count first list → pos < length list
             → DoneUnlessDisk result (IsRunIn list pos) }
         ensures faults { let table = table_of S.state self.old in FaultsOnly (below S.state self.old) self.old.info
             (λ e. IsEntry self.old.info.count first → HasPosition table self.old.info.count Opens first pos
@@ -88,28 +89,50 @@ impl<'a, S: Space> Chain<'a, S> {
         chain_run(base, self.info, first, pos)
     }
 
-    /// The run behind a place of a chain, which is a whole node, and the place behind that run. To go over a chain by
-    /// places reads each of its nodes once.
+    /// The place before the first free block.
+    pub fn free_cursor(&mut self) -> Result<Cursor, ChainFault>
+        requires { HasAllocationTable (below S.state self.old).shape self.old.info }
+        ensures opens { IfOk result (λ cursor. cursor.opens ≡ OpensFree) }
+        ensures passed { IfOk result (λ cursor. cursor.passed ≡ 0) }
+        ensures place { IsTrue (below S.state self.old).told
+            → IfOk result (IsListPlace (table_of S.state self.old) self.old.info.count) }
+        ensures exact { let table = table_of S.state self.old in IsTrue (below S.state self.old).told → (list : List ℕ)
+            → IsFreeList table self.old.info.count list
+            → DoneUnlessDisk result (λ cursor. IsLinkedBy table self.old.info.count OpensFree cursor.first list) }
+        ensures faults { let table = table_of S.state self.old in
+            FaultsOnly (below S.state self.old) self.old.info (IsFreeBroken table self.old.info.count)
+            (IsFreeNeeded table self.old.info.count) (result_err result) }
+        ensures reads { Reads S.state S.keeps S.lands self.old.base.now self.new.base.now (refusal_of (result_err result)) }
+        ensures same { SameChain self.old self.new }
+    {
+        let base = &mut *self.base;
+        free_start(base, self.info)
+    }
+
+    /// The run behind a place of a chain or of the free list, which is a whole node, and the place behind that run. To
+    /// go over a list by places reads each of its nodes once, and of a node three entries at most.
     pub fn run_behind(&mut self, cursor: Cursor) -> Result<(Run, Cursor), ChainFault>
         requires table { HasAllocationTable (below S.state self.old).shape self.old.info }
         requires not_at_end { ¬ IsAtEnd cursor }
         ensures some { IfOk result (λ step. 1 ≤ step.0.len) }
         ensures inside { IfOk result (λ step. step.0.block + step.0.len ≤ self.old.info.count) }
+        ensures opens { IfOk result (λ step. step.1.opens ≡ cursor.opens) }
         ensures first { IfOk result (λ step. step.1.first ≡ cursor.first) }
         ensures passed { IfOk result (λ step. step.1.passed ≡ cursor.passed + step.0.len) }
         ensures bounded { IfOk result (λ step. step.1.passed ≤ self.old.info.count) }
         ensures place { let table = table_of S.state self.old in IsTrue (below S.state self.old).told
-            → IsChainPlace table self.old.info.count cursor → IfOk result (λ step. IsChainPlace table self.old.info.count step.1) }
+            → IsListPlace table self.old.info.count cursor → IfOk result (λ step. IsListPlace table self.old.info.count step.1) }
         ensures run { let table = table_of S.state self.old in IsTrue (below S.state self.old).told
-            → IsChainPlace table self.old.info.count cursor
-            → IfOk result (λ step. IsRestOfNode table self.old.info.count Opens cursor.first cursor.passed step.0) }
+            → IsListPlace table self.old.info.count cursor
+            → IfOk result (λ step. IsRestOfNode table self.old.info.count cursor.opens cursor.first cursor.passed step.0) }
         ensures exact { IsTrue (below S.state self.old).told
-            → IsChainPlace (table_of S.state self.old) self.old.info.count cursor → (list : List ℕ)
-            → IsChain (below S.state self.old) self.old.info cursor.first list
+            → IsListPlace (table_of S.state self.old) self.old.info.count cursor → (list : List ℕ)
+            → IsLinkedBy (table_of S.state self.old) self.old.info.count cursor.opens cursor.first list
+            → IsDistinct nat_eq list
             → DoneUnlessDisk result (λ step. IsRunIn list cursor.passed step.0) }
         ensures faults { let table = table_of S.state self.old in FaultsOnly (below S.state self.old) self.old.info
-            (λ e. IsChainPlace table self.old.info.count cursor → IsBroken table self.old.info.count Opens cursor.first e)
-            (λ e. IsChainPlace table self.old.info.count cursor → FailsAt table self.old.info.count Opens cursor.first e)
+            (λ e. IsListPlace table self.old.info.count cursor → IsBroken table self.old.info.count cursor.opens cursor.first e)
+            (λ e. IsListPlace table self.old.info.count cursor → FailsAt table self.old.info.count cursor.opens cursor.first e)
             (result_err result) }
         ensures reads { Reads S.state S.keeps S.lands self.old.base.now self.new.base.now (refusal_of (result_err result)) }
         ensures same { SameChain self.old self.new }

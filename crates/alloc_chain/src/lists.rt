@@ -1,13 +1,14 @@
 //! Chains and the free list, as lists of entries.
 
-ghost use Rattle.std.specs.Prelude.{◌≡◌, ℕ, ◌+◌, ◌<◌, ◌≤◌, IsTrue, List, length, IfOk};
+ghost use Rattle.std.specs.Prelude.{◌≡◌, ℕ, ◌+◌, ◌<◌, ◌≤◌, nat_eq, IsTrue, List, length, IfOk};
+ghost use Rattle.std.specs.List.{IsDistinct};
 ghost use Rattle.std.specs.Result.{result_err};
 ghost use Rattle.save_bytes.specs.Reads.{Reads};
 ghost use Rattle.chain_nodes.specs.declared.node.Lead.TheVariants.{Opens, OpensFree};
 ghost use Rattle.chain_nodes.specs.Table.{table_in, index_of, word_v, HasWords, HasFault, HasAllocationTable, IsEntry};
-ghost use Rattle.chain_nodes.specs.Chains.{IsChain, IsFreeList};
+ghost use Rattle.chain_nodes.specs.Chains.{IsLinkedBy, IsChain, IsFreeList};
 ghost use Rattle.chain_nodes.specs.Faults.{FailsAt, IsBroken, IsFreeBroken, IsFreeNeeded, refusal_of, FaultsOnly};
-ghost use Rattle.chain_nodes.specs.Runs.{IsChainPlace, IsAtEnd, HasLength, HasPosition, DoneUnlessDisk, IsRunIn, IsRestOfNode};
+ghost use Rattle.chain_nodes.specs.Runs.{IsListPlace, IsAtEnd, HasLength, HasPosition, DoneUnlessDisk, IsRunIn, IsRestOfNode};
 
 use chain_nodes::{
     ChainFault, ChainInfo, Cursor, FLAG, Lead, Run, advance, list_len, read_entry, seek,
@@ -35,6 +36,26 @@ fn free_first<S: Space>(base: &mut S, info: ChainInfo) -> Result<u32, ChainFault
     Ok(first)
 }
 
+/// The place before the first free block.
+pub(crate) fn free_start<S: Space>(base: &mut S, info: ChainInfo) -> Result<Cursor, ChainFault>
+    requires { HasAllocationTable (S.state base.old).shape info }
+    ensures opens { IfOk result (λ cursor. cursor.opens ≡ OpensFree) }
+    ensures passed { IfOk result (λ cursor. cursor.passed ≡ 0) }
+    ensures place { let table = table_in (S.state base.old).cells info in IsTrue (S.state base.old).told
+        → IfOk result (IsListPlace table info.count) }
+    ensures exact { let table = table_in (S.state base.old).cells info in IsTrue (S.state base.old).told
+        → (list : List ℕ) → IsFreeList table info.count list
+        → DoneUnlessDisk result (λ cursor. IsLinkedBy table info.count OpensFree cursor.first list) }
+    ensures faults { let table = table_in (S.state base.old).cells info in
+        FaultsOnly (S.state base.old) info (IsFreeBroken table info.count) (IsFreeNeeded table info.count) (result_err result) }
+    ensures reads { Reads S.state S.keeps S.lands base.old base.new (refusal_of (result_err result)) }
+{
+    match free_first(base, info) {
+        Ok(first) => Ok(Cursor::start(Lead::OpensFree, first)),
+        Err(fault) => Err(fault),
+    }
+}
+
 /// How many blocks are free.
 pub(crate) fn free_len<S: Space>(base: &mut S, info: ChainInfo) -> Result<u32, ChainFault>
     requires { HasAllocationTable (S.state base.old).shape info }
@@ -42,7 +63,7 @@ pub(crate) fn free_len<S: Space>(base: &mut S, info: ChainInfo) -> Result<u32, C
         → IfOk result (HasLength table info.count OpensFree (index_of (word_v table 0))) }
     ensures small { IfOk result (λ n. n ≤ info.count) }
     ensures exact { IsTrue (S.state base.old).told → (list : List ℕ)
-        → IsFreeList (S.state base.old) info list → DoneUnlessDisk result (λ n. n ≡ length list) }
+        → IsFreeList (table_in (S.state base.old).cells info) info.count list → DoneUnlessDisk result (λ n. n ≡ length list) }
     ensures faults { let table = table_in (S.state base.old).cells info in
         FaultsOnly (S.state base.old) info (IsFreeBroken table info.count) (IsFreeNeeded table info.count) (result_err result) }
     ensures reads { Reads S.state S.keeps S.lands base.old base.new (refusal_of (result_err result)) }
@@ -65,7 +86,7 @@ pub(crate) fn chain_len<S: Space>(
         → IfOk result (HasLength (table_in (S.state base.old).cells info) info.count Opens first) }
     ensures small { IfOk result (λ n. n ≤ info.count) }
     ensures exact { IsTrue (S.state base.old).told → (list : List ℕ)
-        → IsChain (S.state base.old) info first list → DoneUnlessDisk result (λ n. n ≡ length list) }
+        → IsChain (table_in (S.state base.old).cells info) info.count first list → DoneUnlessDisk result (λ n. n ≡ length list) }
     ensures faults { let table = table_in (S.state base.old).cells info in FaultsOnly (S.state base.old) info
         (λ e. IsEntry info.count first → IsBroken table info.count Opens first e)
         (FailsAt table info.count Opens first) (result_err result) }
@@ -90,7 +111,7 @@ pub(crate) fn chain_run<S: Space>(
     ensures run { IsTrue (S.state base.old).told
         → IfOk result (IsRestOfNode (table_in (S.state base.old).cells info) info.count Opens first pos) }
     ensures exact { IsTrue (S.state base.old).told → (list : List ℕ)
-        → IsChain (S.state base.old) info first list → pos < length list → DoneUnlessDisk result (IsRunIn list pos) }
+        → IsChain (table_in (S.state base.old).cells info) info.count first list → pos < length list → DoneUnlessDisk result (IsRunIn list pos) }
     ensures faults { let table = table_in (S.state base.old).cells info in FaultsOnly (S.state base.old) info
         (λ e. IsEntry info.count first → HasPosition table info.count Opens first pos → IsBroken table info.count Opens first e)
         (FailsAt table info.count Opens first) (result_err result) }
@@ -106,7 +127,7 @@ pub(crate) fn chain_run<S: Space>(
     }
 }
 
-/// The run behind a place of a chain, and the place behind that run.
+/// The run behind a place of a list, and the place behind that run.
 pub(crate) fn next_run<S: Space>(
     base: &mut S,
     info: ChainInfo,
@@ -116,20 +137,22 @@ pub(crate) fn next_run<S: Space>(
     requires not_at_end { ¬ IsAtEnd cursor }
     ensures some { IfOk result (λ step. 1 ≤ step.0.len) }
     ensures inside { IfOk result (λ step. step.0.block + step.0.len ≤ info.count) }
+    ensures opens { IfOk result (λ step. step.1.opens ≡ cursor.opens) }
     ensures first { IfOk result (λ step. step.1.first ≡ cursor.first) }
     ensures passed { IfOk result (λ step. step.1.passed ≡ cursor.passed + step.0.len) }
     ensures bounded { IfOk result (λ step. step.1.passed ≤ info.count) }
     ensures place { let table = table_in (S.state base.old).cells info in IsTrue (S.state base.old).told
-        → IsChainPlace table info.count cursor → IfOk result (λ step. IsChainPlace table info.count step.1) }
+        → IsListPlace table info.count cursor → IfOk result (λ step. IsListPlace table info.count step.1) }
     ensures run { let table = table_in (S.state base.old).cells info in IsTrue (S.state base.old).told
-        → IsChainPlace table info.count cursor
-        → IfOk result (λ step. IsRestOfNode table info.count Opens cursor.first cursor.passed step.0) }
+        → IsListPlace table info.count cursor
+        → IfOk result (λ step. IsRestOfNode table info.count cursor.opens cursor.first cursor.passed step.0) }
     ensures exact { let table = table_in (S.state base.old).cells info in IsTrue (S.state base.old).told
-        → IsChainPlace table info.count cursor → (list : List ℕ) → IsChain (S.state base.old) info cursor.first list
+        → IsListPlace table info.count cursor → (list : List ℕ)
+        → IsLinkedBy table info.count cursor.opens cursor.first list → IsDistinct nat_eq list
         → DoneUnlessDisk result (λ step. IsRunIn list cursor.passed step.0) }
     ensures faults { let table = table_in (S.state base.old).cells info in FaultsOnly (S.state base.old) info
-        (λ e. IsChainPlace table info.count cursor → IsBroken table info.count Opens cursor.first e)
-        (λ e. IsChainPlace table info.count cursor → FailsAt table info.count Opens cursor.first e) (result_err result) }
+        (λ e. IsListPlace table info.count cursor → IsBroken table info.count cursor.opens cursor.first e)
+        (λ e. IsListPlace table info.count cursor → FailsAt table info.count cursor.opens cursor.first e) (result_err result) }
     ensures reads { Reads S.state S.keeps S.lands base.old base.new (refusal_of (result_err result)) }
 {
     if !cursor.is_within(info.count) {
@@ -137,5 +160,5 @@ pub(crate) fn next_run<S: Space>(
             entry: cursor.first(),
         });
     }
-    advance(base, info, Lead::Opens, cursor)
+    advance(base, info, cursor)
 }

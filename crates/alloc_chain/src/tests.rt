@@ -241,11 +241,11 @@ fn two_free_nodes_that_name_each_other_are_broken(rt: HostRuntime) {
     assert_eq!(rt; counts(&mut bytes).1, Ok(0));
 }
 
-// How many blocks the runs of a chain have, from front to end, and how many runs there are. At most 1,000 are read.
-fn by_runs<S: Space>(chain: &mut Chain<S>, first: u32) -> Result<(u64, u32), ChainFault>
+// How many blocks lie behind a place of a list, and how many runs they are. At most 1,000 are read.
+fn by_runs<S: Space>(chain: &mut Chain<S>, start: Cursor) -> Result<(u64, u32), ChainFault>
     requires { HasAllocationTable (below S.state chain.old).shape chain.old.info }
 {
-    let mut place = Cursor::of_chain(first);
+    let mut place = start;
     for runs in 0..1000 {
         if place.is_at_end() {
             return Ok((place.passed(), runs));
@@ -272,6 +272,22 @@ fn a_chain_of_1000_nodes_is_read_by_runs(rt: HostRuntime) -> Result<(), Fail> {
         run_of(&mut chain, 1, 999)?,
         Some(Run { block: 999, len: 1 })
     );
-    assert_eq!(rt; by_runs(&mut chain, 1)?, (1000, 1000));
+    assert_eq!(rt; by_runs(&mut chain, Cursor::of_chain(1))?, (1000, 1000));
+    Ok(())
+}
+
+#[test]
+fn the_free_list_is_gone_over_by_places(rt: HostRuntime) -> Result<(), Fail> {
+    let mut bytes = [0; 116];
+    set_entry(&mut bytes, 0, 0, 5);
+    set_entry(&mut bytes, 5, 0, FLAG + 2);
+    set_entry(&mut bytes, 6, FLAG + 5, 7);
+    set_entry(&mut bytes, 7, FLAG + 5, 7);
+    set_entry(&mut bytes, 2, 5, 0);
+    let mut space = MemSpace::new(&mut bytes, 16);
+    let mut chain = Chain::new(&mut space, NINE);
+    assert_eq!(rt; chain.free_count()?, 4);
+    let start = chain.free_cursor()?;
+    assert_eq!(rt; by_runs(&mut chain, start)?, (4, 2));
     Ok(())
 }

@@ -1,9 +1,9 @@
 -- How many entries of some nodes lie between two numbers.
-use Rattle.std.proofs.Common.{◌≡◌, ℕ, zero, suc, ◌+◌, ◌-◌, ◌<◌, ◌≤◌, min, max, cond, ◌&&◌, eqb, leb, List, [], ◌∷◌, ◌++◌, length, refl, arith, ⊎_elim}
-use Rattle.std.proofs.Common.{length-append}
-use Rattle.std.proofs.lemmas.Bool.{cases_lt, cases_eq, le-leb, eq-eqb}
+use Rattle.std.proofs.Common.{◌≡◌, ℕ, zero, suc, ◌+◌, ◌-◌, ◌<◌, ◌≤◌, min, max, cond, ◌&&◌, eqb, leb, false, List, [], ◌∷◌, ◌++◌, length}
+use Rattle.std.proofs.Common.{nat_eq, refl, sym, ◌∙◌, subst, arith, ⊎_elim, length-append}
+use Rattle.std.proofs.lemmas.Bool.{cases_lt, cases_eq, le-leb, eq-eqb, ne_eqb, false≢true}
 use Rattle.std.proofs.lemmas.Bool.Decides.{nat_tests}
-use Rattle.std.specs.List.{range_with_len}
+use Rattle.std.specs.List.{range_with_len, AllByRecursion, IsDistinct}
 use Rattle.std.proofs.lemmas.List.Sums.{sum_by-append, sum_by-cons}
 use Rattle.std.proofs.lemmas.List.FromFn.{length-range_with_len}
 use Rattle.save_bytes.specs.Cells.{Cell}
@@ -122,6 +122,32 @@ count_between-one x [] = refl
 count_between-one x (y ∷ list) =
     let here : occurrences x (y ∷ list) ≡ cond (eqb y x) 1 0 + occurrences x list = sum_by-cons (λ z. cond (eqb z x) 1 0) y list in
     omega (arith, hit_one x y, count_between-one x list, count_between-cons x x y list)
+
+-- a number that no element of a list equals has no place in it
+absent : (x : ℕ) (list : List ℕ) → AllByRecursion (λ y. nat_eq x y ≡ false) list → occurrences x list ≡ 0
+absent x [] none = refl
+absent x (y ∷ list) none =
+    let here : occurrences x (y ∷ list) ≡ cond (eqb y x) 1 0 + occurrences x list = sum_by-cons (λ z. cond (eqb z x) 1 0) y list in
+    let other : eqb y x ≡ false = ne_eqb y x (λ same. false≢true (sym none.0 ∙ eq-eqb x y (sym same))) in
+    here ∙ rw (other, absent x list none.1) refl
+
+-- a number has one place at most in a list in which none stands twice
+pub distinct_once : (list : List ℕ) → IsDistinct nat_eq list → (x : ℕ) → occurrences x list ≤ 1
+unfolding IsDistinct
+distinct_once [] distinct x = omega arith
+distinct_once (y ∷ list) distinct x =
+    let here : occurrences x (y ∷ list) ≡ cond (eqb y x) 1 0 + occurrences x list = sum_by-cons (λ z. cond (eqb z x) 1 0) y list in
+    ⊎_elim
+    (λ (below : y < x). omega (arith, here, hit_one x y, hit_below x x y below, distinct_once list distinct.1 x))
+    (λ (from : x ≤ y).
+    ⊎_elim
+    (λ (above : x < y). omega (arith, here, hit_one x y, hit_above x x y above, distinct_once list distinct.1 x))
+    (λ (up_to : y ≤ x).
+    let same : y ≡ x = omega arith in
+    let none : occurrences x list ≡ 0 = subst (λ (z : ℕ). occurrences z list ≡ 0) same (absent y list distinct.0) in
+    omega (arith, here, hit_one x y, hit_inside x x y from up_to, none))
+    (cases_lt x y))
+    (cases_lt y x)
 
 -- in the run of a node
 pub node_between : (low high first last : ℕ) → first ≤ last

@@ -1,10 +1,10 @@
 -- Where the table is as it should be, no call on a list fails but for the disk's sake.
 use Rattle.std.proofs.Common.{◌≡◌, ℕ, zero, suc, ◌+◌, ◌-◌, ◌^◌, ◌<◌, ◌≤◌, IsTrue, List, [], ◌∷◌, ◌++◌, length, Result, Ok, Err, IfOk, refl, sym, ◌∙◌}
-use Rattle.std.proofs.Common.{ap, subst, arith, inl, ⊎_elim, length-append}
+use Rattle.std.proofs.Common.{nat_eq, ap, subst, arith, inl, ⊎_elim, length-append}
 use Rattle.std.proofs.lemmas.List.{append-nil, get_or_append_left, get_or-append-add}
 use Rattle.std.proofs.lemmas.Bool.{cases_lt}
 use Rattle.std.specs.Result.{result_err}
-use Rattle.std.specs.List.{range_with_len}
+use Rattle.std.specs.List.{range_with_len, IsDistinct}
 use Rattle.std.proofs.lemmas.List.FromFn.{length-range_with_len, get_or-range_with_len}
 use Rattle.save_bytes.specs.declared.space.Bad.TheVariants.{Disk, Damaged}
 use Rattle.save_bytes.specs.Cells.{Cell, Byte, Blank, Spoilt, IsByte, Blames}
@@ -16,9 +16,9 @@ use Rattle.chain_nodes.specs.declared.fault.ChainFault.TheVariants.{Broken, Shor
 use Rattle.chain_nodes.specs.declared.fault.ChainFault.TheVariants.{Bad as Refused}
 use Rattle.chain_nodes.specs.declared.node.Node.{Node}
 use Rattle.chain_nodes.specs.declared.node.Lead.{Lead}
-use Rattle.chain_nodes.specs.declared.node.Lead.TheVariants.{Opens, OpensFree, Follows}
+use Rattle.chain_nodes.specs.declared.node.Lead.TheVariants.{OpensFree, Follows}
 use Rattle.chain_nodes.specs.Table.{table_in, word_v, index_of, HasWords, HasFault}
-use Rattle.chain_nodes.specs.Chains.{IsInner, IsChain, IsNode, start_of, AreNodes, lead_after, entries_of, occurrences, IsLinkedBy}
+use Rattle.chain_nodes.specs.Chains.{IsInner, IsNode, start_of, AreNodes, lead_after, entries_of, occurrences, IsLinkedBy}
 use Rattle.chain_nodes.specs.Faults.{IsLong, IsHead, IsSecond, IsFaulty, FailsAt, IsShared, IsBroken, IsFreeBroken, IsFreeNeeded, FaultsOnly}
 use Rattle.chain_nodes.specs.Faults.IsFaulty.{AtFirst, AtSecond, AtLast}
 use Rattle.chain_nodes.specs.Faults.IsBroken.{Unlike, Shared}
@@ -27,7 +27,7 @@ use Rattle.chain_nodes.specs.Faults.IsFreeNeeded.{Root, Listed}
 use Rattle.chain_nodes.specs.Runs.{DoneUnlessDisk, IsRunIn, IsRestOfNode}
 use Rattle.chain_nodes.proofs.ListLemmas.{entries_of-append}
 use Rattle.chain_nodes.specs.Between.{count_between}
-use Rattle.chain_nodes.proofs.CountLemmas.{count_between-split, count_between-none, count_between-one, count_between-all}
+use Rattle.chain_nodes.proofs.CountLemmas.{count_between-split, count_between-none, count_between-one, count_between-all, distinct_once}
 use Rattle.chain_nodes.proofs.FrontLemmas.{front_of, same_node, start_small}
 
 -- of numbers that stand once each there are no more than there are numbers
@@ -48,12 +48,12 @@ few_between (suc n) list once =
 
 -- so a chain has no more blocks than the table
 pub chain_few : (table : ℕ → ℕ → Cell) (count : ℕ) (lead : Lead) (first : ℕ) (list : List ℕ)
-    → IsLinkedBy table count lead first list → ((x : ℕ) → occurrences x list ≤ 1) → length list ≤ count
+    → IsLinkedBy table count lead first list → IsDistinct nat_eq list → length list ≤ count
 chain_few table count lead first list linked once =
     let all : count_between 1 count list ≡ length list =
     subst (λ (l : List ℕ). count_between 1 count l ≡ length l) linked.entries
     (count_between-all table count lead linked.nodes 0 linked.linked) in
-    omega (arith, all, few_between count list once)
+    omega (arith, all, few_between count list (distinct_once list once))
 
 module _ (table : ℕ → ℕ → Cell) (count : ℕ) (few : count < 2 ^ 31) where
   module _ (lead : Lead) (node : Node) (next : ℕ) (inside : next ≤ count) (h : IsNode table count lead node next) where
@@ -219,7 +219,7 @@ no_words table entry part level block words (k, small, blames) = no_byte (table 
 
 -- nothing fails in the free list
 pub no_free_break : (table : ℕ → ℕ → Cell) (count : ℕ) (list : List ℕ) → count < 2 ^ 31
-    → IsLinkedBy table count OpensFree (index_of (word_v table 0)) list → ((x : ℕ) → occurrences x list ≤ 1)
+    → IsLinkedBy table count OpensFree (index_of (word_v table 0)) list → IsDistinct nat_eq list
     → (entry : ℕ) → ¬ IsFreeBroken table count entry
 no_free_break table count list few linked once entry (AtRoot is read above) =
     omega (arith, linked.starts, start_in table count few OpensFree linked.nodes linked.linked)
@@ -235,14 +235,14 @@ no_free_need table count list few words linked entry part level block (Root is) 
 no_free_need table count list few words linked entry part level block (Listed fails) fault =
     no_failure table count few OpensFree (index_of (word_v table 0)) list linked entry fails
 
--- a call on a chain that is as it should be is done, or fails for the disk's sake
-pub chain_done : {A : Type 0} (P : A → Type 0) (s : State) (info : ChainInfo) (first : ℕ) (list : List ℕ) (result : Result A ChainFault)
-    → info.count < 2 ^ 31 → IsTrue s.told → IsChain s info first list
-    → FaultsOnly s info (IsBroken (table_in s.cells info) info.count Opens first) (FailsAt (table_in s.cells info) info.count Opens first)
+-- a call on a list that is as it should be is done, or fails for the disk's sake
+pub list_done : {A : Type 0} (P : A → Type 0) (s : State) (info : ChainInfo) (lead : Lead) (first : ℕ) (list : List ℕ)
+    (result : Result A ChainFault) → info.count < 2 ^ 31 → IsTrue s.told
+    → IsLinkedBy (table_in s.cells info) info.count lead first list → IsDistinct nat_eq list
+    → FaultsOnly s info (IsBroken (table_in s.cells info) info.count lead first) (FailsAt (table_in s.cells info) info.count lead first)
     (result_err result) → IfOk result P → DoneUnlessDisk result P
-chain_done P s info first list result few told chain faults ok =
+list_done P s info lead first list result few told linked once faults ok =
     let table = table_in s.cells info in
-    let linked = chain.linked in
     done_unless_disk s info told P result
-    (no_break table info.count few Opens first list linked (chain_few table info.count Opens first list linked chain.once))
-    (λ entry part level block fails _. no_failure table info.count few Opens first list linked entry fails) faults ok
+    (no_break table info.count few lead first list linked (chain_few table info.count lead first list linked once))
+    (λ entry part level block fails _. no_failure table info.count few lead first list linked entry fails) faults ok

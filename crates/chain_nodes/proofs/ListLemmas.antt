@@ -12,12 +12,14 @@ use Rattle.chain_nodes.specs.declared.info.Run.{Run}
 use Rattle.chain_nodes.specs.declared.fault.ChainFault.{ChainFault}
 use Rattle.chain_nodes.specs.declared.node.Node.{Node}
 use Rattle.chain_nodes.specs.declared.node.Lead.{Lead}
-use Rattle.chain_nodes.specs.declared.node.Lead.TheVariants.{Follows}
+use Rattle.chain_nodes.specs.declared.node.Lead.TheVariants.{OpensFree, Follows}
 use Rattle.chain_nodes.specs.declared.walk.Cursor.{Cursor}
-use Rattle.chain_nodes.specs.Table.{table_in, HasWords, HasAllocationTable, IsEntry}
+use Rattle.chain_nodes.specs.Table.{table_in, word_v, index_of, HasWords, HasAllocationTable, IsEntry}
 use Rattle.chain_nodes.specs.Chains.{IsNode, start_of, AreNodes, lead_after, entries_of}
-use Rattle.chain_nodes.specs.Faults.{IsFaulty, FailsAt, IsBroken, FaultsOnly}
+use Rattle.chain_nodes.specs.Faults.{IsFaulty, FailsAt, IsBroken, IsFreeBroken, IsFreeNeeded, FaultsOnly}
 use Rattle.chain_nodes.specs.Faults.IsBroken.{Unlike}
+use Rattle.chain_nodes.specs.Faults.IsFreeBroken.{InList}
+use Rattle.chain_nodes.specs.Faults.IsFreeNeeded.{Listed}
 use Rattle.chain_nodes.specs.Runs.{IsReached, IsRestOfNode}
 use Rattle.chain_nodes.proofs.TableLemmas.{table_stays}
 use Rattle.chain_nodes.proofs.FaultLemmas.{FaultsOnly-later}
@@ -124,36 +126,57 @@ module _ {s t : State} {info : ChainInfo} {lead : Lead} (table : HasAllocationTa
       faults
 
   -- what a later call says of a list up to a place, where that place was reached
-  pub said_later : (Q : (ℕ → ℕ → Cell) → ℕ → Type 0) (first : ℕ) (cursor : Cursor) → cursor.first ≡ first
-      → (IsTrue t.told → IsReached (table_in t.cells info) info.count lead cursor.first cursor → Q (table_in t.cells info) cursor.first)
-      → IsTrue s.told → IsReached (table_in s.cells info) info.count lead first cursor → Q (table_in s.cells info) first
-  said_later Q first cursor same says told =
-      let here = subst (λ (c : ℕ → ℕ → Cell). IsReached c info.count lead cursor.first cursor → Q c cursor.first)
+  pub said_later : (Q : (ℕ → ℕ → Cell) → Lead → ℕ → Type 0) (first : ℕ) (cursor : Cursor) → cursor.opens ≡ lead
+      → cursor.first ≡ first
+      → (IsTrue t.told → IsReached (table_in t.cells info) info.count cursor.opens cursor.first cursor
+      → Q (table_in t.cells info) cursor.opens cursor.first)
+      → IsTrue s.told → IsReached (table_in s.cells info) info.count lead first cursor → Q (table_in s.cells info) lead first
+  said_later Q first cursor opens same says told =
+      let here = subst (λ (c : ℕ → ℕ → Cell). IsReached c info.count cursor.opens cursor.first cursor → Q c cursor.opens cursor.first)
       (table_stays s t info table stays told) (says (stays.space.told told)) in
-      subst (λ (f : ℕ). IsReached (table_in s.cells info) info.count lead f cursor → Q (table_in s.cells info) f) same here
+      let led = subst (λ (l : Lead). IsReached (table_in s.cells info) info.count l cursor.first cursor
+      → Q (table_in s.cells info) l cursor.first) opens here in
+      subst (λ (f : ℕ). IsReached (table_in s.cells info) info.count lead f cursor → Q (table_in s.cells info) lead f) same led
 
   -- the faults of a list, named by a later call
-  pub list_faults_later : (first : ℕ) (cursor : Cursor) (fault : Option ChainFault) → cursor.first ≡ first
+  pub list_faults_later : (first : ℕ) (cursor : Cursor) (fault : Option ChainFault) → cursor.opens ≡ lead
+      → cursor.first ≡ first
       → (IsTrue s.told → IsReached (table_in s.cells info) info.count lead first cursor)
       → FaultsOnly t info
-      (λ e. IsReached (table_in t.cells info) info.count lead cursor.first cursor
-      → IsBroken (table_in t.cells info) info.count lead cursor.first e)
-      (λ e. IsReached (table_in t.cells info) info.count lead cursor.first cursor
-      → FailsAt (table_in t.cells info) info.count lead cursor.first e) fault
-      → FaultsOnly s info (IsBroken (table_in s.cells info) info.count lead first) (FailsAt (table_in s.cells info) info.count lead first) fault
-  list_faults_later first cursor fault same reached =
+      (λ e. IsReached (table_in t.cells info) info.count cursor.opens cursor.first cursor
+      → IsBroken (table_in t.cells info) info.count cursor.opens cursor.first e)
+      (λ e. IsReached (table_in t.cells info) info.count cursor.opens cursor.first cursor
+      → FailsAt (table_in t.cells info) info.count cursor.opens cursor.first e) fault
+      → FaultsOnly s info (IsBroken (table_in s.cells info) info.count lead first)
+      (FailsAt (table_in s.cells info) info.count lead first) fault
+  list_faults_later first cursor fault opens same reached =
       FaultsOnly-later s t info fault table stays
-      (λ told e broken. said_later (λ c f. IsBroken c info.count lead f e) first cursor same (λ _. broken) told (reached told))
-      (λ told e fails. said_later (λ c f. FailsAt c info.count lead f e) first cursor same (λ _. fails) told (reached told))
+      (λ told e broken. said_later (λ c l f. IsBroken c info.count l f e) first cursor opens same (λ _. broken) told (reached told))
+      (λ told e fails. said_later (λ c l f. FailsAt c info.count l f e) first cursor opens same (λ _. fails) told (reached told))
 
   -- the rest of a run that was read in a later state
-  pub rest_later : (first : ℕ) (cursor : Cursor) (pos skipped : ℕ) (run : Run) → cursor.first ≡ first
-      → (IsTrue t.told → IsReached (table_in t.cells info) info.count lead cursor.first cursor
-      → IsRestOfNode (table_in t.cells info) info.count lead cursor.first cursor.passed run)
+  pub rest_later : (first : ℕ) (cursor : Cursor) (pos skipped : ℕ) (run : Run) → cursor.opens ≡ lead → cursor.first ≡ first
+      → (IsTrue t.told → IsReached (table_in t.cells info) info.count cursor.opens cursor.first cursor
+      → IsRestOfNode (table_in t.cells info) info.count cursor.opens cursor.first cursor.passed run)
       → cursor.passed + skipped ≡ pos → skipped < run.len → IsTrue s.told → IsReached (table_in s.cells info) info.count lead first cursor
       → IsRestOfNode (table_in s.cells info) info.count lead first pos (record { block = run.block + skipped; len = run.len - skipped })
-  rest_later first cursor pos skipped run same rest is less told reached =
-      let here = said_later (λ c f. IsRestOfNode c info.count lead f cursor.passed run) first cursor same rest told reached in
+  rest_later first cursor pos skipped run opens same rest is less told reached =
+      let here = said_later (λ c l f. IsRestOfNode c info.count l f cursor.passed run) first cursor opens same rest told reached in
       let part : Run = record { block = run.block + skipped; len = run.len - skipped } in
       subst (λ (p : ℕ). IsRestOfNode (table_in s.cells info) info.count lead first p part) is
       (rest_of_run (table_in s.cells info) info.count lead first cursor.passed skipped run here less)
+
+-- the faults of the free list, named by a later call
+pub free_faults_later : (s t : State) (info : ChainInfo) (first : ℕ) (fault : Option ChainFault)
+    → HasAllocationTable s.shape info → Stays s t None
+    → (IsTrue s.told → first ≡ index_of (word_v (table_in s.cells info) 0))
+    → FaultsOnly t info (IsBroken (table_in t.cells info) info.count OpensFree first)
+    (FailsAt (table_in t.cells info) info.count OpensFree first) fault
+    → FaultsOnly s info (IsFreeBroken (table_in s.cells info) info.count) (IsFreeNeeded (table_in s.cells info) info.count) fault
+free_faults_later s t info first fault table stays is =
+    let there = λ (told : IsTrue s.told) (Q : (ℕ → ℕ → Cell) → ℕ → Type 0) (h : Q (table_in t.cells info) first).
+    subst (λ (f : ℕ). Q (table_in s.cells info) f) (is told)
+    (subst (λ (c : ℕ → ℕ → Cell). Q c first) (table_stays s t info table stays told) h) in
+    FaultsOnly-later s t info fault table stays
+    (λ told e broken. InList (there told (λ c f. IsBroken c info.count OpensFree f e) broken))
+    (λ told e fails. Listed (there told (λ c f. FailsAt c info.count OpensFree f e) fails))

@@ -1,13 +1,11 @@
 -- Chains of entries. A chain is a list of nodes, and a node is a run of entries that follow each other.
-use Rattle.std.specs.Prelude.{◌≡◌, ℕ, ◌+◌, ◌-◌, ◌<◌, ◌≤◌, List, [], ◌∷◌, ◌++◌, ◌==◌, count_by}
-use Rattle.std.specs.List.{range_with_len}
+use Rattle.std.specs.Prelude.{◌≡◌, ℕ, ◌+◌, ◌-◌, ◌<◌, ◌≤◌, nat_eq, List, [], ◌∷◌, ◌++◌, ◌==◌, count_by}
+use Rattle.std.specs.List.{range_with_len, IsDistinct}
 use Rattle.save_bytes.specs.Cells.{Cell}
-use Rattle.save_bytes.specs.State.{State}
-use Rattle.chain_nodes.specs.declared.info.ChainInfo.{ChainInfo}
 use Rattle.chain_nodes.specs.declared.node.Node.{Node}
 use Rattle.chain_nodes.specs.declared.node.Lead.{Lead}
 use Rattle.chain_nodes.specs.declared.node.Lead.TheVariants.{Opens, OpensFree, Follows}
-use Rattle.chain_nodes.specs.Table.{table_in, word_u, word_v, index_of, flagged, HasWords}
+use Rattle.chain_nodes.specs.Table.{word_u, word_v, index_of, flagged, HasWords}
 
 -- Which word U the first entry of a node has. It names the node before. The first node of a chain has the flag in place
 -- of that; in the free list the flag of the first node is not looked at.
@@ -67,13 +65,13 @@ pub record IsLinkedBy (table : ℕ → ℕ → Cell) (count : ℕ) (lead : Lead)
   pub entries : entries_of nodes ≡ list
 
 -- the chain that begins with an entry is this list of entries, in which no number stands twice
-pub record IsChain (s : State) (info : ChainInfo) (first : ℕ) (list : List ℕ) : Type 0 where
+pub record IsChain (table : ℕ → ℕ → Cell) (count first : ℕ) (list : List ℕ) : Type 0 where
   pub some : 1 ≤ first
-  pub linked : IsLinkedBy (table_in s.cells info) info.count Opens first list
-  pub once : (x : ℕ) → occurrences x list ≤ 1
+  pub linked : IsLinkedBy table count Opens first list
+  pub once : IsDistinct nat_eq list
 
 -- the free entries are this list, which begins where entry 0 says
-pub record IsFreeList (s : State) (info : ChainInfo) (list : List ℕ) : Type 0 where
-  pub read : HasWords (table_in s.cells info) 0
-  pub linked : IsLinkedBy (table_in s.cells info) info.count OpensFree (index_of (word_v (table_in s.cells info) 0)) list
-  pub once : (x : ℕ) → occurrences x list ≤ 1
+pub record IsFreeList (table : ℕ → ℕ → Cell) (count : ℕ) (list : List ℕ) : Type 0 where
+  pub read : HasWords table 0
+  pub linked : IsLinkedBy table count OpensFree (index_of (word_v table 0)) list
+  pub once : IsDistinct nat_eq list

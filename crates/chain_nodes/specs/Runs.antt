@@ -8,7 +8,6 @@ use Rattle.chain_nodes.specs.declared.fault.ChainFault.TheVariants.{Broken, Shor
 use Rattle.chain_nodes.specs.declared.fault.ChainFault.TheVariants.{Bad as Refused}
 use Rattle.chain_nodes.specs.declared.node.Node.{Node}
 use Rattle.chain_nodes.specs.declared.node.Lead.{Lead}
-use Rattle.chain_nodes.specs.declared.node.Lead.TheVariants.{Opens}
 use Rattle.chain_nodes.specs.declared.walk.Cursor.{Cursor}
 use Rattle.chain_nodes.specs.Chains.{start_of, AreNodes, IsNode, lead_after, entries_of, IsLinkedBy}
 
@@ -25,9 +24,9 @@ pub record IsReached (table : ℕ → ℕ → Cell) (count : ℕ) (lead : Lead) 
 abbrev pub HasLength : (ℕ → ℕ → Cell) → ℕ → Lead → ℕ → ℕ → Type 0
 HasLength table count lead first n = (list : List ℕ) × IsLinkedBy table count lead first list × (n ≡ length list)
 
--- a cursor is a place of the chain that begins with its first entry
-pub record IsChainPlace (table : ℕ → ℕ → Cell) (count : ℕ) (cursor : Cursor) : Type 0 where
-  pub reached : IsReached table count Opens cursor.first cursor
+-- a cursor is a place of the list that begins with its first entry, as it says
+pub record IsListPlace (table : ℕ → ℕ → Cell) (count : ℕ) (cursor : Cursor) : Type 0 where
+  pub reached : IsReached table count cursor.opens cursor.first cursor
   pub bounded : cursor.passed ≤ count
 
 -- no node begins behind a cursor

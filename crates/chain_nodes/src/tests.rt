@@ -52,7 +52,7 @@ fn a_list_is_walked_node_by_node(rt: HostRuntime) -> Result<(), Fail> {
         Some(Run { block: 3, len: 2 })
     );
     assert_eq!(rt; seek(&mut space, NINE, Lead::Opens, 3, 4)?, None);
-    let (run, behind) = advance(&mut space, NINE, Lead::Opens, Cursor::start(Lead::Opens, 3))?;
+    let (run, behind) = advance(&mut space, NINE, Cursor::start(Lead::Opens, 3))?;
     assert_eq!(rt; run, Run { block: 2, len: 3 });
     assert_eq!(rt; behind.passed(), 3);
     Ok(())

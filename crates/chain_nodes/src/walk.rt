@@ -7,7 +7,7 @@ ghost use Rattle.save_bytes.specs.Reads.{Reads};
 ghost use Rattle.chain_nodes.specs.declared.node.Lead.TheVariants.{Opens, Follows};
 ghost use Rattle.chain_nodes.specs.Table.{table_in, HasAllocationTable, IsEntry};
 ghost use Rattle.chain_nodes.specs.Faults.{FailsAt, IsBroken, refusal_of, FaultsOnly};
-ghost use Rattle.chain_nodes.specs.Runs.{IsReached, IsChainPlace, IsAtEnd, HasLength, HasPosition, IsRestOfNode};
+ghost use Rattle.chain_nodes.specs.Runs.{IsReached, IsListPlace, IsAtEnd, HasLength, HasPosition, IsRestOfNode};
 
 use crate::fault::ChainFault;
 use crate::info::{ChainInfo, Run};
@@ -18,6 +18,8 @@ use save_bytes::Space;
 /// A place between two nodes of a list.
 #[derive(Clone, Copy, Debug, PartialEq, Eq)]
 pub struct Cursor {
+    /// How the list begins: as a chain, or as the free list.
+    pub(crate) opens: Lead,
     /// The first entry of the list.
     pub(crate) first: u32,
     /// How the node behind the cursor begins.
@@ -40,7 +42,8 @@ fn node_len(node: Node) -> u32
 impl Cursor {
     /// The place before the first block of the chain that begins with entry `first`.
     pub fn of_chain(first: u32) -> Cursor
-        ensures place { (table : ℕ → ℕ → Cell) (count : ℕ) → IsEntry count first → IsChainPlace table count result }
+        ensures place { (table : ℕ → ℕ → Cell) (count : ℕ) → IsEntry count first → IsListPlace table count result }
+        ensures opens { result.opens ≡ Opens }
         ensures first { result.first ≡ first }
         ensures passed { result.passed ≡ 0 }
     {
@@ -77,12 +80,15 @@ impl Cursor {
 
     /// The place before the first node of the list that begins with entry `first`.
     pub fn start(lead: Lead, first: u32) -> Cursor
+        ensures place { (table : ℕ → ℕ → Cell) (count : ℕ) → first ≤ count → IsListPlace table count result }
+        ensures opens { result.opens ≡ lead }
         ensures first { result.first ≡ first }
         ensures lead { result.lead ≡ lead }
         ensures next { result.next ≡ first }
         ensures passed { result.passed ≡ 0 }
     {
         Cursor {
+            opens: lead,
             first,
             lead,
             next: first,
@@ -95,12 +101,14 @@ impl Cursor {
         requires ordered { link.node.first ≤ link.node.last }
         requires some { 1 ≤ link.node.first }
         requires room { self.passed + 2 ^ 32 < 2 ^ 64 }
+        ensures opens { result.opens ≡ self.opens }
         ensures first { result.first ≡ self.first }
         ensures lead { result.lead ≡ Follows link.node.first }
         ensures next { result.next ≡ link.next }
         ensures passed { result.passed ≡ self.passed + (link.node.last + 1 - link.node.first) }
     {
         Cursor {
+            opens: self.opens,
             first: self.first,
             lead: Lead::Follows(link.node.first),
             next: link.next,
@@ -113,7 +121,6 @@ impl Cursor {
 pub fn advance<S: Space>(
     base: &mut S,
     info: ChainInfo,
-    lead: Lead,
     cursor: Cursor,
 ) -> Result<(Run, Cursor), ChainFault>
     requires table { HasAllocationTable (S.state base.old).shape info }
@@ -122,19 +129,20 @@ pub fn advance<S: Space>(
     requires passed { cursor.passed ≤ info.count }
     ensures some { IfOk result (λ step. 1 ≤ step.0.len) }
     ensures inside { IfOk result (λ step. step.0.block + step.0.len ≤ info.count) }
+    ensures opens { IfOk result (λ step. step.1.opens ≡ cursor.opens) }
     ensures first { IfOk result (λ step. step.1.first ≡ cursor.first) }
     ensures next { IfOk result (λ step. step.1.next ≤ info.count) }
     ensures passed { IfOk result (λ step. step.1.passed ≡ cursor.passed + step.0.len) }
     ensures bounded { IfOk result (λ step. step.1.passed ≤ info.count) }
     ensures reached { let table = table_in (S.state base.old).cells info in IsTrue (S.state base.old).told
-        → IsReached table info.count lead cursor.first cursor
-        → IfOk result (λ step. IsReached table info.count lead cursor.first step.1) }
+        → IsReached table info.count cursor.opens cursor.first cursor
+        → IfOk result (λ step. IsReached table info.count cursor.opens cursor.first step.1) }
     ensures run { let table = table_in (S.state base.old).cells info in IsTrue (S.state base.old).told
-        → IsReached table info.count lead cursor.first cursor
-        → IfOk result (λ step. IsRestOfNode table info.count lead cursor.first cursor.passed step.0) }
+        → IsReached table info.count cursor.opens cursor.first cursor
+        → IfOk result (λ step. IsRestOfNode table info.count cursor.opens cursor.first cursor.passed step.0) }
     ensures faults { let table = table_in (S.state base.old).cells info in FaultsOnly (S.state base.old) info
-        (λ e. IsReached table info.count lead cursor.first cursor → IsBroken table info.count lead cursor.first e)
-        (λ e. IsReached table info.count lead cursor.first cursor → FailsAt table info.count lead cursor.first e)
+        (λ e. IsReached table info.count cursor.opens cursor.first cursor → IsBroken table info.count cursor.opens cursor.first e)
+        (λ e. IsReached table info.count cursor.opens cursor.first cursor → FailsAt table info.count cursor.opens cursor.first e)
         (result_err result) }
     ensures reads { Reads S.state S.keeps S.lands base.old base.new (refusal_of (result_err result)) }
 {
@@ -144,7 +152,7 @@ pub fn advance<S: Space>(
     };
     let behind = cursor.behind(link);
     if behind.passed > u64::from(info.count) {
-        return Err(shared_fault(base, info, lead, cursor.first, behind));
+        return Err(shared_fault(base, info, cursor.opens, cursor.first, behind));
     }
     let block = link.node.first - 1;
     let len = node_len(link.node);
@@ -170,7 +178,7 @@ pub fn list_len<S: Space>(
 {
     let mut cursor = Cursor::start(lead, first);
     while cursor.next != 0 {
-        cursor = match advance(base, info, lead, cursor) {
+        cursor = match advance(base, info, cursor) {
             Ok((_, behind)) => behind,
             Err(fault) => return Err(fault),
         };
@@ -201,7 +209,7 @@ pub fn seek<S: Space>(
 {
     let mut cursor = Cursor::start(lead, first);
     while cursor.next != 0 {
-        let (run, behind) = match advance(base, info, lead, cursor) {
+        let (run, behind) = match advance(base, info, cursor) {
             Ok(step) => step,
             Err(fault) => return Err(fault),
         };

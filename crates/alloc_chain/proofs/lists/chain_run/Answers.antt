@@ -3,7 +3,7 @@ use Rattle.chain_nodes.specs.declared.node.Lead.TheVariants.{Opens}
 use Rattle.chain_nodes.specs.Table.{table_in}
 use Rattle.chain_nodes.specs.Runs.{IsRunIn}
 use Rattle.chain_nodes.proofs.FaultLemmas.{FaultsOnly-map}
-use Rattle.chain_nodes.proofs.ExactLemmas.{same_list, run_in, chain_done}
+use Rattle.chain_nodes.proofs.ExactLemmas.{same_list, run_in, list_done}
 use Rattle.alloc_chain.proofs.lists.chain_run.Goals as goal
 
 pub returns-in-Ok-Some-clause-exact : goal.returns-in-Ok-Some-clause-exact
@@ -22,8 +22,8 @@ returns-in-Ok-None-clause-exact g c = λ told list chain less.
 
 pub returns-in-Err-clause-exact : goal.returns-in-Err-clause-exact
 returns-in-Err-clause-exact g c = λ told list chain less.
-    chain_done (IsRunIn list c.args.pos) (g.S.Space.state c.args.base.now) c.args.info c.args.first list (Err c.in-Err.fault)
-    c.requires.few told chain c.in-Err.ensures.faults tt
+    list_done (IsRunIn list c.args.pos) (g.S.Space.state c.args.base.now) c.args.info Opens c.args.first list
+    (Err c.in-Err.fault) c.requires.few told chain.linked chain.once c.in-Err.ensures.faults tt
 
 pub returns-in-Err-clause-faults : goal.returns-in-Err-clause-faults
 returns-in-Err-clause-faults g c =

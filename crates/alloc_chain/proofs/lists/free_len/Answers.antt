@@ -4,12 +4,9 @@ use Rattle.save_bytes.specs.Cells.{Cell}
 use Rattle.save_bytes.proofs.CallLemmas.{IfOk-map}
 use Rattle.chain_nodes.specs.declared.node.Lead.TheVariants.{OpensFree}
 use Rattle.chain_nodes.specs.Table.{table_in, index_of, word_v}
-use Rattle.chain_nodes.specs.Faults.{IsBroken, FailsAt}
-use Rattle.chain_nodes.specs.Faults.IsFreeBroken.{InList}
-use Rattle.chain_nodes.specs.Faults.IsFreeNeeded.{Listed}
 use Rattle.chain_nodes.specs.Runs.{HasLength}
 use Rattle.chain_nodes.proofs.TableLemmas.{table_stays}
-use Rattle.chain_nodes.proofs.FaultLemmas.{FaultsOnly-later}
+use Rattle.chain_nodes.proofs.ListLemmas.{free_faults_later}
 use Rattle.chain_nodes.proofs.ExactLemmas.{same_list, done_unless_disk, no_free_break, no_free_need}
 use Rattle.alloc_chain.proofs.lists.free_len.Goals as goal
 
@@ -24,31 +21,19 @@ returns-in-Err-clause-exact g c = λ told list free.
 
 pub returns-clause-length : goal.returns-clause-length
 returns-clause-length g c = λ told.
-    let old = g.S.Space.state c.args.base.now in
     let info = c.args.info in
-    let table = table_in old.cells info in
-    let first = c.in-Ok.ensures.first told in
-    let there = c.list_len.ensures.length (c.in-Ok.ensures.reads.stays.space.told told) in
-    let here : IfOk c.list_len.result (HasLength table info.count OpensFree c.in-Ok.first) =
+    let stays = c.in-Ok.ensures.reads.stays in
+    let here : IfOk c.list_len.result (HasLength (table_in (g.S.Space.state c.args.base.now).cells info) info.count OpensFree c.in-Ok.first) =
     subst (λ (t : ℕ → ℕ → Cell). IfOk c.list_len.result (HasLength t info.count OpensFree c.in-Ok.first))
-    (table_stays old (g.S.Space.state c.free_first.new.base) info c.requires c.in-Ok.ensures.reads.stays told) there in
-    subst (λ (f : ℕ). IfOk c.list_len.result (HasLength table info.count OpensFree f)) first.1 here
+    (table_stays (g.S.Space.state c.args.base.now) (g.S.Space.state c.free_first.new.base) info c.requires stays told)
+    (c.list_len.ensures.length (stays.space.told told)) in
+    subst (λ (f : ℕ). IfOk c.list_len.result (HasLength (table_in (g.S.Space.state c.args.base.now).cells info) info.count OpensFree f))
+    (c.in-Ok.ensures.first told).1 here
 
 pub returns-clause-faults : goal.returns-clause-faults
 returns-clause-faults g c =
-    let old = g.S.Space.state c.args.base.now in
-    let info = c.args.info in
-    FaultsOnly-later old (g.S.Space.state c.free_first.new.base) info (result_err c.list_len.result) c.requires c.in-Ok.ensures.reads.stays
-    (λ told e broken.
-    (let here : IsBroken (table_in old.cells info) info.count OpensFree c.in-Ok.first e =
-    subst (λ (t : ℕ → ℕ → Cell). IsBroken t info.count OpensFree c.in-Ok.first e)
-    (table_stays old (g.S.Space.state c.free_first.new.base) info c.requires c.in-Ok.ensures.reads.stays told) broken in
-    InList (subst (λ (f : ℕ). IsBroken (table_in old.cells info) info.count OpensFree f e) (c.in-Ok.ensures.first told).1 here)))
-    (λ told e fails.
-    (let here : FailsAt (table_in old.cells info) info.count OpensFree c.in-Ok.first e =
-    subst (λ (t : ℕ → ℕ → Cell). FailsAt t info.count OpensFree c.in-Ok.first e)
-    (table_stays old (g.S.Space.state c.free_first.new.base) info c.requires c.in-Ok.ensures.reads.stays told) fails in
-    Listed (subst (λ (f : ℕ). FailsAt (table_in old.cells info) info.count OpensFree f e) (c.in-Ok.ensures.first told).1 here)))
+    free_faults_later (g.S.Space.state c.args.base.now) (g.S.Space.state c.free_first.new.base) c.args.info c.in-Ok.first
+    (result_err c.list_len.result) c.requires c.in-Ok.ensures.reads.stays (λ told. (c.in-Ok.ensures.first told).1)
     c.list_len.ensures.faults
 
 pub returns-clause-exact : goal.returns-clause-exact

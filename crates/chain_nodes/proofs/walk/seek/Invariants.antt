@@ -6,12 +6,13 @@ use Rattle.chain_nodes.proofs.walk.seek.Given as goal
 
 abbrev pub invariant-loop-cursor : goal.invariant-loop-cursor
 invariant-loop-cursor g l = record {
+  opens : l.cursor.opens ≡ l.fn.lead;
   first : l.cursor.first ≡ l.first;
   next : l.cursor.next ≤ l.info.count;
   passed : l.cursor.passed ≤ l.info.count;
   before : l.cursor.passed ≤ l.pos;
   reached : IsTrue (g.S.Space.state l.initial.base).told
-      → IsReached (table_in (g.S.Space.state l.initial.base).cells l.info) l.info.count l.lead l.first l.cursor;
+      → IsReached (table_in (g.S.Space.state l.initial.base).cells l.info) l.info.count l.fn.lead l.first l.cursor;
   reads : Reads g.S.Space.state g.S.Space.keeps g.S.Space.lands l.initial.base l.base None;
 }
 
