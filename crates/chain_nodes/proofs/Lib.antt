@@ -6,3 +6,4 @@ pub mod CountLemmas
 pub mod FrontLemmas
 pub mod SharedLemmas
 pub mod ExactLemmas
+pub mod OwnLemmas

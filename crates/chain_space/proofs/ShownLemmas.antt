@@ -7,7 +7,7 @@ use Rattle.std.proofs.lemmas.Nat.{div-add-mod'}
 use Rattle.std.proofs.Math.Nat.{div-lt_iff_lt-mul, mul-add-div_right, mul-add-mod_self_right, mul-le-mul_right}
 use Rattle.std.specs.List.{range_with_len}
 use Rattle.std.proofs.lemmas.List.FromFn.{length-range_with_len, get_or-range_with_len}
-use Rattle.save_bytes.specs.Cells.{Cell, IsByte}
+use Rattle.save_bytes.specs.Cells.{Cell}
 use Rattle.save_bytes.specs.State.{State, Shape}
 use Rattle.chain_nodes.specs.declared.info.ChainInfo.{ChainInfo}
 use Rattle.chain_nodes.specs.declared.info.Run.{Run}
@@ -19,12 +19,11 @@ use Rattle.chain_nodes.specs.Faults.{FailsAt, IsBroken, FaultsOnly}
 use Rattle.chain_nodes.specs.declared.node.Node.{Node}
 use Rattle.chain_nodes.specs.declared.node.Lead.{Lead}
 use Rattle.chain_nodes.specs.declared.node.Lead.TheVariants.{Opens, Follows}
-use Rattle.chain_nodes.specs.Table.{table_in, word_u, word_v, HasWords, HasAllocationTable}
-use Rattle.chain_nodes.specs.Chains.{IsLead, IsInner, IsNode, start_of, AreNodes, entries_of, IsLinkedBy}
+use Rattle.chain_nodes.specs.Table.{table_in, HasAllocationTable}
+use Rattle.chain_nodes.specs.Chains.{AreNodes, entries_of, IsLinkedBy}
 use Rattle.chain_nodes.specs.Runs.{HasPosition, IsRunIn, IsRestOfNode}
 use Rattle.chain_space.specs.Walks.{list_in, has_length}
 use Rattle.chain_space.specs.Shown.{found_list, chain_list, is_shown, place_of, can_show}
-use Rattle.chain_nodes.proofs.TableLemmas.{number_in-same}
 use Rattle.chain_nodes.proofs.ExactLemmas.{no_failure, no_break, same_list, run_in}
 use Rattle.chain_space.proofs.WalkLemmas.{list_in-linked, linked-list_in}
 
@@ -116,42 +115,6 @@ pub true-is_shown : (base : State) (info : ChainInfo) (first blocks : ℕ) (list
 unfolding is_shown
 true-is_shown base info first blocks list few linked small enough =
     rw (linked-found base info first list few linked small) (and_from _ _ (le-leb blocks (length list) enough) (le-leb (length list) info.count small))
-
--- words that stay
-module _ (old new : ℕ → ℕ → Cell) (stay : (entry k : ℕ) → IsByte (old entry k) → new entry k ≡ old entry k) where
-  words_read : (entry : ℕ) → HasWords old entry → HasWords new entry
-  words_read entry words k less = rw (stay entry k (words k less)) (words k less)
-
-  u_stays : (entry : ℕ) → HasWords old entry → word_u new entry ≡ word_u old entry
-  u_stays entry words = number_in-same 4 (new entry) (old entry) 0 0
-      (λ k less. (let none : 0 + k ≡ k = omega arith in rw none (stay entry k (words k (omega arith)))))
-
-  v_stays : (entry : ℕ) → HasWords old entry → word_v new entry ≡ word_v old entry
-  v_stays entry words = number_in-same 4 (new entry) (old entry) 4 4 (λ k less. stay entry (4 + k) (words (4 + k) (omega arith)))
-
-  inner_stays : (node : Node) (entry : ℕ) → IsInner old node entry → IsInner new node entry
-  inner_stays node entry h = record { read = words_read entry h.read; u = u_stays entry h.read ∙ h.u; v = v_stays entry h.read ∙ h.v }
-
-  node_stays : (count : ℕ) (lead : Lead) (node : Node) (next : ℕ) → IsNode old count lead node next → IsNode new count lead node next
-  node_stays count lead node next h = record {
-    starts = h.starts;
-    ordered = h.ordered;
-    ends = h.ends;
-    read = words_read node.first h.read;
-    u = subst (λ (w : ℕ). IsLead lead w) (sym (u_stays node.first h.read)) h.u;
-    single = λ same. v_stays node.first h.read ∙ h.single same;
-    several = λ more. v_stays node.first h.read ∙ h.several more;
-    second = λ more. inner_stays node (node.first + 1) (h.second more);
-    last = λ more. inner_stays node node.last (h.last more);
-  }
-
-  nodes_stay : (count : ℕ) (lead : Lead) (nodes : List Node) (next : ℕ) → AreNodes old count lead nodes next → AreNodes new count lead nodes next
-  nodes_stay count lead [] next h = tt
-  nodes_stay count lead (node ∷ nodes) next h = (node_stays count lead node (start_of nodes next) h.0, nodes_stay count (Follows node.first) nodes next h.1)
-
-  -- so does the list
-  pub linked_stays : (count : ℕ) (lead : Lead) (first : ℕ) (list : List ℕ) → IsLinkedBy old count lead first list → IsLinkedBy new count lead first list
-  linked_stays count lead first list h = record { nodes = h.nodes; linked = nodes_stay count lead h.nodes 0 h.linked; starts = h.starts; entries = h.entries }
 
 pub true-can_show : (base : Shape) (info : ChainInfo) (blocks : ℕ) → HasAllocationTable base info
     → base.size + blocks * info.block < 2 ^ 64 → can_show base info blocks ≡ true

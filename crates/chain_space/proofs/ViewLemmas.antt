@@ -26,6 +26,7 @@ use Rattle.chain_nodes.specs.declared.fault.ChainFault.TheVariants.{Bad as Refus
 use Rattle.chain_nodes.specs.Faults.{FailsAt, IsBroken, FaultsOnly}
 use Rattle.chain_nodes.specs.Runs.{HasLength, HasPosition, IsRunIn, IsRestOfNode}
 use Rattle.chain_nodes.proofs.ExactLemmas.{linked_first, same_list}
+use Rattle.chain_nodes.proofs.OwnLemmas.{list_rests}
 use Rattle.chain_nodes.specs.declared.node.Lead.TheVariants.{Opens}
 use Rattle.chain_nodes.specs.Table.{table_in, HasAllocationTable}
 use Rattle.chain_space.specs.Bounded.{some_passes}
@@ -33,7 +34,7 @@ use Rattle.chain_space.specs.Walks.{list_in, has_length}
 use Rattle.chain_space.specs.Shown.{found_list, chain_list, is_shown, block_place, is_in_table, is_kept, place_of, shown_state, ShownLands, IsLocatedRun}
 use Rattle.chain_nodes.proofs.TableLemmas.{table_same}
 use Rattle.chain_space.specs.ShownLaws.{CanShow, can_show-facts, with_blocks}
-use Rattle.chain_space.proofs.ShownLemmas.{IsShown, found_run, shown_fault, is_shown-true, list_entry, linked-found, linked_stays, block_inside, block_some}
+use Rattle.chain_space.proofs.ShownLemmas.{IsShown, found_run, shown_fault, is_shown-true, list_entry, linked-found, block_inside, block_some}
 
 each_below : (n : ℕ) (f g : ℕ → Bool) → ((k : ℕ) → k < n → g k ≡ f k) → some_passes n g ≡ some_passes n f
 unfolding some_passes
@@ -313,8 +314,8 @@ module _ (old new : State) (info : ChainInfo) (first blocks at most place n : �
       record {
         shape = puts.space.shape;
         found = linked-found new info first chain.list room.table.few
-            (linked_stays (table_in old.cells info) (table_in new.cells info) (table_stays_put can put) info.count Opens first
-            chain.list chain.linked) chain.few ∙ sym chain.found;
+            (list_rests (table_in old.cells info) (table_in new.cells info) info.count Opens first chain.list
+            (λ entry within k small. table_stays_put can put entry k) chain.linked) chain.few ∙ sym chain.found;
       }
   put_list can (Some Disk) puts = tt
   put_list can (Some (Damaged part level block)) puts =
