@@ -1,5 +1,6 @@
 """Times commands that take turns, so that what else the machine does weighs on all alike."""
 import os
+import shutil
 import statistics
 import subprocess
 import sys
@@ -16,6 +17,29 @@ sys.path.insert(0, os.path.join(TOP, 'checks'))
 def build() -> None:
     """Builds the program where it is not built yet."""
     subprocess.run([os.path.join(TOP, 'save'), '--build'], stdout=subprocess.DEVNULL, stderr=subprocess.DEVNULL)
+
+
+def built(folder: str, name: str, below: list) -> str:
+    """A program of this folder, proved and built in a repository of its own, beside copies of the crates that it stands
+    on: what they keep in out/ is not proved again."""
+    with open(os.path.join(TOP, 'crates.txt')) as file:
+        lines = [line for line in file if line.split(':')[0] in below]
+    with open(os.path.join(folder, 'crates.txt'), 'w') as file:
+        file.writelines(lines + [f'{name}: {" ".join(below)}\n'])
+    for crate in below:
+        shutil.copytree(os.path.join(TOP, 'crates', crate), os.path.join(folder, 'crates', crate))
+    own = os.path.join(folder, 'crates', name)
+    shutil.copytree(os.path.join(TOP, 'bench', name), own)
+    os.makedirs(os.path.join(own, 'src'))
+    # The gate reads each file of Rattle's that no crate has as a mistake, so these bear another ending.
+    for place, _, names in os.walk(own):
+        for file in names:
+            os.rename(os.path.join(place, file), os.path.join(place, file.removesuffix('.txt')))
+    os.rename(os.path.join(own, 'main.rt'), os.path.join(own, 'src', 'main.rt'))
+    ran = subprocess.run(['rt', 'run'], cwd=own, capture_output=True, text=True)
+    if ran.returncode:
+        sys.exit(f'bench/{name}: the program was not built\n{ran.stdout}{ran.stderr}')
+    return os.path.join(own, 'out', name)
 
 
 def said(words: list) -> str:
