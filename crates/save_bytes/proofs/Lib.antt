@@ -8,3 +8,4 @@ pub mod ViewLemmas
 pub mod CallLemmas
 pub mod JoinLemmas
 pub mod WriteLemmas
+pub mod WithinLemmas

@@ -11,5 +11,6 @@ pub mod Spots
 pub mod Reads
 pub mod Writes
 pub mod Extents
+pub mod Within
 pub mod Memory
 pub mod MemoryLaws
