@@ -1,0 +1,110 @@
+-- The cells of level four hang on the live places, and on its own bytes where it is external.
+use Rattle.std.proofs.Common.{◌≡◌, ℕ, zero, suc, ◌+◌, ◌-◌, ◌*◌, ◌/◌, ◌%◌, ◌^◌, ◌<◌, ◌≤◌, min, true, false, List, length, get_or, refl, sym, ◌∙◌, ap, arith, ⊎_elim}
+use Rattle.std.proofs.lemmas.Bool.{lt-ltb, le-ltb}
+use Rattle.std.proofs.lemmas.Nat.{div-mul-add, div-add-mod', mod_below, pow_pos}
+use Rattle.save_bytes.specs.Cells.{Cell, Byte}
+use Rattle.save_bytes.specs.CellNumbers.{value_of}
+use Rattle.container_header.specs.declared.header.Header.{Header}
+use Rattle.container_header.specs.Conditions.{reading as header_reading}
+use Rattle.difi.specs.declared.descriptor.Difi.{Difi}
+use Rattle.difi.specs.Places.{block_size}
+use Rattle.difi.specs.Sound.{HasHashLevels}
+use Rattle.dpfs_tree.specs.Picks.{chosen}
+use Rattle.ivfc_tree.specs.declared.path.BlockState.{BlockState}
+use Rattle.ivfc_tree.specs.Levels.{IsLevel, level_of, padded_block}
+use Rattle.ivfc_tree.specs.ViewLaws.{level4_size, level4_log}
+use Rattle.ivfc_tree.specs.Paths.{cell_in, path_state}
+use Rattle.ivfc_tree.proofs.HashLemmas.{len_of}
+use Rattle.part_store.specs.Parts.{master_of}
+use Rattle.container.specs.Openings.{active_table, partition_of}
+use Rattle.container.specs.ImageCells.{contents_in, path_in, cell_at}
+use Rattle.live_image.specs.Same.{SameLive, HasPart, SameBlock, external_at}
+use Rattle.live_image.proofs.TreeLemmas.{pick3_same}
+use Rattle.live_image.proofs.ImageLemmas.{placed, agrees, table_same}
+use Rattle.live_image.proofs.PathLemmas.{SameLevel, block_same, lone_block_same, path_same}
+
+-- the levels above level four lie in the chosen contents
+upper_inside : (difi : Difi) → HasHashLevels difi → (level : ℕ) → 1 ≤ level → level ≤ 3
+    → (level_of difi level).at + (level_of difi level).size ≤ difi.dpfs3.size
+unfolding level_of
+upper_inside difi levels zero some most = absurd (omega (arith, some))
+upper_inside difi levels (suc zero) some most = levels.inside1
+upper_inside difi levels (suc (suc zero)) some most = levels.inside2
+upper_inside difi levels (suc (suc (suc zero))) some most = levels.inside3
+upper_inside difi levels (suc (suc (suc (suc level)))) some most = absurd (omega (arith, most))
+
+internal_at : (difi : Difi) → difi.external ≡ false → (level_of difi 4).at ≡ difi.ivfc4.at
+unfolding level_of
+internal_at difi is = rw is refl
+
+external_behind : (difi : Difi) → difi.external ≡ true → (level_of difi 4).at ≡ difi.dpfs3.size
+unfolding level_of
+external_behind difi is = rw is refl
+
+module _ (image other : List ℕ) (same : SameLive image other) (header : Header) (part : ℕ) (difi : Difi)
+    (has : HasPart image header part difi) where
+  abbrev was : ℕ → Cell
+  was = contents_in image header part difi
+
+  abbrev now : ℕ → Cell
+  now = contents_in other header part difi
+
+  -- the chosen contents
+  pub contents_same : (x : ℕ) → x < difi.dpfs3.size → contents_in other header part difi x ≡ contents_in image header part difi x
+  unfolding chosen
+  contents_same x h =
+      let place = placed image header part difi has in
+      rw (lt-ltb x difi.dpfs3.size h)
+      (ap Byte (pick3_same (partition_of header part).at (partition_of header part).size (length image) difi place.inside place.levels
+      (λ y. get_or image y 0) (λ y. get_or other y 0) (agrees image other same header has.header_is part difi has) x h))
+
+  levels : HasHashLevels difi
+  levels = (placed image header part difi has).levels.hash_levels
+
+  upper_same : (level : ℕ) → 1 ≤ level → level ≤ 3
+      → SameLevel (contents_in other header part difi) (contents_in image header part difi) difi level
+  upper_same level some most x h =
+      contents_same ((level_of difi level).at + x) (omega (arith, upper_inside difi levels level some most, h))
+
+  -- the paths of a block that has the same bytes
+  path_in_same : (level block : ℕ) → level ≤ 3
+      → padded_block (contents_in other header part difi) difi (suc level) block
+      ≡ padded_block (contents_in image header part difi) difi (suc level) block
+      → path_in other header part difi (suc level) block ≡ path_in image header part difi (suc level) block
+  unfolding path_in
+  path_in_same level block most own =
+      rw (table_same image other same header has.header_is)
+      (path_same (contents_in other header part difi) (contents_in image header part difi) difi (master_of (active_table image header) difi)
+      level block (λ upper some less. upper_same upper some (omega (arith, less, most))) own)
+
+  -- of levels 1 to 3
+  pub upper_path_same : (level block : ℕ) → 1 ≤ level → level ≤ 3
+      → path_in other header part difi level block ≡ path_in image header part difi level block
+  upper_path_same zero block some most = absurd (omega (arith, some))
+  upper_path_same (suc level) block some most =
+      path_in_same level block (omega (arith, most))
+      (block_same (contents_in other header part difi) (contents_in image header part difi) difi (suc level) block
+      (upper_same (suc level) some most))
+
+  -- the cell of a byte by its path and its value
+  cell_same : (x : ℕ) → path_in other header part difi 4 (x / block_size difi.ivfc4) ≡ path_in image header part difi 4 (x / block_size difi.ivfc4)
+      → contents_in other header part difi ((level_of difi 4).at + x) ≡ contents_in image header part difi ((level_of difi 4).at + x)
+      → cell_at other header part difi x ≡ cell_at image header part difi x
+  cell_same x path value =
+      ap (λ (found : BlockState). cell_in found part (value_of (contents_in other header part difi ((level_of difi 4).at + x)))) path
+      ∙ ap (λ (cell : Cell). cell_in (path_in image header part difi 4 (x / block_size difi.ivfc4)) part (value_of cell)) value
+
+  module _ (internal : difi.external ≡ false) where
+    four_same : SameLevel (contents_in other header part difi) (contents_in image header part difi) difi 4
+    four_same x h =
+        let begin = internal_at difi internal in
+        let size = level4_size difi in
+        contents_same ((level_of difi 4).at + x) (omega (arith, levels.inside4 internal, begin, size, h))
+
+    pub internal_path_same : (block : ℕ) → path_in other header part difi 4 block ≡ path_in image header part difi 4 block
+    internal_path_same block =
+        path_in_same 3 block (omega arith)
+        (block_same (contents_in other header part difi) (contents_in image header part difi) difi 4 block four_same)
+
+    pub internal_cell_same : (x : ℕ) → x < difi.ivfc4.size → cell_at other header part difi x ≡ cell_at image header part difi x
+    internal_cell_same x h = cell_same x (internal_path_same (x / block_size difi.ivfc4)) (four_same x (rw (level4_size difi) h))

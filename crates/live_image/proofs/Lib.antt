@@ -1,0 +1,6 @@
+pub mod LevelLemmas
+pub mod TreeLemmas
+pub mod ImageLemmas
+pub mod OpeningLemmas
+pub mod PathLemmas
+pub mod CellLemmas

@@ -1,0 +1,53 @@
+//! What hangs on the live places of an image alone, for all images: each function's contract is a law, and its body is
+//! empty.
+
+ghost use Rattle.std.specs.Prelude.{◌≡◌, ◌↔◌, ◌<◌, ◌≤◌, ℕ, Bool, List, true, false};
+ghost use Rattle.container_header.specs.declared.header.Header.{Header};
+ghost use Rattle.container_header.specs.Conditions.{reading as header_reading};
+ghost use Rattle.difi.specs.declared.descriptor.Difi.{Difi};
+ghost use Rattle.container.specs.Openings.{fault_of};
+ghost use Rattle.container.specs.Opens.{Opens};
+ghost use Rattle.container.specs.ImageCells.{contents_in, path_in, cell_at};
+ghost use Rattle.live_image.specs.Live.{live_places};
+ghost use Rattle.live_image.specs.Same.{SameLive, HasPart, SameBlock};
+ghost use Rattle.live_image.specs.Footprint.{write_footprint};
+
+/// An image that agrees with another one on its live places has the same live places.
+pub fn live_places_stay()
+    ensures { (image other : List ℕ) → SameLive image other → (place : ℕ) → live_places other place ≡ live_places image place }
+{}
+
+/// It has the same header, or the same fault in the header's place, and the same parts.
+pub fn header_and_parts_stay()
+    ensures header { (image other : List ℕ) → SameLive image other → header_reading other ≡ header_reading image }
+    ensures parts { (image other : List ℕ) → SameLive image other → (header : Header) (part : ℕ) (difi : Difi)
+        → HasPart image header part difi → HasPart other header part difi }
+{}
+
+/// Under any signer it opens where the other one does, and else has the same fault.
+pub fn opening_stays()
+    ensures opens { (image other : List ℕ) → SameLive image other → (tag_of : List ℕ → List ℕ) (demands : Bool)
+        → (Opens tag_of demands image ↔ Opens tag_of demands other) }
+    ensures fault { (image other : List ℕ) → SameLive image other → (tag_of : List ℕ → List ℕ) (demands : Bool)
+        → fault_of tag_of demands other ≡ fault_of tag_of demands image }
+{}
+
+/// The chosen contents of each part are the same, and what the hash paths of IVFC levels 1 to 3 come to.
+pub fn contents_stay()
+    ensures contents { (image other : List ℕ) → SameLive image other → (header : Header) (part : ℕ) (difi : Difi)
+        → HasPart image header part difi → (x : ℕ) → x < difi.dpfs3.size
+        → contents_in other header part difi x ≡ contents_in image header part difi x }
+    ensures paths { (image other : List ℕ) → SameLive image other → (header : Header) (part : ℕ) (difi : Difi)
+        → HasPart image header part difi → (level block : ℕ) → 1 ≤ level → level ≤ 3
+        → path_in other header part difi level block ≡ path_in image header part difi level block }
+{}
+
+/// The cells of an internal level four are the same, and what its blocks' hash paths come to.
+pub fn internal_level_four_stays()
+    ensures cells { (image other : List ℕ) → SameLive image other → (header : Header) (part : ℕ) (difi : Difi)
+        → HasPart image header part difi → difi.external ≡ false → (x : ℕ) → x < difi.ivfc4.size
+        → cell_at other header part difi x ≡ cell_at image header part difi x }
+    ensures paths { (image other : List ℕ) → SameLive image other → (header : Header) (part : ℕ) (difi : Difi)
+        → HasPart image header part difi → difi.external ≡ false → (block : ℕ)
+        → path_in other header part difi 4 block ≡ path_in image header part difi 4 block }
+{}
