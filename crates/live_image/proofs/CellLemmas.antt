@@ -108,3 +108,33 @@ module _ (image other : List ℕ) (same : SameLive image other) (header : Header
 
     pub internal_cell_same : (x : ℕ) → x < difi.ivfc4.size → cell_at other header part difi x ≡ cell_at image header part difi x
     internal_cell_same x h = cell_same x (internal_path_same (x / block_size difi.ivfc4)) (four_same x (rw (level4_size difi) h))
+
+  module _ (external : difi.external ≡ true) (block : ℕ) (alike : SameBlock image other header part difi block) where
+    -- a byte of the block
+    byte_same : (y : ℕ) → y < difi.ivfc4.size → y / block_size difi.ivfc4 ≡ block
+        → contents_in other header part difi ((level_of difi 4).at + y) ≡ contents_in image header part difi ((level_of difi 4).at + y)
+    unfolding chosen
+    byte_same y h here =
+        let offset : difi.dpfs3.size + y - difi.dpfs3.size ≡ y = omega arith in
+        rw (external_behind difi external, le-ltb (difi.dpfs3.size + y) difi.dpfs3.size (omega arith), offset)
+        (ap Byte (alike y h here))
+
+    pub external_path_same : block * block_size difi.ivfc4 < difi.ivfc4.size
+        → path_in other header part difi 4 block ≡ path_in image header part difi 4 block
+    external_path_same begins =
+        let size = level4_size difi in
+        let log = level4_log difi in
+        path_in_same 3 block (omega arith)
+        (lone_block_same (contents_in other header part difi) (contents_in image header part difi) difi 4 block (rw (size, log) begins)
+        (λ k small.
+        let short : k < min (2 ^ difi.ivfc4.log) (difi.ivfc4.size - block * 2 ^ difi.ivfc4.log) = rw (size, log) at small in
+        let at_block = div-mul-add block (2 ^ difi.ivfc4.log) k (omega (arith, short)) in
+        let place : (level_of difi 4).at + block * 2 ^ difi.ivfc4.log + k ≡ (level_of difi 4).at + (block * 2 ^ difi.ivfc4.log + k) = omega arith in
+        rw (log, place) (byte_same (block * 2 ^ difi.ivfc4.log + k) (omega (arith, short)) at_block)))
+
+    pub external_cell_same : (x : ℕ) → x < difi.ivfc4.size → x / block_size difi.ivfc4 ≡ block
+        → cell_at other header part difi x ≡ cell_at image header part difi x
+    external_cell_same x h here =
+        let split = div-add-mod' x (2 ^ difi.ivfc4.log) in
+        let row : x / 2 ^ difi.ivfc4.log * 2 ^ difi.ivfc4.log ≡ block * 2 ^ difi.ivfc4.log = ap (λ (b : ℕ). b * 2 ^ difi.ivfc4.log) here in
+        cell_same x (rw here (external_path_same (omega (arith, split, row, h)))) (byte_same x h here)

@@ -1,10 +1,11 @@
 //! What hangs on the live places of an image alone, for all images: each function's contract is a law, and its body is
 //! empty.
 
-ghost use Rattle.std.specs.Prelude.{◌≡◌, ◌↔◌, ◌<◌, ◌≤◌, ℕ, Bool, List, true, false};
+ghost use Rattle.std.specs.Prelude.{◌≡◌, ◌↔◌, ◌<◌, ◌≤◌, ◌/◌, ℕ, Bool, List, true, false};
 ghost use Rattle.container_header.specs.declared.header.Header.{Header};
 ghost use Rattle.container_header.specs.Conditions.{reading as header_reading};
 ghost use Rattle.difi.specs.declared.descriptor.Difi.{Difi};
+ghost use Rattle.difi.specs.Places.{block_size, blocks_of};
 ghost use Rattle.container.specs.Openings.{fault_of};
 ghost use Rattle.container.specs.Opens.{Opens};
 ghost use Rattle.container.specs.ImageCells.{contents_in, path_in, cell_at};
@@ -49,5 +50,18 @@ pub fn internal_level_four_stays()
         → cell_at other header part difi x ≡ cell_at image header part difi x }
     ensures paths { (image other : List ℕ) → SameLive image other → (header : Header) (part : ℕ) (difi : Difi)
         → HasPart image header part difi → difi.external ≡ false → (block : ℕ)
+        → path_in other header part difi 4 block ≡ path_in image header part difi 4 block }
+{}
+
+/// Where level four is external, the cells of each block on which the images agree besides are the same, and what that
+/// block's hash path comes to.
+pub fn external_blocks_stay()
+    ensures cells { (image other : List ℕ) → SameLive image other → (header : Header) (part : ℕ) (difi : Difi)
+        → HasPart image header part difi → difi.external ≡ true → (block : ℕ) → SameBlock image other header part difi block
+        → (x : ℕ) → x < difi.ivfc4.size → x / block_size difi.ivfc4 ≡ block
+        → cell_at other header part difi x ≡ cell_at image header part difi x }
+    ensures path { (image other : List ℕ) → SameLive image other → (header : Header) (part : ℕ) (difi : Difi)
+        → HasPart image header part difi → difi.external ≡ true → (block : ℕ) → SameBlock image other header part difi block
+        → block < blocks_of difi.ivfc4
         → path_in other header part difi 4 block ≡ path_in image header part difi 4 block }
 {}

@@ -4,5 +4,5 @@
 mod laws;
 
 pub use laws::{
-    contents_stay, header_and_parts_stay, internal_level_four_stays, live_places_stay, opening_stays,
+    contents_stay, external_blocks_stay, header_and_parts_stay, internal_level_four_stays, live_places_stay, opening_stays,
 };
