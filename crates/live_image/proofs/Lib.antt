@@ -4,3 +4,4 @@ pub mod ImageLemmas
 pub mod OpeningLemmas
 pub mod PathLemmas
 pub mod CellLemmas
+pub mod StopLemmas

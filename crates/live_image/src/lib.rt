@@ -2,7 +2,10 @@
 #![tactic(auto)]
 
 mod laws;
+mod stops;
 
 pub use laws::{
-    contents_stay, external_blocks_stay, header_and_parts_stay, internal_level_four_stays, live_places_stay, opening_stays,
+    contents_stay, external_blocks_stay, header_and_parts_stay, internal_level_four_stays,
+    live_places_stay, opening_stays,
 };
+pub use stops::{a_commit_leaves_a_live_image, a_stop_leaves_a_live_image};
