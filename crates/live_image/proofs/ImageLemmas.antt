@@ -6,7 +6,7 @@ use Rattle.std.proofs.lemmas.Bool.{lt-ltb, eq-eqb, eqb-true, and_left, and_from,
 use Rattle.container_header.specs.declared.header.Header.{Header}
 use Rattle.container_header.specs.declared.fault.HeaderFault.{HeaderFault}
 use Rattle.container_header.specs.Conditions.{reading as header_reading, reading_of}
-use Rattle.container_header.specs.Sound.{active_at, IsInside, IsHeaderOf}
+use Rattle.container_header.specs.Sound.{active_at, IsDescriptor, IsHeaderOf}
 use Rattle.container_header.proofs.HeaderBytes.{raw_of, reading_same}
 use Rattle.container_header.proofs.HeaderRead.{reading-ok}
 use Rattle.difi.specs.declared.descriptor.Difi.{Difi}
@@ -15,7 +15,7 @@ use Rattle.difi.specs.Sound.{HasSoundLevels}
 use Rattle.difi.proofs.SoundLemmas.{is_read}
 use Rattle.container.specs.Openings.{active_table, descriptor_of, partition_of, part_reading}
 use Rattle.live_image.specs.Live.{lies_from, live_tree, live_part, live_of, live_behind, live_places}
-use Rattle.live_image.specs.Same.{SameLive, HasPart}
+use Rattle.live_image.specs.Same.{SameLive, HasPart, IsPlaced}
 use Rattle.live_image.proofs.LevelLemmas.{lies}
 use Rattle.live_image.proofs.TreeLemmas.{live_tree_same}
 
@@ -57,18 +57,24 @@ module _ (image : List ℕ) (header : Header) (is : header_reading image ≡ Ok 
   tree_live part difi has most place h = of_live part has.counted most place (rw has.described h)
 
 -- a part's levels are sound, and its partition lies in the image
-pub record IsPlaced (image : List ℕ) (header : Header) (part : ℕ) (difi : Difi) : Type 0 where
-  pub levels : HasSoundLevels difi (partition_of header part).size
-  pub inside : (partition_of header part).at + (partition_of header part).size ≤ length image
-
 partition_inside : (image : List ℕ) (header : Header) → IsHeaderOf header image → (part : ℕ) → part < header.parts
     → (partition_of header part).at + (partition_of header part).size ≤ length image
 partition_inside image header is zero there = is.sound.partition_a.inside.ends
 partition_inside image header is (suc zero) there = (is.sound.partition_b (omega (arith, there, is.sound.two_parts))).inside.ends
 partition_inside image header is (suc (suc part)) there = absurd (omega (arith, there, is.sound.two_parts))
 
+pub descriptor_there : (image : List ℕ) (header : Header) → IsHeaderOf header image → (part : ℕ) → part < header.parts
+    → IsDescriptor (descriptor_of header part) header.table_size
+descriptor_there image header is zero there = is.sound.descriptor_a
+descriptor_there image header is (suc zero) there = is.sound.descriptor_b (omega (arith, there, is.sound.two_parts))
+descriptor_there image header is (suc (suc part)) there = absurd (omega (arith, there, is.sound.two_parts))
+
+pub table_len : (image : List ℕ) (header : Header) → IsHeaderOf header image → length (active_table image header) ≡ header.table_size
+table_len image header is =
+    simp (length-take, length-drop) (omega (arith, is.sound.active_inside.ends))
+
 pub placed : (image : List ℕ) (header : Header) (part : ℕ) (difi : Difi) → HasPart image header part difi
-    → IsPlaced image header part difi
+    → IsPlaced (length image) (partition_of header part) difi
 placed image header part difi has =
     let place = descriptor_of header part in
     let read = is_read (active_table image header) place.at place.size (partition_of header part).size difi has.described in

@@ -5,3 +5,4 @@ pub mod OpeningLemmas
 pub mod PathLemmas
 pub mod CellLemmas
 pub mod StopLemmas
+pub mod TestLemmas

@@ -62,7 +62,7 @@ module _ (one other : ℕ → Cell) (difi : Difi) where
         let here = above (suc level) (omega arith) (omega arith) in
         rw (
           path_same level (parent_of difi (suc level) block) (λ upper some less. above upper some (omega (arith, less)))
-          (block_same (suc level) (parent_of difi (suc level) block) here),
+              (block_same (suc level) (parent_of difi (suc level) block) here),
           entry_same (suc level) block (λ _. here),
           own,
         ) refl

@@ -1,10 +1,12 @@
 -- An image that agrees with another one where that is live.
-use Rattle.std.specs.Prelude.{◌≡◌, ℕ, ◌+◌, ◌/◌, ◌<◌, List, length, slice_index, Ok}
+use Rattle.std.specs.Prelude.{◌≡◌, ℕ, ◌+◌, ◌/◌, ◌<◌, ◌≤◌, List, length, slice_index, Ok}
 use Rattle.save_disk.specs.Keeps.{Agree}
+use Rattle.container_header.specs.declared.header.Extent.{Extent}
 use Rattle.container_header.specs.declared.header.Header.{Header}
 use Rattle.container_header.specs.Conditions.{reading as header_reading}
 use Rattle.difi.specs.declared.descriptor.Difi.{Difi}
 use Rattle.difi.specs.Places.{block_size}
+use Rattle.difi.specs.Sound.{HasSoundLevels}
 use Rattle.container.specs.Openings.{active_table, partition_of, part_reading}
 use Rattle.live_image.specs.Live.{live_places}
 
@@ -18,6 +20,11 @@ pub record HasPart (image : List ℕ) (header : Header) (part : ℕ) (difi : Dif
   pub header_is : header_reading image ≡ Ok header
   pub counted : part < header.parts
   pub described : part_reading (active_table image header) header part ≡ Ok difi
+
+-- a partition's levels are sound, and it lies in an image of a length
+pub record IsPlaced (len : ℕ) (partition : Extent) (difi : Difi) : Type 0 where
+  pub levels : HasSoundLevels difi partition.size
+  pub inside : partition.at + partition.size ≤ len
 
 -- where byte x of a part's level four lies, where that is external
 abbrev pub external_at : Header → ℕ → Difi → ℕ → ℕ

@@ -9,3 +9,6 @@ pub use laws::{
     live_places_stay, opening_stays,
 };
 pub use stops::{a_commit_leaves_a_live_image, a_stop_leaves_a_live_image};
+
+#[cfg(test)]
+mod live_tests;
