@@ -88,7 +88,7 @@ pub header_or_not : (r : Result Header HeaderFault) → ((header : Header) × (r
 header_or_not (Ok header) = inl (header, refl)
 header_or_not (Err fault) = inr (fault, refl)
 
-difi_or_not : (r : Result Difi DifiFault) → ((difi : Difi) × (r ≡ Ok difi)) ⊎ ((fault : DifiFault) × (r ≡ Err fault))
+pub difi_or_not : (r : Result Difi DifiFault) → ((difi : Difi) × (r ≡ Ok difi)) ⊎ ((fault : DifiFault) × (r ≡ Err fault))
 difi_or_not (Ok difi) = inl (difi, refl)
 difi_or_not (Err fault) = inr (fault, refl)
 

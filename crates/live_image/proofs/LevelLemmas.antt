@@ -1,6 +1,6 @@
 -- Which places of a level's two copies are live.
 use Rattle.std.proofs.Common.{◌≡◌, ℕ, zero, suc, ◌+◌, ◌-◌, ◌*◌, ◌<◌, ◌≤◌, Bool, true, false, ◌&&◌, ◌||◌, eqb, refl, sym, ◌∙◌, ap, arith}
-use Rattle.std.proofs.lemmas.Bool.{lt-ltb, le-leb, ltb-true, leb-true, eq-eqb, and_parts, and_from, and_left, or_left, or_right, cases_Bool}
+use Rattle.std.proofs.lemmas.Bool.{lt-ltb, le-leb, ltb-true, leb-true, eq-eqb, eqb-true, or_cases, and_parts, and_from, and_left, or_left, or_right, cases_Bool}
 use Rattle.std.proofs.Common.{⊎_elim}
 use Rattle.std.proofs.Math.Nat.{zero-mul, one-mul}
 use Rattle.difi.specs.declared.places.LevelPlace.{LevelPlace}
@@ -52,3 +52,25 @@ module _ (part_at : ℕ) (level : LevelPlace) where
     pub live_level-same : live_level part_at level other place ≡ live_level part_at level copy_of place
     unfolding live_level
     live_level-same = rw (copy_same 0, copy_same 1) refl
+
+  -- a live place is that of a byte in the copy from which it is read
+  pub where_live : (copy_of : ℕ → ℕ) (place : ℕ) → live_level part_at level copy_of place ≡ true
+      → (x : ℕ) × (x < level.size) × (place ≡ copy_place part_at level (copy_of x) x) × (copy_of x < 2)
+  unfolding live_level
+  where_live copy_of place live =
+      ⊎_elim (in_that 0 (omega arith)) (in_that 1 (omega arith))
+      (or_cases (in_chosen_copy part_at level copy_of 0 place) (in_chosen_copy part_at level copy_of 1 place) live)
+    where
+      in_that : (copy : ℕ) → copy < 2 → in_chosen_copy part_at level copy_of copy place ≡ true
+          → (x : ℕ) × (x < level.size) × (place ≡ copy_place part_at level (copy_of x) x) × (copy_of x < 2)
+      in_that copy one is =
+          let start : ℕ = copy_place part_at level copy 0 in
+          let both = and_parts (lies_from (copy_place part_at level copy 0) level.size place) _ is in
+          let there = lies_where (copy_place part_at level copy 0) level.size place both.0 in
+          let same : copy_of (place - copy_place part_at level copy 0) ≡ copy = eqb-true _ _ both.1 in
+          (
+            place - copy_place part_at level copy 0,
+            omega (arith, there.0, there.1),
+            rw same (omega (arith, there.0)),
+            rw same one,
+          )

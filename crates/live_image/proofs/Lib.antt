@@ -6,3 +6,5 @@ pub mod PathLemmas
 pub mod CellLemmas
 pub mod StopLemmas
 pub mod TestLemmas
+pub mod FootprintLemmas
+pub mod ApartLemmas
