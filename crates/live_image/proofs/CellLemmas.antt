@@ -24,7 +24,7 @@ use Rattle.live_image.proofs.ImageLemmas.{placed, agrees, table_same}
 use Rattle.live_image.proofs.PathLemmas.{SameLevel, block_same, lone_block_same, path_same}
 
 -- the levels above level four lie in the chosen contents
-upper_inside : (difi : Difi) → HasHashLevels difi → (level : ℕ) → 1 ≤ level → level ≤ 3
+pub upper_inside : (difi : Difi) → HasHashLevels difi → (level : ℕ) → 1 ≤ level → level ≤ 3
     → (level_of difi level).at + (level_of difi level).size ≤ difi.dpfs3.size
 unfolding level_of
 upper_inside difi levels zero some most = absurd (omega (arith, some))
@@ -37,7 +37,7 @@ internal_at : (difi : Difi) → difi.external ≡ false → (level_of difi 4).at
 unfolding level_of
 internal_at difi is = rw is refl
 
-external_behind : (difi : Difi) → difi.external ≡ true → (level_of difi 4).at ≡ difi.dpfs3.size
+pub external_behind : (difi : Difi) → difi.external ≡ true → (level_of difi 4).at ≡ difi.dpfs3.size
 unfolding level_of
 external_behind difi is = rw is refl
 

@@ -67,8 +67,7 @@ module _ (part_at : ℕ) (level : LevelPlace) where
           let start : ℕ = copy_place part_at level copy 0 in
           let both = and_parts (lies_from (copy_place part_at level copy 0) level.size place) _ is in
           let there = lies_where (copy_place part_at level copy 0) level.size place both.0 in
-          let same : copy_of (place - copy_place part_at level copy 0) ≡ copy = eqb-true _ _ both.1 in
-          (
+          let same : copy_of (place - copy_place part_at level copy 0) ≡ copy = eqb-true _ _ both.1 in (
             place - copy_place part_at level copy 0,
             omega (arith, there.0, there.1),
             rw same (omega (arith, there.0)),

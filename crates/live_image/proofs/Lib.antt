@@ -8,3 +8,5 @@ pub mod StopLemmas
 pub mod TestLemmas
 pub mod FootprintLemmas
 pub mod ApartLemmas
+pub mod WriteLemmas
+pub mod ContainerLemmas

@@ -1,14 +1,19 @@
 //! What hangs on the live places of an image alone, for all images: each function's contract is a law, and its body is
 //! empty.
 
-ghost use Rattle.std.specs.Prelude.{◌≡◌, ◌↔◌, ◌<◌, ◌≤◌, ◌/◌, ℕ, Bool, List, true, false};
+ghost use Rattle.std.specs.Prelude.{◌≡◌, ◌↔◌, ◌<◌, ◌≤◌, ◌/◌, ℕ, Bool, List, true, false, Some};
+ghost use Rattle.save_bytes.specs.Cells.{Cell};
 ghost use Rattle.container_header.specs.declared.header.Header.{Header};
 ghost use Rattle.container_header.specs.Conditions.{reading as header_reading};
 ghost use Rattle.difi.specs.declared.descriptor.Difi.{Difi};
 ghost use Rattle.difi.specs.Places.{block_size, blocks_of};
+ghost use Rattle.part_store.specs.declared.part.Part.{Part};
 ghost use Rattle.container.specs.Openings.{fault_of};
 ghost use Rattle.container.specs.Opens.{Opens};
-ghost use Rattle.container.specs.ImageCells.{contents_in, path_in, cell_at};
+ghost use Rattle.container.specs.declared.open.Container.{Container};
+ghost use Rattle.container.specs.Parts.{part_at};
+ghost use Rattle.container.specs.Containers.{IsOpenOf};
+ghost use Rattle.container.specs.ImageCells.{contents_in, path_in, cell_at, AreImageCells};
 ghost use Rattle.live_image.specs.Live.{live_places};
 ghost use Rattle.live_image.specs.Same.{SameLive, HasPart, SameBlock};
 ghost use Rattle.live_image.specs.Footprint.{write_footprint};
@@ -64,4 +69,17 @@ pub fn external_blocks_stay()
         → HasPart image header part difi → difi.external ≡ true → (block : ℕ) → SameBlock image other header part difi block
         → block < blocks_of difi.ivfc4
         → path_in other header part difi 4 block ≡ path_in image header part difi 4 block }
+{}
+
+/// A container that holds what opening the one image comes to holds what opening the other one does. Its store has the
+/// same cells, where the images agree on each block of an external level four besides.
+pub fn containers_stay()
+    ensures opened { (image other : List ℕ) → SameLive image other → (tag_of : List ℕ → List ℕ) (demands : Bool) (container : Container)
+        → IsOpenOf tag_of demands image container → IsOpenOf tag_of demands other container }
+    ensures cells { (image other : List ℕ) → SameLive image other → (tag_of : List ℕ → List ℕ) (demands : Bool) (container : Container)
+        → IsOpenOf tag_of demands image container
+        → ((number : ℕ) (part : Part) → part_at container.parts number ≡ Some part → part.difi.external ≡ true
+        → (block : ℕ) → SameBlock image other container.header number part.difi block)
+        → (cells : ℕ → Cell) → AreImageCells image container.header container.parts cells
+        → AreImageCells other container.header container.parts cells }
 {}
