@@ -10,3 +10,4 @@ pub mod FootprintLemmas
 pub mod ApartLemmas
 pub mod WriteLemmas
 pub mod ContainerLemmas
+pub mod RowLemmas

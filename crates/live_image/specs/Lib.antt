@@ -1,3 +1,4 @@
 pub mod Live
 pub mod Same
 pub mod Footprint
+pub mod StopRows

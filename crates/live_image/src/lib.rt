@@ -18,3 +18,5 @@ pub use stops::{a_commit_leaves_a_live_image, a_stop_leaves_a_live_image};
 
 #[cfg(test)]
 mod live_tests;
+#[cfg(test)]
+mod stop_tests;
