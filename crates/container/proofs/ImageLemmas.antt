@@ -83,8 +83,8 @@ module _ (disk : disks.State) (image : ImageState) (header : Header) (table : Li
       (and_from _ _ (can_view_part-true (image_state disk image).shape first (length table) view)
       (and_from _ _ (can_view_part-true (image_state disk image).shape part (length table) next)
       (lt-ltb _ _
-          (let fits = four_fits (image_state disk image) first table (image_size_fits disk image) view in
-          omega (arith, fits, four_fits (image_state disk image) part table (image_size_fits disk image) next, image.layout.most)))))
+      (let fits = four_fits (image_state disk image) first table (image_size_fits disk image) view in
+      omega (arith, fits, four_fits (image_state disk image) part table (image_size_fits disk image) next, image.layout.most)))))
 
 -- a part of a number is the first or the second
 pub data IsOne (parts : Parts) (number : ℕ) (part : Part) : Type 0 where

@@ -1,10 +1,12 @@
 -- Tables and partitions lie apart, so what a transaction may write is not live anywhere in an image.
-use Rattle.std.proofs.Common.{◌≡◌, ◌≢◌, ⊎_elim, ℕ, zero, suc, ◌+◌, ◌<◌, ◌≤◌, Bool, true, false, ◌&&◌, ◌||◌, eqb, ltb, Ok, Err, List, length, get_or, refl, sym, ◌∙◌, ap, subst, arith, inl, inr}
+use Rattle.std.proofs.Common.{◌≡◌, ⊎_elim, ℕ, zero, suc, ◌<◌, ◌≤◌, Bool, true, ◌&&◌, ◌||◌, eqb, ltb, Ok, List, length, get_or, refl, sym, ◌∙◌, arith, inl, inr}
 use Rattle.std.proofs.lemmas.Bool.{or_cases, and_parts, ltb-true, eqb-true, cases_lt}
-use Rattle.container_header.specs.declared.header.Extent.{Extent}
+use Rattle.save_bytes.specs.declared.extent.Extent.{Extent}
+use Rattle.save_bytes.specs.Extents.{AreApart}
+use Rattle.save_bytes.specs.Writes.{IsWithin}
 use Rattle.container_header.specs.declared.header.Header.{Header}
 use Rattle.container_header.specs.Conditions.{reading as header_reading, table_at}
-use Rattle.container_header.specs.Sound.{active_at, inactive_at, IsApart, IsSound, IsHeaderOf, Covers}
+use Rattle.container_header.specs.Sound.{active_at, inactive_at, IsSoundHeader}
 use Rattle.container_header.proofs.HeaderRead.{reading-ok}
 use Rattle.difi.specs.declared.descriptor.Difi.{Difi}
 use Rattle.container.specs.Openings.{active_table, partition_of, part_reading}
@@ -14,6 +16,10 @@ use Rattle.live_image.specs.Footprint.{MayWriteIn, MayWrite, Front, Table, InPar
 use Rattle.live_image.proofs.LevelLemmas.{lies_where}
 use Rattle.live_image.proofs.ImageLemmas.{placed, header_or_not, difi_or_not}
 use Rattle.live_image.proofs.FootprintLemmas.{live_in, live_inside, may_inside, not_live}
+
+-- the place lies in the range
+abbrev Covers : Extent → ℕ → Type 0
+Covers extent place = IsWithin extent.at extent.size place
 
 -- a live place behind the front is in the active table or in a part
 pub data IsLiveBehind (image : List ℕ) (place : ℕ) : Type 0 where
@@ -58,11 +64,11 @@ module _ (image : List ℕ) (place : ℕ) where
       (or_cases (ltb place 512) (live_behind image (header_reading image) place) live)
 
   -- ranges that lie apart share no place
-  off : (one other : Extent) → IsApart one other → Covers one place → Covers other place → ⊥
-  off one other apart in_one in_other = omega (arith, apart, in_one.0, in_one.1, in_other.0, in_other.1)
+  off : (one other : Extent) → AreApart one other → Covers one place → Covers other place → ⊥
+  off one other apart in_one in_other = apart place in_one.0 in_one.1 in_other.0 in_other.1
 
   module _ (header : Header) (is : header_reading image ≡ Ok header) where
-    sound : IsSound header (length image)
+    sound : IsSoundHeader header (length image)
     sound = (reading-ok image header is).sound
 
     active_off : (part : ℕ) → part < header.parts → Covers (table_at header (active_at header)) place → Covers (partition_of header part) place → ⊥

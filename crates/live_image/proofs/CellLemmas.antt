@@ -1,24 +1,22 @@
 -- The cells of level four hang on the live places, and on its own bytes where it is external.
-use Rattle.std.proofs.Common.{◌≡◌, ℕ, zero, suc, ◌+◌, ◌-◌, ◌*◌, ◌/◌, ◌%◌, ◌^◌, ◌<◌, ◌≤◌, min, true, false, List, length, get_or, refl, sym, ◌∙◌, ap, arith, ⊎_elim}
+use Rattle.std.proofs.Common.{◌≡◌, ℕ, zero, suc, ◌+◌, ◌-◌, ◌*◌, ◌/◌, ◌^◌, ◌<◌, ◌≤◌, min, true, false, List, length, get_or, refl, ◌∙◌, ap, arith}
 use Rattle.std.proofs.lemmas.Bool.{lt-ltb, le-ltb}
-use Rattle.std.proofs.lemmas.Nat.{div-mul-add, div-add-mod', mod_below, pow_pos}
+use Rattle.std.proofs.lemmas.Nat.{div-mul-add, div-add-mod'}
 use Rattle.save_bytes.specs.Cells.{Cell, Byte}
 use Rattle.save_bytes.specs.CellNumbers.{value_of}
 use Rattle.container_header.specs.declared.header.Header.{Header}
-use Rattle.container_header.specs.Conditions.{reading as header_reading}
 use Rattle.difi.specs.declared.descriptor.Difi.{Difi}
 use Rattle.difi.specs.Places.{block_size}
 use Rattle.difi.specs.Sound.{HasHashLevels}
 use Rattle.dpfs_tree.specs.Picks.{chosen}
 use Rattle.ivfc_tree.specs.declared.path.BlockState.{BlockState}
-use Rattle.ivfc_tree.specs.Levels.{IsLevel, level_of, padded_block}
+use Rattle.ivfc_tree.specs.Levels.{level_of, padded_block}
 use Rattle.ivfc_tree.specs.ViewLaws.{level4_size, level4_log}
-use Rattle.ivfc_tree.specs.Paths.{cell_in, path_state}
-use Rattle.ivfc_tree.proofs.HashLemmas.{len_of}
+use Rattle.ivfc_tree.specs.Paths.{cell_in}
 use Rattle.part_store.specs.Parts.{master_of}
 use Rattle.container.specs.Openings.{active_table, partition_of}
 use Rattle.container.specs.ImageCells.{contents_in, path_in, cell_at}
-use Rattle.live_image.specs.Same.{SameLive, HasPart, SameBlock, external_at}
+use Rattle.live_image.specs.Same.{SameLive, HasPart, SameBlock}
 use Rattle.live_image.proofs.TreeLemmas.{pick3_same}
 use Rattle.live_image.proofs.ImageLemmas.{placed, agrees, table_same}
 use Rattle.live_image.proofs.PathLemmas.{SameLevel, block_same, lone_block_same, path_same}

@@ -1,15 +1,13 @@
 -- A container that was opened over an image is open over one that agrees on the live places.
-use Rattle.std.proofs.Common.{◌≡◌, ℕ, zero, suc, ◌+◌, ◌/◌, ◌<◌, Bool, true, false, List, Option, Some, None, IfSome, Ok, refl, sym, ◌∙◌, ap, subst, arith}
+use Rattle.std.proofs.Common.{◌≡◌, ℕ, ◌+◌, ◌/◌, ◌<◌, true, false, List, Option, Some, None, IfSome, refl, sym, ◌∙◌, ap, subst, arith}
 use Rattle.std.proofs.lemmas.Bool.{cases_Bool}
 use Rattle.std.proofs.Common.{⊎_elim}
 use Rattle.save_bytes.specs.Cells.{Cell}
-use Rattle.container_header.specs.declared.header.Header.{Header}
+use Rattle.container.specs.Signers.{Signing}
 use Rattle.difi.specs.Places.{block_size}
 use Rattle.part_store.specs.declared.part.Part.{Part}
 use Rattle.container.specs.declared.open.Container.{Container}
-use Rattle.container.specs.declared.parts.Parts.{Parts}
-use Rattle.container.specs.Openings.{active_table}
-use Rattle.container.specs.Parts.{part_at, part_count, AreRead, IsPartRead}
+use Rattle.container.specs.Parts.{part_at, part_count, IsPartRead}
 use Rattle.container.specs.Containers.{IsOpenOf}
 use Rattle.container.specs.ImageCells.{cell_at, AreImageCells}
 use Rattle.live_image.specs.Same.{SameLive, HasPart, SameBlock}
@@ -17,11 +15,11 @@ use Rattle.live_image.proofs.ImageLemmas.{header_same, table_same}
 use Rattle.live_image.proofs.OpeningLemmas.{opens_same}
 use Rattle.live_image.proofs.CellLemmas.{internal_cell_same, external_cell_same}
 
-module _ (image other : List ℕ) (same : SameLive image other) (tag_of : List ℕ → List ℕ) (demands : Bool) (container : Container)
-    (opened : IsOpenOf tag_of demands image container) where
-  pub open_same : IsOpenOf tag_of demands other container
+module _ (image other : List ℕ) (same : SameLive image other) (sign : Signing) (container : Container)
+    (opened : IsOpenOf sign image container) where
+  pub open_same : IsOpenOf sign other container
   open_same = record {
-    opens = (opens_same image other same tag_of demands).0 opened.opens;
+    opens = (opens_same image other same sign).0 opened.opens;
     header = header_same image other same ∙ opened.header;
     table = opened.table ∙ sym (table_same image other same container.header opened.header);
     parts = opened.parts;

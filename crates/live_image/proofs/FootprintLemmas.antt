@@ -1,26 +1,21 @@
 -- What a transaction may write is not live, but for the front.
-use Rattle.std.proofs.Common.{◌≡◌, ◌⊎◌, ⊎_elim, inl, inr, ℕ, zero, suc, ◌+◌, ◌-◌, ◌*◌, ◌/◌, ◌^◌, ◌<◌, ◌≤◌, min, max, Bool, true, false, ◌&&◌, ◌||◌, eqb, ltb}
-use Rattle.std.proofs.Common.{Result, Ok, Err, List, length, get_or, refl, sym, ◌∙◌, ap, arith}
+use Rattle.std.proofs.Common.{◌≡◌, ⊎_elim, ℕ, zero, suc, ◌+◌, ◌-◌, ◌*◌, ◌/◌, ◌^◌, ◌<◌, ◌≤◌, Bool, true}
+use Rattle.std.proofs.Common.{List, get_or, ap, arith}
 use Rattle.std.proofs.lemmas.Nat.{same_from_place}
-use Rattle.std.proofs.lemmas.Bool.{or_cases, and_parts, ltb-true, eqb-true, cases_eq}
-use Rattle.container_header.specs.declared.header.Extent.{Extent}
+use Rattle.std.proofs.lemmas.Bool.{or_cases}
 use Rattle.container_header.specs.declared.header.Header.{Header}
-use Rattle.container_header.specs.Conditions.{reading as header_reading, table_at}
-use Rattle.container_header.specs.Sound.{active_at, inactive_at, IsApart, IsHeaderOf}
-use Rattle.container_header.proofs.HeaderRead.{reading-ok}
 use Rattle.difi.specs.declared.places.LevelPlace.{LevelPlace}
 use Rattle.difi.specs.declared.descriptor.Difi.{Difi}
 use Rattle.difi.specs.Places.{copies_of}
 use Rattle.difi.specs.Conditions.{external_extent}
-use Rattle.difi.specs.Sound.{AreApart, HasSoundLevels}
+use Rattle.save_bytes.specs.Extents.{AreApart}
+use Rattle.difi.specs.Sound.{HasSoundLevels}
 use Rattle.dpfs_tree.specs.Picks.{copy_place, pick1, pick2}
 use Rattle.dpfs_tree.specs.SameLaws.{bit_of-lt}
-use Rattle.container.specs.Openings.{active_table, partition_of, part_reading}
-use Rattle.live_image.specs.Live.{copy1, copy2, copy3, live_level, live_tree, live_of, live_behind, live_places, lies_from}
-use Rattle.live_image.specs.Same.{HasPart, IsPlaced, external_at}
-use Rattle.live_image.specs.Footprint.{MayWriteIn, Bits1, Bits2, Contents, External, MayWrite, Front, Table, InPart}
-use Rattle.live_image.proofs.LevelLemmas.{lies_where, where_live}
-use Rattle.live_image.proofs.ImageLemmas.{placed, header_or_not, difi_or_not}
+use Rattle.container.specs.Openings.{partition_of}
+use Rattle.live_image.specs.Live.{copy1, copy2, copy3, live_level, live_tree}
+use Rattle.live_image.specs.Footprint.{MayWriteIn, Bits1, Bits2, Contents, External}
+use Rattle.live_image.proofs.LevelLemmas.{where_live}
 
 -- a place of a partition is in one of two copies of a level
 abbrev pub InCopies : ℕ → LevelPlace → ℕ → Type 0

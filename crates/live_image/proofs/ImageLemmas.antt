@@ -1,20 +1,19 @@
 -- An image that agrees with another one on its live places has its header, its active table and its live places.
-use Rattle.std.proofs.Common.{◌≡◌, ◌⊎◌, ⊎_elim, inl, inr, ℕ, zero, suc, ◌+◌, ◌-◌, ◌<◌, ◌≤◌, Bool, true, false, ◌&&◌, ◌||◌, eqb, ltb, Result, Ok, Err}
-use Rattle.std.proofs.Common.{List, length, get_or, take, drop, refl, sym, ◌∙◌, ap, arith}
+use Rattle.std.proofs.Common.{◌≡◌, ◌⊎◌, inl, inr, ℕ, zero, suc, ◌+◌, ◌<◌, ◌≤◌, Bool, true, false, ◌&&◌, eqb, ltb, Result, Ok, Err}
+use Rattle.std.proofs.Common.{List, length, get_or, take, drop, refl, ◌∙◌, ap, arith}
 use Rattle.std.proofs.lemmas.List.{ext_get_or, length-take, length-drop, get_or-take, get_or-drop}
-use Rattle.std.proofs.lemmas.Bool.{lt-ltb, eq-eqb, eqb-true, and_left, and_from, or_left, or_right, cases_Bool}
+use Rattle.std.proofs.lemmas.Bool.{lt-ltb, eq-eqb, eqb-true, and_from, or_left, or_right}
 use Rattle.container_header.specs.declared.header.Header.{Header}
 use Rattle.container_header.specs.declared.fault.HeaderFault.{HeaderFault}
 use Rattle.container_header.specs.Conditions.{reading as header_reading, reading_of}
-use Rattle.container_header.specs.Sound.{active_at, IsDescriptor, IsHeaderOf}
+use Rattle.container_header.specs.Sound.{active_at, IsDescriptorPlace, IsHeaderOf}
 use Rattle.container_header.proofs.HeaderBytes.{raw_of, reading_same}
 use Rattle.container_header.proofs.HeaderRead.{reading-ok}
 use Rattle.difi.specs.declared.descriptor.Difi.{Difi}
 use Rattle.difi.specs.declared.fault.DifiFault.{DifiFault}
-use Rattle.difi.specs.Sound.{HasSoundLevels}
 use Rattle.difi.proofs.SoundLemmas.{is_read}
 use Rattle.container.specs.Openings.{active_table, descriptor_of, partition_of, part_reading}
-use Rattle.live_image.specs.Live.{lies_from, live_tree, live_part, live_of, live_behind, live_places}
+use Rattle.live_image.specs.Live.{live_tree, live_of, live_behind, live_places}
 use Rattle.live_image.specs.Same.{SameLive, HasPart, IsPlaced}
 use Rattle.live_image.proofs.LevelLemmas.{lies}
 use Rattle.live_image.proofs.TreeLemmas.{live_tree_same}
@@ -64,7 +63,7 @@ partition_inside image header is (suc zero) there = (is.sound.partition_b (omega
 partition_inside image header is (suc (suc part)) there = absurd (omega (arith, there, is.sound.two_parts))
 
 pub descriptor_there : (image : List ℕ) (header : Header) → IsHeaderOf header image → (part : ℕ) → part < header.parts
-    → IsDescriptor (descriptor_of header part) header.table_size
+    → IsDescriptorPlace (descriptor_of header part) header.table_size
 descriptor_there image header is zero there = is.sound.descriptor_a
 descriptor_there image header is (suc zero) there = is.sound.descriptor_b (omega (arith, there, is.sound.two_parts))
 descriptor_there image header is (suc (suc part)) there = absurd (omega (arith, there, is.sound.two_parts))

@@ -1,8 +1,7 @@
 -- Which places of a level's two copies are live.
-use Rattle.std.proofs.Common.{◌≡◌, ℕ, zero, suc, ◌+◌, ◌-◌, ◌*◌, ◌<◌, ◌≤◌, Bool, true, false, ◌&&◌, ◌||◌, eqb, refl, sym, ◌∙◌, ap, arith}
+use Rattle.std.proofs.Common.{◌≡◌, ℕ, zero, suc, ◌+◌, ◌-◌, ◌<◌, ◌≤◌, true, false, ◌&&◌, ◌||◌, eqb, refl, sym, ◌∙◌, ap, arith}
 use Rattle.std.proofs.lemmas.Bool.{lt-ltb, le-leb, ltb-true, leb-true, eq-eqb, eqb-true, or_cases, and_parts, and_from, and_left, or_left, or_right, cases_Bool}
 use Rattle.std.proofs.Common.{⊎_elim}
-use Rattle.std.proofs.Math.Nat.{zero-mul, one-mul}
 use Rattle.difi.specs.declared.places.LevelPlace.{LevelPlace}
 use Rattle.dpfs_tree.specs.Picks.{copy_place}
 use Rattle.live_image.specs.Live.{lies_from, in_chosen_copy, live_level}

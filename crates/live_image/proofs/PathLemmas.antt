@@ -1,13 +1,12 @@
 -- What a block's path comes to hangs on the levels above it and on the block alone.
-use Rattle.std.proofs.Common.{◌≡◌, ◌≢◌, ℕ, zero, suc, ◌+◌, ◌-◌, ◌*◌, ◌<◌, ◌≤◌, false, List, eqb, refl, arith, ap, ◌∙◌}
+use Rattle.std.proofs.Common.{◌≡◌, ℕ, zero, suc, ◌+◌, ◌-◌, ◌*◌, ◌<◌, ◌≤◌, false, List, eqb, refl, arith}
 use Rattle.std.proofs.lemmas.Bool.{ne_eqb}
 use Rattle.save_bytes.specs.Cells.{Cell}
 use Rattle.save_bytes.proofs.CellLemmas.{bytes_in-same}
 use Rattle.difi.specs.declared.descriptor.Difi.{Difi}
 use Rattle.difi.specs.Places.{block_size}
-use Rattle.ivfc_tree.specs.Levels.{IsLevel, level_of, ivfc_level, padded_block, hash_entry, parent_of}
-use Rattle.ivfc_tree.specs.Paths.{own_state, marked_state, path_state}
-use Rattle.ivfc_tree.specs.ViewLaws.{by_level}
+use Rattle.ivfc_tree.specs.Levels.{level_of, ivfc_level, padded_block, hash_entry, parent_of}
+use Rattle.ivfc_tree.specs.Paths.{marked_state, path_state}
 use Rattle.ivfc_tree.proofs.HashLemmas.{len_of, padded_block-is}
 
 -- the cells of a level are the same

@@ -1,17 +1,13 @@
 -- Small traces over an image worked out.
-use Rattle.std.proofs.Common.{◌≡◌, ◌≢◌, ◌⊎◌, ⊎_elim, inl, inr, ℕ, zero, suc, ◌+◌, ◌-◌, ◌*◌, ◌<◌, ◌≤◌, Bool, true, false, List, [], ◌∷◌, length, get_or, Option, Some, None, IfSome, Ok, refl, sym, ◌∙◌, ap, subst, arith}
-use Rattle.save_bytes.specs.Cells.{Cell}
-use Rattle.save_disk.specs.Trace.{Write, Sync}
+use Rattle.std.proofs.Common.{◌≡◌, ℕ, ◌+◌, ◌-◌, ◌*◌, ◌≤◌, true, false, List, [], ◌∷◌, Some, IfSome, refl, sym, ◌∙◌, arith}
+use Rattle.save_disk.specs.Trace.{Write}
 use Rattle.save_disk.specs.Stops.{CrashMayLeave}
 use Rattle.save_disk.specs.Keeps.{HoldsAll, Keeps, EachStop}
 use Rattle.save_disk.proofs.Events.{one_write}
-use Rattle.save_disk.proofs.Kept.{synced_keeps, keeps_more}
+use Rattle.save_disk.proofs.Kept.{synced_keeps}
 use Rattle.save_disk.proofs.Commits.{held_leaves, stops-map}
-use Rattle.container_header.specs.Conditions.{reading as header_reading}
-use Rattle.container_header.specs.Sound.{active_at}
 use Rattle.container_header.proofs.HeaderRead.{reading-ok}
 use Rattle.part_store.specs.declared.part.Part.{Part}
-use Rattle.container.specs.declared.open.Container.{Container}
 use Rattle.container.specs.Parts.{part_at}
 use Rattle.container.specs.Containers.{IsOpenOf}
 use Rattle.container.specs.ImageCells.{AreImageCells}
@@ -29,9 +25,9 @@ fresh grain image = synced_keeps (live_places image) grain image [] (λ s b has.
 
 module _ (grain : ℕ) (some : 1 ≤ grain) where
   pub opens_at_each_stop : OpensAtEachStop grain
-  opens_at_each_stop tag_of demands image sector bytes first old holds new =
+  opens_at_each_stop sign image sector bytes first old holds new =
       commit_opens image grain image [] some (fresh grain image) (Write sector bytes ∷ []) 0 first
-      (one_write (HoldsAll (live_places image) grain image) sector bytes holds) tag_of demands old new
+      (one_write (HoldsAll (live_places image) grain image) sector bytes holds) sign old new
 
   -- after one write that holds the live bytes
   after_write : (image left : List ℕ) (sector : ℕ) (bytes : List ℕ) → HoldsAll (live_places image) grain image sector bytes
@@ -56,12 +52,14 @@ module _ (grain : ℕ) (some : 1 ≤ grain) where
       }
 
   pub has_cells_at_each_stop : HasCellsAtEachStop grain
-  has_cells_at_each_stop tag_of demands image container sector bytes cells opened first second holds are =
+  has_cells_at_each_stop sign image container sector bytes cells opened first second holds are =
       stops-map (SameLive image)
-      (λ left. IsOpenOf tag_of demands left container × AreImageCells left container.header container.parts cells)
+      (λ left. IsOpenOf sign left container × AreImageCells left container.header container.parts cells)
       grain image [] (Write sector bytes ∷ [])
-      (λ left same. (open_same image left same tag_of demands container opened,
-      cells_stay image left same tag_of demands container opened (internal left) cells are))
+      (λ left same. (
+        open_same image left same sign container opened,
+        cells_stay image left same sign container opened (internal left) cells are,
+      ))
       stops
     where
       stops : EachStop (SameLive image) grain image [] (Write sector bytes ∷ [])
@@ -90,5 +88,5 @@ module _ (grain : ℕ) (some : 1 ≤ grain) where
       let sound = (reading-ok image header is).sound in
       let back : sector * grain + offset - sector * grain ≡ offset = omega arith in
       let held = holds (sector * grain + offset) (omega (arith, end, sound.active_inside.ends))
-          (table_live image header is (sector * grain + offset) begin end) (omega arith) (omega (arith, short)) in
+      (table_live image header is (sector * grain + offset) begin end) (omega arith) (omega (arith, short)) in
       differs (rw back at held)

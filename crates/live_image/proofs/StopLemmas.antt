@@ -1,10 +1,11 @@
 -- What a stop leaves of an image whose live places are kept.
-use Rattle.std.proofs.Common.{◌≡◌, ◌⊎◌, ⊎_elim, inl, inr, ℕ, ◌≤◌, Bool, List, ◌++◌, length, sym, ◌∙◌, subst}
+use Rattle.std.proofs.Common.{◌≡◌, ◌⊎◌, ⊎_elim, inl, inr, ℕ, ◌≤◌, List, sym, ◌∙◌, subst}
 use Rattle.save_disk.specs.Trace.{Event}
-use Rattle.save_disk.specs.Stops.{CrashMayLeave, EachWrite, Fits}
+use Rattle.save_disk.specs.Stops.{CrashMayLeave, EachWrite}
 use Rattle.save_disk.specs.Keeps.{HoldsAll, Agree, Keeps, EachStop, committing, image_committed}
 use Rattle.save_disk.proofs.Kept.{kept_leaves}
 use Rattle.save_disk.proofs.Commits.{commit_leaves, stops-map}
+use Rattle.container.specs.Signers.{Signing}
 use Rattle.container.specs.Opens.{Opens}
 use Rattle.live_image.specs.Live.{live_places}
 use Rattle.live_image.specs.Same.{SameLive}
@@ -27,13 +28,13 @@ module _ (image : List ℕ) (grain : ℕ) (start : List ℕ) (events : List Even
         inr
         (commit_leaves (live_places image) image grain start events writes sector bytes some keeps holds moment fits left leaves)
 
-    pub commit_opens : (tag_of : List ℕ → List ℕ) (demands : Bool) → Opens tag_of demands image
-        → Opens tag_of demands (image_committed grain start events writes sector bytes)
-        → EachStop (Opens tag_of demands) grain start events (committing writes sector bytes)
-    commit_opens tag_of demands old new =
-        stops-map (λ left. SameLive image left ⊎ (left ≡ image_committed grain start events writes sector bytes)) (Opens tag_of demands)
+    pub commit_opens : (sign : Signing) → Opens sign image
+        → Opens sign (image_committed grain start events writes sector bytes)
+        → EachStop (Opens sign) grain start events (committing writes sector bytes)
+    commit_opens sign old new =
+        stops-map (λ left. SameLive image left ⊎ (left ≡ image_committed grain start events writes sector bytes)) (Opens sign)
         grain start events (committing writes sector bytes)
         (λ left. ⊎_elim
-        (λ (agrees : SameLive image left). (opens_same image left agrees tag_of demands).0 old)
-        (λ (made : left ≡ image_committed grain start events writes sector bytes). subst (Opens tag_of demands) (sym made) new))
+        (λ (agrees : SameLive image left). (opens_same image left agrees sign).0 old)
+        (λ (made : left ≡ image_committed grain start events writes sector bytes). subst (Opens sign) (sym made) new))
         commit_agrees

@@ -1,15 +1,14 @@
 -- What a partition's double-copy tree chooses hangs on its live places alone.
-use Rattle.std.proofs.Common.{◌≡◌, ℕ, ◌+◌, ◌*◌, ◌/◌, ◌^◌, ◌<◌, ◌≤◌, Bool, true, false, ◌||◌, refl, sym, ◌∙◌, ap, arith}
-use Rattle.std.proofs.lemmas.Bool.{or_left, or_right, lt-ltb}
-use Rattle.std.proofs.lemmas.Nat.{mod_below}
+use Rattle.std.proofs.Common.{◌≡◌, ℕ, ◌+◌, ◌*◌, ◌/◌, ◌^◌, ◌<◌, ◌≤◌, true, refl, arith}
+use Rattle.std.proofs.lemmas.Bool.{or_left, or_right}
 use Rattle.difi.specs.declared.places.LevelPlace.{LevelPlace}
 use Rattle.difi.specs.declared.descriptor.Difi.{Difi}
 use Rattle.difi.specs.Places.{blocks_of}
 use Rattle.difi.specs.Sound.{HasSoundLevels}
 use Rattle.difi.proofs.PlaceLemmas.{block_below}
-use Rattle.dpfs_tree.specs.Picks.{bit_of, copy_place, pick1, pick2, pick3, chosen}
+use Rattle.dpfs_tree.specs.Picks.{bit_of, copy_place, pick1, pick2, pick3}
 use Rattle.dpfs_tree.specs.SameLaws.{bit_of-same, bit_of-lt, word_inside, in_copy}
-use Rattle.live_image.specs.Live.{live_level, copy1, copy2, copy3, live_tree}
+use Rattle.live_image.specs.Live.{copy1, copy2, copy3, live_tree}
 use Rattle.live_image.proofs.LevelLemmas.{live_there, live_level-same}
 
 -- a partition inside an image of a length, sound for its own

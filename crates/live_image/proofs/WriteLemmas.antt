@@ -1,5 +1,5 @@
 -- What puts, seals and commits write is in the footprint.
-use Rattle.std.proofs.Common.{◌≡◌, ◌⊎◌, ⊎_elim, inl, inr, ℕ, zero, suc, ◌+◌, ◌-◌, ◌*◌, ◌/◌, ◌%◌, ◌^◌, ◌<◌, ◌≤◌, Bool, true, IsTrue, List, length, get_or, Ok, refl, sym, ◌∙◌, ap, subst, arith}
+use Rattle.std.proofs.Common.{◌≡◌, ⊎_elim, ℕ, ◌+◌, ◌-◌, ◌/◌, ◌^◌, ◌<◌, ◌≤◌, Bool, true, IsTrue, List, length, get_or, refl, sym, ◌∙◌, ap, subst, arith}
 use Rattle.std.proofs.lemmas.Bool.{cases_lt, lt-ltb, le-ltb}
 use Rattle.std.proofs.lemmas.Nat.{div-add-mod', mod_below}
 use Rattle.container_header.specs.declared.header.Header.{Header}
@@ -8,20 +8,18 @@ use Rattle.difi.specs.Places.{block_size, blocks_of}
 use Rattle.difi.specs.Contents.{view_size}
 use Rattle.difi.specs.Sound.{HasHashLevels}
 use Rattle.dpfs_tree.specs.declared.state.DpfsState.{DpfsState}
-use Rattle.dpfs_tree.specs.Picks.{copy_place, external_place}
-use Rattle.dpfs_tree.specs.Marks.{is_marked, place_by, other_place}
+use Rattle.dpfs_tree.specs.Picks.{bit_of, copy_place, pick1, external_place}
+use Rattle.dpfs_tree.specs.Marks.{is_marked, place_by, other_place, IsMadeForContents}
 use Rattle.dpfs_tree.specs.Held.{IsBeside}
-use Rattle.dpfs_tree.specs.Seals.{HasMark, SealWrites}
+use Rattle.dpfs_tree.specs.Seals.{bits_in, SealWrites}
 use Rattle.dpfs_tree.specs.SameLaws.{behind_level3}
+use Rattle.dpfs_tree.proofs.Level2Lemmas.{word_block, in_bits, marked_below}
 use Rattle.ivfc_tree.specs.Levels.{IsLevel, level_of}
 use Rattle.ivfc_tree.specs.Paths.{block_above, path_block}
 use Rattle.ivfc_tree.specs.Held.{IsOnPath}
 use Rattle.ivfc_tree.specs.ViewLaws.{level4_size, level4_log}
 use Rattle.container.specs.Openings.{partition_of}
-use Rattle.live_image.specs.Live.{copy2, copy3}
-use Rattle.live_image.specs.Same.{HasPart, external_at}
-use Rattle.live_image.specs.Footprint.{IsMet, HasMetBit, MayWriteIn, Bits1, Bits2, Contents, External, MayWrite, Front, Table, InPart, write_footprint}
-use Rattle.live_image.proofs.ImageLemmas.{placed}
+use Rattle.live_image.specs.Footprint.{IsMet, MayWriteIn, Bits1, Bits2, Contents, External, MayWrite, Front, Table, InPart, write_footprint}
 use Rattle.live_image.proofs.CellLemmas.{upper_inside, external_behind}
 
 -- a place lies in its sector
@@ -108,19 +106,25 @@ module _ (image : List ℕ) (header : Header) (part : ℕ) (difi : Difi) (blocks
         (cases_lt y difi.dpfs3.size)
 
   -- a seal of marks of such blocks
-  pub seal_writes : (state : DpfsState) → state.selector ≡ difi.selector
+  pub seal_writes : (state : DpfsState) → IsMadeForContents difi state → 2 ≤ difi.dpfs2.log → state.selector ≡ difi.selector
       → ((block : ℕ) → block < blocks_of difi.dpfs3 → is_marked state.touched.items block ≡ true → IsMet difi blocks block)
       → (place : ℕ) → SealWrites (λ x. get_or image x 0) (partition_of header part).at difi state place
       → MayWriteIn image header part difi blocks place
-  seal_writes state selector marks place writes =
+  seal_writes state made least selector marks place writes =
+      let part_at = (partition_of header part).at in
+      let bytes : ℕ → ℕ = λ y. get_or image y 0 in
       ⊎_elim
       (λ (first : (x : ℕ) × (x < difi.dpfs1.size) × (place ≡ copy_place (partition_of header part).at difi.dpfs1 (1 - state.selector) x)).
       Bits1 first.0 first.1 (rw selector at first.2))
-      (λ second.
-      let bit = second.2 in
-      Bits2 second.0 second.1
-      (record { bit = bit.0; met = marks bit.0 bit.1 bit.2; there = bit.3 })
-      (rw selector at second.3))
+      (λ (block, (x, inside, here, (k, within, marked), is)).
+      Bits2 x inside
+      (record {
+        bit = k;
+        met = marks k (omega (arith, marked_below state.touched.items k marked, made.marks)) marked;
+        there = word_block k difi.dpfs2.log least ∙ in_bits (bits_in difi) block k within ∙ sym here;
+      })
+      (is ∙ ap (λ (s : ℕ). copy_place part_at difi.dpfs2 (1 - bit_of (pick1 bytes part_at difi s) block) x) selector
+      ∙ ap (λ (b : ℕ). copy_place part_at difi.dpfs2 (1 - bit_of (pick1 bytes part_at difi difi.selector) b) x) (sym here)))
       writes
 
 -- more blocks

@@ -1,9 +1,10 @@
 -- Small traces over an image, and what a stop leaves of it.
-use Rattle.std.specs.Prelude.{◌≡◌, ◌≢◌, ℕ, ◌+◌, ◌-◌, ◌*◌, ◌<◌, ◌≤◌, Bool, true, false, List, [], ◌∷◌, length, slice_index, IfSome, Ok}
+use Rattle.std.specs.Prelude.{◌≡◌, ◌≢◌, ℕ, ◌+◌, ◌*◌, ◌<◌, ◌≤◌, false, List, [], ◌∷◌, slice_index, IfSome, Ok}
 use Rattle.save_bytes.specs.Cells.{Cell}
-use Rattle.save_disk.specs.Trace.{Event, Write, Sync, image_after}
-use Rattle.save_disk.specs.Stops.{CrashMayLeave, EachWrite, Fits}
+use Rattle.save_disk.specs.Trace.{Write, Sync, image_after}
+use Rattle.save_disk.specs.Stops.{CrashMayLeave}
 use Rattle.save_disk.specs.Keeps.{HoldsAll, EachStop}
+use Rattle.container.specs.Signers.{Signing}
 use Rattle.container_header.specs.declared.header.Header.{Header}
 use Rattle.container_header.specs.Conditions.{reading as header_reading}
 use Rattle.container_header.specs.Sound.{active_at}
@@ -18,10 +19,10 @@ use Rattle.live_image.specs.Same.{SameLive}
 -- the image opens at the start and at the end, each image that a stop may leave opens
 abbrev pub OpensAtEachStop : ℕ → Type 0
 OpensAtEachStop grain =
-    (tag_of : List ℕ → List ℕ) (demands : Bool) (image : List ℕ) (sector : ℕ) (bytes first : List ℕ) → Opens tag_of demands image
+    (sign : Signing) (image : List ℕ) (sector : ℕ) (bytes first : List ℕ) → Opens sign image
     → HoldsAll (live_places image) grain image sector bytes
-    → Opens tag_of demands (image_after grain image (Write sector bytes ∷ Write 0 first ∷ []))
-    → EachStop (Opens tag_of demands) grain image [] (Write sector bytes ∷ Sync ∷ Write 0 first ∷ Sync ∷ [])
+    → Opens sign (image_after grain image (Write sector bytes ∷ Write 0 first ∷ []))
+    → EachStop (Opens sign) grain image [] (Write sector bytes ∷ Sync ∷ Write 0 first ∷ Sync ∷ [])
 
 -- a sector is written, and the disk stops; what it left is written again, and the disk stops again
 abbrev pub IsLiveAfterTwoStops : ℕ → Type 0
@@ -33,11 +34,11 @@ IsLiveAfterTwoStops grain =
 -- a sector is written, and a stop leaves an image that has the same cells, where no level four is external
 abbrev pub HasCellsAtEachStop : ℕ → Type 0
 HasCellsAtEachStop grain =
-    (tag_of : List ℕ → List ℕ) (demands : Bool) (image : List ℕ) (container : Container) (sector : ℕ) (bytes : List ℕ) (cells : ℕ → Cell)
-    → IsOpenOf tag_of demands image container → container.parts.first.difi.external ≡ false
+    (sign : Signing) (image : List ℕ) (container : Container) (sector : ℕ) (bytes : List ℕ) (cells : ℕ → Cell)
+    → IsOpenOf sign image container → container.parts.first.difi.external ≡ false
     → IfSome container.parts.second (λ part. part.difi.external ≡ false)
     → HoldsAll (live_places image) grain image sector bytes → AreImageCells image container.header container.parts cells
-    → EachStop (λ left. IsOpenOf tag_of demands left container × AreImageCells left container.header container.parts cells)
+    → EachStop (λ left. IsOpenOf sign left container × AreImageCells left container.header container.parts cells)
     grain image [] (Write sector bytes ∷ [])
 
 -- a write that changes a byte of the active table does not have the live bytes

@@ -8,7 +8,7 @@ ghost use Rattle.difi.specs.declared.descriptor.Difi.{Difi};
 ghost use Rattle.difi.specs.Places.{block_size, blocks_of};
 ghost use Rattle.difi.specs.Contents.{view_size};
 ghost use Rattle.dpfs_tree.specs.declared.state.DpfsState.{DpfsState};
-ghost use Rattle.dpfs_tree.specs.Marks.{is_marked, other_place};
+ghost use Rattle.dpfs_tree.specs.Marks.{is_marked, other_place, IsMadeForContents};
 ghost use Rattle.dpfs_tree.specs.Held.{IsBeside};
 ghost use Rattle.dpfs_tree.specs.Seals.{SealWrites};
 ghost use Rattle.ivfc_tree.specs.Levels.{IsLevel, level_of};
@@ -43,7 +43,7 @@ pub fn a_put_writes_where_it_may()
 /// or one above them.
 pub fn a_seal_writes_where_it_may()
     ensures { (image : List ℕ) (blocks : ℕ → ℕ → Bool) (header : Header) (part : ℕ) (difi : Difi) → HasPart image header part difi
-        → (state : DpfsState) → state.selector ≡ difi.selector
+        → (state : DpfsState) → IsMadeForContents difi state → state.selector ≡ difi.selector
         → ((block : ℕ) → block < blocks_of difi.dpfs3 → is_marked state.touched.items block ≡ true → IsMet difi (blocks part) block)
         → (place : ℕ) → SealWrites (λ x. slice_index image x) (partition_of header part).at difi state place
         → MayWrite image blocks place }

@@ -3,6 +3,7 @@
 
 ghost use Rattle.std.specs.Prelude.{◌≡◌, ◌↔◌, ◌<◌, ◌≤◌, ◌/◌, ℕ, Bool, List, true, false, Some};
 ghost use Rattle.save_bytes.specs.Cells.{Cell};
+ghost use Rattle.container.specs.Signers.{Signing};
 ghost use Rattle.container_header.specs.declared.header.Header.{Header};
 ghost use Rattle.container_header.specs.Conditions.{reading as header_reading};
 ghost use Rattle.difi.specs.declared.descriptor.Difi.{Difi};
@@ -32,10 +33,10 @@ pub fn header_and_parts_stay()
 
 /// Under any signer it opens where the other one does, and else has the same fault.
 pub fn opening_stays()
-    ensures opens { (image other : List ℕ) → SameLive image other → (tag_of : List ℕ → List ℕ) (demands : Bool)
-        → (Opens tag_of demands image ↔ Opens tag_of demands other) }
-    ensures fault { (image other : List ℕ) → SameLive image other → (tag_of : List ℕ → List ℕ) (demands : Bool)
-        → fault_of tag_of demands other ≡ fault_of tag_of demands image }
+    ensures opens { (image other : List ℕ) → SameLive image other → (sign : Signing)
+        → (Opens sign image ↔ Opens sign other) }
+    ensures fault { (image other : List ℕ) → SameLive image other → (sign : Signing)
+        → fault_of sign other ≡ fault_of sign image }
 {}
 
 /// The chosen contents of each part are the same, and what the hash paths of IVFC levels 1 to 3 come to.
@@ -74,10 +75,10 @@ pub fn external_blocks_stay()
 /// A container that holds what opening the one image comes to holds what opening the other one does. Its store has the
 /// same cells, where the images agree on each block of an external level four besides.
 pub fn containers_stay()
-    ensures opened { (image other : List ℕ) → SameLive image other → (tag_of : List ℕ → List ℕ) (demands : Bool) (container : Container)
-        → IsOpenOf tag_of demands image container → IsOpenOf tag_of demands other container }
-    ensures cells { (image other : List ℕ) → SameLive image other → (tag_of : List ℕ → List ℕ) (demands : Bool) (container : Container)
-        → IsOpenOf tag_of demands image container
+    ensures opened { (image other : List ℕ) → SameLive image other → (sign : Signing) (container : Container)
+        → IsOpenOf sign image container → IsOpenOf sign other container }
+    ensures cells { (image other : List ℕ) → SameLive image other → (sign : Signing) (container : Container)
+        → IsOpenOf sign image container
         → ((number : ℕ) (part : Part) → part_at container.parts number ≡ Some part → part.difi.external ≡ true
         → (block : ℕ) → SameBlock image other container.header number part.difi block)
         → (cells : ℕ → Cell) → AreImageCells image container.header container.parts cells

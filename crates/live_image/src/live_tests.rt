@@ -2,7 +2,7 @@
 
 ghost use Rattle.std.specs.Prelude.{◌≡◌, ◌+◌, ◌*◌, ◌/◌, ◌^◌, ◌<◌, ◌≤◌, length, slice_index, Ok, IfOk};
 ghost use Rattle.container_header.specs.Conditions.{reading as header_reading};
-ghost use Rattle.container_header.specs.Sound.{IsHeaderOf, IsDescriptor};
+ghost use Rattle.container_header.specs.Sound.{IsHeaderOf, IsDescriptorPlace};
 ghost use Rattle.difi.specs.Places.{blocks_of};
 ghost use Rattle.dpfs_tree.specs.Picks.{bit_of, pick1, pick2};
 ghost use Rattle.container.specs.Openings.{active_table, descriptor_of, partition_of, part_reading};

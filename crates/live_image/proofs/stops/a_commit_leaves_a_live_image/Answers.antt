@@ -6,5 +6,5 @@ returns-clause-agrees c = λ image grain start events writes sector bytes some k
     commit_agrees image grain start events some keeps writes sector bytes holds
 
 pub returns-clause-opens : goal.returns-clause-opens
-returns-clause-opens c = λ tag_of demands image grain start events writes sector bytes some keeps holds old new.
-    commit_opens image grain start events some keeps writes sector bytes holds tag_of demands old new
+returns-clause-opens c = λ sign image grain start events writes sector bytes some keeps holds old new.
+    commit_opens image grain start events some keeps writes sector bytes holds sign old new

@@ -6,5 +6,5 @@ pub returns-clause-agrees : goal.returns-clause-agrees
 returns-clause-agrees c = stop_agrees
 
 pub returns-clause-opens : goal.returns-clause-opens
-returns-clause-opens c = λ tag_of demands image grain start events some keeps opens left leaves.
-    (opens_same image left (stop_agrees image grain start events some keeps left leaves) tag_of demands).0 opens
+returns-clause-opens c = λ sign image grain start events some keeps opens left leaves.
+    (opens_same image left (stop_agrees image grain start events some keeps left leaves) sign).0 opens
