@@ -5,3 +5,5 @@ pub mod RunLemmas
 pub mod PutLemmas
 pub mod BehindLemmas
 pub mod PieceLemmas
+pub mod LaidLemmas
+pub mod LaidHeldLemmas

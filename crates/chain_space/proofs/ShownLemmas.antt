@@ -131,12 +131,12 @@ module _ (block : ℕ) (some : 0 < block) where
   block_inside at blocks inside = (div-lt_iff_lt-mul {k = block} {x = at} {y = blocks} some).1 inside
 
   -- the k-th byte behind one of a block
-  step_div : (at k : ℕ) → (at + k) / block ≡ at / block + (at % block + k) / block
+  pub step_div : (at k : ℕ) → (at + k) / block ≡ at / block + (at % block + k) / block
   step_div at k =
       let whole : at + k ≡ at / block * block + (at % block + k) = omega (arith, div-add-mod' at block) in
       rw whole (mul-add-div_right some (at / block) (at % block + k))
 
-  step_mod : (at k : ℕ) → (at + k) % block ≡ (at % block + k) % block
+  pub step_mod : (at k : ℕ) → (at + k) % block ≡ (at % block + k) % block
   step_mod at k =
       let whole : at + k ≡ at / block * block + (at % block + k) = omega (arith, div-add-mod' at block) in
       rw whole (mul-add-mod_self_right (at / block) block (at % block + k))

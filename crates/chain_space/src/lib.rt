@@ -2,9 +2,11 @@
 #![tactic(auto)]
 
 mod behind;
+mod laid;
 mod space;
 
 pub use behind::ChainSpace;
+pub use laid::BlocksSpace;
 
 #[cfg(test)]
 mod tests;

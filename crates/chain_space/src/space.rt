@@ -1,6 +1,7 @@
 //! A space behind which the bytes of a chain's blocks lie once more.
 
-ghost use Rattle.std.specs.Prelude.{◌≡◌, ℕ, ◌+◌, ◌-◌, ◌*◌, ◌^◌, ◌<◌, ◌≤◌, IsTrue, IsFalse, List, length, take, IfOk, IfSome, IsSomeAnd, MatchResult, Some, None};
+ghost use Rattle.std.specs.Prelude.{◌≡◌, ℕ, ◌+◌, ◌-◌, ◌*◌, ◌^◌, ◌<◌, ◌≤◌, IsTrue, IsFalse, List, length, take};
+ghost use Rattle.std.specs.Prelude.{IfOk, IfSome, IsSomeAnd, MatchResult, Some, None};
 ghost use Rattle.std.specs.Result.{result_err};
 ghost use Rattle.save_bytes.specs.Cells.{IsUnspoilt};
 ghost use Rattle.save_bytes.specs.State.{IsInside, IsWritable, CanPut};

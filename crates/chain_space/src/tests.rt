@@ -1,4 +1,7 @@
-ghost use Rattle.std.specs.Prelude.{◌≡◌, ◌+◌, ◌*◌, ◌≤◌, length};
+ghost use Rattle.std.specs.Prelude.{◌≡◌, ℕ, ◌+◌, ◌*◌, ◌<◌, ◌≤◌, length, slice_index};
+ghost use Rattle.std.specs.Result.{result_err};
+ghost use Rattle.save_bytes.specs.Reads.{Reads};
+ghost use Rattle.chain_space.specs.Laid.{extra_of, CanLay};
 
 use super::*;
 use chain_nodes::{ChainInfo, FLAG};
@@ -91,4 +94,58 @@ fn nothing_is_put_where_the_chain_is_broken(rt: HostRuntime) -> Result<(), Fail>
     assert_eq!(rt; bytes, before);
     assert!(rt; shown_bytes(&mut bytes, &mut out).is_ok());
     Ok(())
+}
+
+// Reads bytes through a space behind which some of its blocks lie once more. For its base this is a call that reads.
+fn copy_laid<S: Space>(
+    base: &mut S,
+    region_at: u64,
+    block: u32,
+    blocks: &[u32],
+    at: u64,
+    out: &mut [u8],
+) -> Result<(), Bad>
+    requires room { CanLay (extra_of region_at block blocks.now) (S.state base.old).shape }
+    requires inside { at + length out.old ≤ (S.state base.old).shape.size + length blocks.now * block }
+    ensures reads { Reads S.state S.keeps S.lands base.old base.new (result_err result) }
+{
+    let mut space = BlocksSpace::new(base, region_at, block, blocks);
+    space_copy(&mut space, at, out)
+}
+
+// Puts bytes into a space behind which some of its blocks lie once more.
+fn put_laid_bytes(bytes: &mut [u8], blocks: &[u32], at: u64, put: &[u8]) -> Result<u64, Bad>
+    requires bytes { length bytes.old ≡ 116 }
+    requires blocks { (k : ℕ) → k < length blocks.now → slice_index blocks.now k < 9 }
+    requires few { length blocks.now ≤ 9 }
+    requires inside { at + length put.now ≤ 116 + length blocks.now * 4 }
+    ensures len { length bytes.new ≡ 116 }
+{
+    let mut memory = MemSpace::new(bytes, 16);
+    let mut space = BlocksSpace::new(&mut memory, 80, 4, blocks);
+    space.ready(at, put.len() as u64)?;
+    space.put(at, put)?;
+    Ok(space.len())
+}
+
+#[test]
+fn the_blocks_of_a_list_lie_behind_their_space(rt: HostRuntime) -> Result<(), Fail> {
+    let mut bytes = two_nodes();
+    let mut memory = MemSpace::new(&mut bytes, 16);
+    let mut out = [0; 14];
+    assert!(rt; copy_laid(&mut memory, 80, 4, &[8, 2, 3], 114, &mut out).is_ok());
+    assert_eq!(rt; out, [8, 8, 8, 8, 8, 8, 2, 2, 2, 2, 3, 3, 3, 3]);
+    let mut end = [0; 2];
+    assert!(rt; copy_laid(&mut memory, 80, 4, &[], 114, &mut end).is_ok());
+    assert_eq!(rt; end, [8, 8]);
+    Ok(())
+}
+
+#[test]
+fn a_byte_put_behind_a_space_shows_in_its_block(rt: HostRuntime) {
+    let mut bytes = two_nodes();
+    // The last two bytes of block 8 and the first two of block 2, behind the space.
+    assert!(rt; put_laid_bytes(&mut bytes, &[8, 2], 118, &[91, 92, 93, 94]) == Ok(124));
+    assert_eq!(rt; &bytes[112..116], [8, 8, 91, 92].as_slice());
+    assert_eq!(rt; &bytes[88..92], [93, 94, 2, 2].as_slice());
 }

@@ -1,0 +1,21 @@
+use Rattle.std.proofs.Common.{◌-◌, ◌≤◌, None, length, take}
+use Rattle.save_bytes.specs.Answers.{IsReady}
+use Rattle.save_bytes.specs.Puts.{Puts}
+use Rattle.save_bytes.specs.Spots.{MovesOnly}
+use Rattle.chain_space.specs.Laid.{extra_of, laid_state, LaidLands}
+use Rattle.chain_space.proofs.laid.put_laid.Given as goal
+
+abbrev pub invariant-loop-done : goal.invariant-loop-done
+invariant-loop-done g l =
+    let extra = extra_of l.region_at l.block l.blocks in
+    let was = laid_state extra (g.S.Space.state l.fn.base) in
+    record {
+      within : l.done ≤ length l.bytes;
+      ready : IsReady was l.at (length l.bytes) None;
+      puts : Puts was l.at (take l.done l.bytes) (laid_state extra (g.S.Space.state l.base)) None;
+      moves : MovesOnly g.S.Space.keeps (LaidLands g.S.Space.state g.S.Space.lands extra) was l.fn.base l.at l.done
+          l.base None;
+    }
+
+abbrev pub decreases-loop-done : goal.decreases-loop-done
+decreases-loop-done g l = length l.initial.bytes - l.done
