@@ -8,7 +8,8 @@ ghost use Rattle.chain_nodes.specs.declared.node.Lead.TheVariants.{Opens, OpensF
 ghost use Rattle.chain_nodes.specs.Table.{index_of, word_v, HasAllocationTable, IsEntry};
 ghost use Rattle.chain_nodes.specs.Chains.{IsLinkedBy, IsChain, IsFreeList};
 ghost use Rattle.chain_nodes.specs.Faults.{FailsAt, IsBroken, IsFreeBroken, IsFreeNeeded, refusal_of, FaultsOnly};
-ghost use Rattle.chain_nodes.specs.Runs.{IsListPlace, HasLength, IsAtEnd, HasPosition, DoneUnlessDisk, IsRunIn, IsRestOfNode};
+ghost use Rattle.chain_nodes.specs.Runs.{IsListPlace, HasLength, IsAtEnd, HasPosition, DoneUnlessDisk, IsRunIn};
+ghost use Rattle.chain_nodes.specs.Runs.{IsRestOfNode};
 ghost use Rattle.alloc_chain.specs.Held.{below, table_of, IsChainOver, SameChain};
 
 use crate::lists::{chain_len, chain_run, free_len, free_start, next_run};
@@ -38,7 +39,8 @@ impl<'a, S: Space> Chain<'a, S> {
             → IfOk result (HasLength table self.old.info.count OpensFree (index_of (word_v table 0))) }
         ensures small { IfOk result (λ n. n ≤ self.old.info.count) }
         ensures exact { IsTrue (below S.state self.old).told → (list : List ℕ)
-            → IsFreeList (table_of S.state self.old) self.old.info.count list → DoneUnlessDisk result (λ n. n ≡ length list) }
+            → IsFreeList (table_of S.state self.old) self.old.info.count list
+            → DoneUnlessDisk result (λ n. n ≡ length list) }
         ensures faults { let table = table_of S.state self.old in
             FaultsOnly (below S.state self.old) self.old.info (IsFreeBroken table self.old.info.count)
             (IsFreeNeeded table self.old.info.count) (result_err result) }
@@ -56,7 +58,8 @@ impl<'a, S: Space> Chain<'a, S> {
             → IfOk result (HasLength (table_of S.state self.old) self.old.info.count Opens first) }
         ensures small { IfOk result (λ n. n ≤ self.old.info.count) }
         ensures exact { IsTrue (below S.state self.old).told → (list : List ℕ)
-            → IsChain (table_of S.state self.old) self.old.info.count first list → DoneUnlessDisk result (λ n. n ≡ length list) }
+            → IsChain (table_of S.state self.old) self.old.info.count first list
+            → DoneUnlessDisk result (λ n. n ≡ length list) }
         ensures faults { let table = table_of S.state self.old in FaultsOnly (below S.state self.old) self.old.info
             (λ e. IsEntry self.old.info.count first → IsBroken table self.old.info.count Opens first e)
             (FailsAt table self.old.info.count Opens first) (result_err result) }
@@ -121,18 +124,22 @@ impl<'a, S: Space> Chain<'a, S> {
         ensures passed { IfOk result (λ step. step.1.passed ≡ cursor.passed + step.0.len) }
         ensures bounded { IfOk result (λ step. step.1.passed ≤ self.old.info.count) }
         ensures place { let table = table_of S.state self.old in IsTrue (below S.state self.old).told
-            → IsListPlace table self.old.info.count cursor → IfOk result (λ step. IsListPlace table self.old.info.count step.1) }
+            → IsListPlace table self.old.info.count cursor
+            → IfOk result (λ step. IsListPlace table self.old.info.count step.1) }
         ensures run { let table = table_of S.state self.old in IsTrue (below S.state self.old).told
             → IsListPlace table self.old.info.count cursor
-            → IfOk result (λ step. IsRestOfNode table self.old.info.count cursor.opens cursor.first cursor.passed step.0) }
+            → IfOk result
+            (λ step. IsRestOfNode table self.old.info.count cursor.opens cursor.first cursor.passed step.0) }
         ensures exact { IsTrue (below S.state self.old).told
             → IsListPlace (table_of S.state self.old) self.old.info.count cursor → (list : List ℕ)
             → IsLinkedBy (table_of S.state self.old) self.old.info.count cursor.opens cursor.first list
             → IsDistinct nat_eq list
             → DoneUnlessDisk result (λ step. IsRunIn list cursor.passed step.0) }
         ensures faults { let table = table_of S.state self.old in FaultsOnly (below S.state self.old) self.old.info
-            (λ e. IsListPlace table self.old.info.count cursor → IsBroken table self.old.info.count cursor.opens cursor.first e)
-            (λ e. IsListPlace table self.old.info.count cursor → FailsAt table self.old.info.count cursor.opens cursor.first e)
+            (λ e. IsListPlace table self.old.info.count cursor
+            → IsBroken table self.old.info.count cursor.opens cursor.first e)
+            (λ e. IsListPlace table self.old.info.count cursor
+            → FailsAt table self.old.info.count cursor.opens cursor.first e)
             (result_err result) }
         ensures reads { Reads S.state S.keeps S.lands self.old.base.now self.new.base.now (refusal_of (result_err result)) }
         ensures same { SameChain self.old self.new }

@@ -8,7 +8,8 @@ ghost use Rattle.chain_nodes.specs.declared.node.Lead.TheVariants.{Opens, OpensF
 ghost use Rattle.chain_nodes.specs.Table.{table_in, index_of, word_v, HasWords, HasFault, HasAllocationTable, IsEntry};
 ghost use Rattle.chain_nodes.specs.Chains.{IsLinkedBy, IsChain, IsFreeList};
 ghost use Rattle.chain_nodes.specs.Faults.{FailsAt, IsBroken, IsFreeBroken, IsFreeNeeded, refusal_of, FaultsOnly};
-ghost use Rattle.chain_nodes.specs.Runs.{IsListPlace, IsAtEnd, HasLength, HasPosition, DoneUnlessDisk, IsRunIn, IsRestOfNode};
+ghost use Rattle.chain_nodes.specs.Runs.{IsListPlace, IsAtEnd, HasLength, HasPosition, DoneUnlessDisk, IsRunIn};
+ghost use Rattle.chain_nodes.specs.Runs.{IsRestOfNode};
 
 use chain_nodes::{
     ChainFault, ChainInfo, Cursor, FLAG, Lead, Run, advance, list_len, read_entry, seek,
@@ -63,7 +64,8 @@ pub(crate) fn free_len<S: Space>(base: &mut S, info: ChainInfo) -> Result<u32, C
         → IfOk result (HasLength table info.count OpensFree (index_of (word_v table 0))) }
     ensures small { IfOk result (λ n. n ≤ info.count) }
     ensures exact { IsTrue (S.state base.old).told → (list : List ℕ)
-        → IsFreeList (table_in (S.state base.old).cells info) info.count list → DoneUnlessDisk result (λ n. n ≡ length list) }
+        → IsFreeList (table_in (S.state base.old).cells info) info.count list
+        → DoneUnlessDisk result (λ n. n ≡ length list) }
     ensures faults { let table = table_in (S.state base.old).cells info in
         FaultsOnly (S.state base.old) info (IsFreeBroken table info.count) (IsFreeNeeded table info.count) (result_err result) }
     ensures reads { Reads S.state S.keeps S.lands base.old base.new (refusal_of (result_err result)) }
@@ -86,7 +88,8 @@ pub(crate) fn chain_len<S: Space>(
         → IfOk result (HasLength (table_in (S.state base.old).cells info) info.count Opens first) }
     ensures small { IfOk result (λ n. n ≤ info.count) }
     ensures exact { IsTrue (S.state base.old).told → (list : List ℕ)
-        → IsChain (table_in (S.state base.old).cells info) info.count first list → DoneUnlessDisk result (λ n. n ≡ length list) }
+        → IsChain (table_in (S.state base.old).cells info) info.count first list
+        → DoneUnlessDisk result (λ n. n ≡ length list) }
     ensures faults { let table = table_in (S.state base.old).cells info in FaultsOnly (S.state base.old) info
         (λ e. IsEntry info.count first → IsBroken table info.count Opens first e)
         (FailsAt table info.count Opens first) (result_err result) }
@@ -111,9 +114,11 @@ pub(crate) fn chain_run<S: Space>(
     ensures run { IsTrue (S.state base.old).told
         → IfOk result (IsRestOfNode (table_in (S.state base.old).cells info) info.count Opens first pos) }
     ensures exact { IsTrue (S.state base.old).told → (list : List ℕ)
-        → IsChain (table_in (S.state base.old).cells info) info.count first list → pos < length list → DoneUnlessDisk result (IsRunIn list pos) }
+        → IsChain (table_in (S.state base.old).cells info) info.count first list → pos < length list
+        → DoneUnlessDisk result (IsRunIn list pos) }
     ensures faults { let table = table_in (S.state base.old).cells info in FaultsOnly (S.state base.old) info
-        (λ e. IsEntry info.count first → HasPosition table info.count Opens first pos → IsBroken table info.count Opens first e)
+        (λ e. IsEntry info.count first → HasPosition table info.count Opens first pos
+        → IsBroken table info.count Opens first e)
         (FailsAt table info.count Opens first) (result_err result) }
     ensures reads { Reads S.state S.keeps S.lands base.old base.new (refusal_of (result_err result)) }
 {
@@ -152,7 +157,8 @@ pub(crate) fn next_run<S: Space>(
         → DoneUnlessDisk result (λ step. IsRunIn list cursor.passed step.0) }
     ensures faults { let table = table_in (S.state base.old).cells info in FaultsOnly (S.state base.old) info
         (λ e. IsListPlace table info.count cursor → IsBroken table info.count cursor.opens cursor.first e)
-        (λ e. IsListPlace table info.count cursor → FailsAt table info.count cursor.opens cursor.first e) (result_err result) }
+        (λ e. IsListPlace table info.count cursor → FailsAt table info.count cursor.opens cursor.first e)
+        (result_err result) }
     ensures reads { Reads S.state S.keeps S.lands base.old base.new (refusal_of (result_err result)) }
 {
     if !cursor.is_within(info.count) {

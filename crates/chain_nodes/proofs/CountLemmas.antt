@@ -1,5 +1,6 @@
 -- How many entries of some nodes lie between two numbers.
-use Rattle.std.proofs.Common.{◌≡◌, ℕ, zero, suc, ◌+◌, ◌-◌, ◌<◌, ◌≤◌, min, max, cond, ◌&&◌, eqb, leb, false, List, [], ◌∷◌, ◌++◌, length}
+use Rattle.std.proofs.Common.{◌≡◌, ℕ, zero, suc, ◌+◌, ◌-◌, ◌<◌, ◌≤◌, min, max, cond, ◌&&◌, eqb, leb, false, List, []}
+use Rattle.std.proofs.Common.{◌∷◌, ◌++◌, length}
 use Rattle.std.proofs.Common.{nat_eq, refl, sym, ◌∙◌, subst, arith, ⊎_elim, length-append}
 use Rattle.std.proofs.lemmas.Bool.{cases_lt, cases_eq, le-leb, eq-eqb, ne_eqb, false≢true}
 use Rattle.std.proofs.lemmas.Bool.Decides.{nat_tests}
@@ -27,26 +28,48 @@ hit_above : (low high y : ℕ) → high < y → hit low high y ≡ 0
 hit_above low high y h = grind (arith, nat_tests)
 
 -- between two numbers lie those up to a middle, and those behind it
-hit_split : (low middle high y : ℕ) → low ≤ middle → middle ≤ high → hit low high y ≡ hit low middle y + hit (middle + 1) high y
+hit_split : (low middle high y : ℕ) → low ≤ middle → middle ≤ high
+    → hit low high y ≡ hit low middle y + hit (middle + 1) high y
 hit_split low middle high y h k =
     ⊎_elim
-    (λ (below : y < low). rw (hit_below low high y below, hit_below low middle y below, hit_below (middle + 1) high y (omega arith)) refl)
+    (λ (below : y < low). rw (
+      hit_below low high y below,
+      hit_below low middle y below,
+      hit_below (middle + 1) high y
+          (omega arith),
+    ) refl)
     (λ (from : low ≤ y).
     ⊎_elim
     (λ (front : y < middle + 1).
     let up_to : y ≤ high = omega arith in
     let up_to_middle : y ≤ middle = omega arith in
-    rw (hit_inside low high y from up_to, hit_inside low middle y from up_to_middle, hit_below (middle + 1) high y front) refl)
+    rw (
+      hit_inside low high y from up_to,
+      hit_inside low middle y from up_to_middle,
+      hit_below
+          (middle + 1) high y front,
+    ) refl)
     (λ (back : middle + 1 ≤ y).
     let behind_middle : middle < y = omega arith in
     ⊎_elim
-    (λ (above : high < y). rw (hit_above low high y above, hit_above low middle y behind_middle, hit_above (middle + 1) high y above) refl)
-    (λ (up_to : y ≤ high). rw (hit_inside low high y from up_to, hit_above low middle y behind_middle, hit_inside (middle + 1) high y back up_to) refl)
+    (λ (above : high < y). rw (
+      hit_above low high y above,
+      hit_above low middle y behind_middle,
+      hit_above
+          (middle + 1) high y above,
+    ) refl)
+    (λ (up_to : y ≤ high). rw (
+      hit_inside low high y from up_to,
+      hit_above low middle y behind_middle,
+      hit_inside
+          (middle + 1) high y back up_to,
+    ) refl)
     (cases_lt high y))
     (cases_lt y (middle + 1)))
     (cases_lt y low)
 
-count_between-cons : (low high y : ℕ) (list : List ℕ) → count_between low high (y ∷ list) ≡ hit low high y + count_between low high list
+count_between-cons : (low high y : ℕ) (list : List ℕ) → count_between low high
+    (y ∷ list) ≡ hit low high y + count_between low high list
 count_between-cons low high y list = sum_by-cons (λ x. hit low high x) y list
 
 pub count_between-split : (low middle high : ℕ) (list : List ℕ) → low ≤ middle → middle ≤ high
@@ -67,12 +90,24 @@ pub count_between-none : (low high : ℕ) (list : List ℕ) → high < low → c
 count_between-none low high [] h = refl
 count_between-none low high (y ∷ list) h =
     ⊎_elim
-    (λ (below : y < low). omega (arith, count_between-cons low high y list, hit_below low high y below, count_between-none low high list h))
-    (λ (from : low ≤ y). omega (arith, count_between-cons low high y list, hit_above low high y (omega arith), count_between-none low high list h))
+    (λ (below : y < low). omega (
+      arith,
+      count_between-cons low high y list,
+      hit_below low high y below,
+      count_between-none low high list h,
+    ))
+    (λ (from : low ≤ y). omega (
+      arith,
+      count_between-cons low high y list,
+      hit_above low high y
+          (omega arith),
+      count_between-none low high list h,
+    ))
     (cases_lt y low)
 
 -- in a run
-hit_range : (low high a n : ℕ) → min (a + 1 + n) (high + 1) - max (a + 1) low + hit low high a ≡ min (a + suc n) (high + 1) - max a low
+hit_range : (low high a n : ℕ) → min (a + 1 + n) (high + 1) - max (a + 1) low + hit low high a ≡ min (a + suc n)
+    (high + 1) - max a low
 hit_range low high a n =
     ⊎_elim
     (λ (below : a < low). omega (arith, hit_below low high a below))
@@ -83,12 +118,20 @@ hit_range low high a n =
     (cases_lt high a))
     (cases_lt a low)
 
-pub count_between-range : (low high a n : ℕ) → count_between low high (range_with_len a n) ≡ min (a + n) (high + 1) - max a low
+pub count_between-range : (low high a n : ℕ) → count_between low high (range_with_len a n) ≡ min (a + n)
+    (high + 1) - max a low
 count_between-range low high a zero = omega arith
 count_between-range low high a (suc n) =
-    omega (arith, hit_range low high a n, count_between-range low high (a + 1) n, count_between-cons low high a (range_with_len (a + 1) n))
+    omega (
+      arith,
+      hit_range low high a n,
+      count_between-range low high (a + 1) n,
+      count_between-cons low high a
+          (range_with_len (a + 1) n),
+    )
 
-pub count_between-append : (low high : ℕ) (xs ys : List ℕ) → count_between low high (xs ++ ys) ≡ count_between low high xs + count_between low high ys
+pub count_between-append : (low high : ℕ) (xs ys : List ℕ) → count_between low high
+    (xs ++ ys) ≡ count_between low high xs + count_between low high ys
 count_between-append low high xs ys = sum_by-append (λ y. hit low high y) xs ys
 
 -- all entries of nodes lie in the table
@@ -120,14 +163,16 @@ hit_one x y =
 pub count_between-one : (x : ℕ) (list : List ℕ) → count_between x x list ≡ occurrences x list
 count_between-one x [] = refl
 count_between-one x (y ∷ list) =
-    let here : occurrences x (y ∷ list) ≡ cond (eqb y x) 1 0 + occurrences x list = sum_by-cons (λ z. cond (eqb z x) 1 0) y list in
+    let here : occurrences x (y ∷ list) ≡ cond (eqb y x) 1 0 + occurrences x list = sum_by-cons (λ z. cond
+    (eqb z x) 1 0) y list in
     omega (arith, hit_one x y, count_between-one x list, count_between-cons x x y list)
 
 -- a number that no element of a list equals has no place in it
 absent : (x : ℕ) (list : List ℕ) → AllByRecursion (λ y. nat_eq x y ≡ false) list → occurrences x list ≡ 0
 absent x [] none = refl
 absent x (y ∷ list) none =
-    let here : occurrences x (y ∷ list) ≡ cond (eqb y x) 1 0 + occurrences x list = sum_by-cons (λ z. cond (eqb z x) 1 0) y list in
+    let here : occurrences x (y ∷ list) ≡ cond (eqb y x) 1 0 + occurrences x list = sum_by-cons (λ z. cond
+    (eqb z x) 1 0) y list in
     let other : eqb y x ≡ false = ne_eqb y x (λ same. false≢true (sym none.0 ∙ eq-eqb x y (sym same))) in
     here ∙ rw (other, absent x list none.1) refl
 
@@ -136,7 +181,8 @@ pub distinct_once : (list : List ℕ) → IsDistinct nat_eq list → (x : ℕ) �
 unfolding IsDistinct
 distinct_once [] distinct x = omega arith
 distinct_once (y ∷ list) distinct x =
-    let here : occurrences x (y ∷ list) ≡ cond (eqb y x) 1 0 + occurrences x list = sum_by-cons (λ z. cond (eqb z x) 1 0) y list in
+    let here : occurrences x (y ∷ list) ≡ cond (eqb y x) 1 0 + occurrences x list = sum_by-cons (λ z. cond
+    (eqb z x) 1 0) y list in
     ⊎_elim
     (λ (below : y < x). omega (arith, here, hit_one x y, hit_below x x y below, distinct_once list distinct.1 x))
     (λ (from : x ≤ y).

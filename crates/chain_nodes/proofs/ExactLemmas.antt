@@ -1,5 +1,6 @@
 -- Where the table is as it should be, no call on a list fails but for the disk's sake.
-use Rattle.std.proofs.Common.{◌≡◌, ℕ, zero, suc, ◌+◌, ◌-◌, ◌^◌, ◌<◌, ◌≤◌, IsTrue, List, [], ◌∷◌, ◌++◌, length, Result, Ok, Err, IfOk, refl, sym, ◌∙◌}
+use Rattle.std.proofs.Common.{◌≡◌, ℕ, zero, suc, ◌+◌, ◌-◌, ◌^◌, ◌<◌, ◌≤◌, IsTrue, List, [], ◌∷◌, ◌++◌, length, Result}
+use Rattle.std.proofs.Common.{Ok, Err, IfOk, refl, sym, ◌∙◌}
 use Rattle.std.proofs.Common.{nat_eq, ap, subst, arith, inl, ⊎_elim, length-append}
 use Rattle.std.proofs.lemmas.List.{append-nil, get_or_append_left, get_or-append-add}
 use Rattle.std.proofs.lemmas.Bool.{cases_lt}
@@ -18,8 +19,10 @@ use Rattle.chain_nodes.specs.declared.node.Node.{Node}
 use Rattle.chain_nodes.specs.declared.node.Lead.{Lead}
 use Rattle.chain_nodes.specs.declared.node.Lead.TheVariants.{OpensFree, Follows}
 use Rattle.chain_nodes.specs.Table.{table_in, word_v, index_of, HasWords, HasFault}
-use Rattle.chain_nodes.specs.Chains.{IsInner, IsNode, start_of, AreNodes, lead_after, entries_of, occurrences, IsLinkedBy}
-use Rattle.chain_nodes.specs.Faults.{IsLong, IsHead, IsSecond, IsFaulty, FailsAt, IsShared, IsBroken, IsFreeBroken, IsFreeNeeded, FaultsOnly}
+use Rattle.chain_nodes.specs.Chains.{IsInner, IsNode, start_of, AreNodes, lead_after, entries_of, occurrences}
+use Rattle.chain_nodes.specs.Chains.{IsLinkedBy}
+use Rattle.chain_nodes.specs.Faults.{IsLong, IsHead, IsSecond, IsFaulty, FailsAt, IsShared, IsBroken, IsFreeBroken}
+use Rattle.chain_nodes.specs.Faults.{IsFreeNeeded, FaultsOnly}
 use Rattle.chain_nodes.specs.Faults.IsFaulty.{AtFirst, AtSecond, AtLast}
 use Rattle.chain_nodes.specs.Faults.IsBroken.{Unlike, Shared}
 use Rattle.chain_nodes.specs.Faults.IsFreeBroken.{AtRoot, InList}
@@ -27,7 +30,8 @@ use Rattle.chain_nodes.specs.Faults.IsFreeNeeded.{Root, Listed}
 use Rattle.chain_nodes.specs.Runs.{DoneUnlessDisk, IsRunIn, IsRestOfNode}
 use Rattle.chain_nodes.proofs.ListLemmas.{entries_of-append}
 use Rattle.chain_nodes.specs.Between.{count_between}
-use Rattle.chain_nodes.proofs.CountLemmas.{count_between-split, count_between-none, count_between-one, count_between-all, distinct_once}
+use Rattle.chain_nodes.proofs.CountLemmas.{count_between-split, count_between-none, count_between-one}
+use Rattle.chain_nodes.proofs.CountLemmas.{count_between-all, distinct_once}
 use Rattle.chain_nodes.proofs.FrontLemmas.{front_of, same_node, start_small}
 
 -- of numbers that stand once each there are no more than there are numbers
@@ -37,10 +41,17 @@ few_between (suc n) list once =
     let last : count_between (n + 1) (n + 1) list ≤ 1 = omega (arith, count_between-one (n + 1) list, once (n + 1)) in
     let all : count_between 1 (n + 1) list ≤ n + 1 =
     ⊎_elim
-    (λ (some : 0 < n). omega (arith, last, few_between n list once, count_between-split 1 n (n + 1) list (omega arith) (omega arith)))
+    (λ (some : 0 < n). omega (
+      arith,
+      last,
+      few_between n list once,
+      count_between-split 1 n (n + 1) list
+          (omega arith) (omega arith),
+    ))
     (λ (none : n ≤ 0).
     let zero_n : n ≡ 0 = omega arith in
-    let here : count_between 1 (n + 1) list ≤ 1 = subst (λ (m : ℕ). count_between (m + 1) (n + 1) list ≤ 1) zero_n last in
+    let here : count_between 1 (n + 1) list ≤ 1 = subst (λ (m : ℕ). count_between (m + 1)
+    (n + 1) list ≤ 1) zero_n last in
     omega (arith, here))
     (cases_lt 0 n) in
     let next : n + 1 ≡ suc n = omega arith in
@@ -61,14 +72,16 @@ module _ (table : ℕ → ℕ → Cell) (count : ℕ) (few : count < 2 ^ 31) whe
     next_small =
         ⊎_elim
         (λ (long : node.first < node.last). omega (arith, h.several long))
-        (λ (one : node.last ≤ node.first). (let same : node.first ≡ node.last = omega (arith, h.ordered) in omega (arith, h.single same)))
+        (λ (one : node.last ≤ node.first). (let same : node.first ≡ node.last = omega (arith, h.ordered) in omega
+        (arith, h.single same)))
         (cases_lt node.first node.last)
 
     has_more : IsLong table node.first → node.first < node.last
     has_more long =
         ⊎_elim
         (λ (more : node.first < node.last). more)
-        (λ (one : node.last ≤ node.first). (let same : node.first ≡ node.last = omega (arith, h.ordered) in absurd (omega (arith, h.single same))))
+        (λ (one : node.last ≤ node.first). (let same : node.first ≡ node.last = omega (arith, h.ordered) in absurd
+        (omega (arith, h.single same))))
         (cases_lt node.first node.last)
 
     head_of : IsHead table count lead node.first
@@ -83,7 +96,8 @@ module _ (table : ℕ → ℕ → Cell) (count : ℕ) (few : count < 2 ^ 31) whe
       inside = omega (arith, (h.second more).v, h.ends);
     }
 
-    last_of : node.first < node.last → (entry : ℕ) → entry ≡ word_v table (node.first + 1) → IsInner table (record { first = node.first; last = entry }) entry
+    last_of : node.first < node.last → (entry : ℕ) → entry ≡ word_v table (node.first + 1)
+        → IsInner table (record { first = node.first; last = entry }) entry
     last_of more entry is =
         let same : node.last ≡ entry = sym (h.second more).v ∙ sym is in
         subst (λ (l : ℕ). IsInner table (record { first = node.first; last = l }) l) same (h.last more)
@@ -98,7 +112,8 @@ module _ (table : ℕ → ℕ → Cell) (count : ℕ) (few : count < 2 ^ 31) whe
   start_in lead [] h = omega arith
   start_in lead (node ∷ nodes) h = omega (arith, h.0.ordered, h.0.ends)
 
-  no_more : (lead : Lead) (rest : List Node) → AreNodes table count lead rest 0 → start_of rest 0 ≡ 0 → entries_of rest ≡ []
+  no_more : (lead : Lead) (rest : List Node) → AreNodes table count lead rest 0 → start_of rest 0 ≡ 0
+      → entries_of rest ≡ []
   no_more lead [] h none = refl
   no_more lead (node ∷ nodes) h none = absurd (omega (arith, h.0.starts))
 
@@ -114,7 +129,11 @@ module _ (table : ℕ → ℕ → Cell) (count : ℕ) (few : count < 2 ^ 31) whe
   begins_with lead node next (x ∷ xs) named is_node h starts =
       let same = same_node table count lead node x next (start_of xs 0) (omega arith)
       (start_small table count (Follows x.first) xs 0 few (omega arith) h.1) is_node h.0 (sym starts) in
-      record { others = entries_of xs; whole = ap (λ (n : Node). range_with_len n.first (n.last + 1 - n.first) ++ entries_of xs) (sym same.node) }
+      record {
+        others = entries_of xs;
+        whole = ap (λ (n : Node). range_with_len n.first
+            (n.last + 1 - n.first) ++ entries_of xs) (sym same.node);
+      }
 
   -- a node stands where a list goes on
   no_fault_in : (lead : Lead) (rest : List Node) (first entry : ℕ) → AreNodes table count lead rest 0
@@ -130,7 +149,8 @@ module _ (table : ℕ → ℕ → Cell) (count : ℕ) (few : count < 2 ^ 31) whe
     no_failure entry fails =
         let rest = front_of table count few lead fails.nodes linked.nodes fails.next 0 fails.named.inside
         (omega arith) fails.linked linked.linked (fails.starts ∙ sym linked.starts) (inl refl) in
-        no_fault_in (lead_after lead fails.nodes) rest.rest fails.next entry rest.linked rest.starts fails.named.some fails.faulty
+        no_fault_in (lead_after lead fails.nodes) rest.rest fails.next entry rest.linked rest.starts fails.named.some
+        fails.faulty
 
     -- nor does an entry have two places, where the list is no longer than the table
     no_sharing : length list ≤ count → (entry : ℕ) → ¬ IsShared table count lead first entry
@@ -139,7 +159,14 @@ module _ (table : ℕ → ℕ → Cell) (count : ℕ) (few : count < 2 ^ 31) whe
         shared.linked linked.linked (shared.starts ∙ sym linked.starts) (inl refl) in
         let whole : list ≡ entries_of shared.nodes ++ entries_of rest.rest = sym linked.entries
         ∙ ap entries_of rest.whole ∙ entries_of-append shared.nodes rest.rest in
-        omega (arith, small, shared.many, ap length whole, length-append (entries_of shared.nodes) (entries_of rest.rest))
+        omega (
+          arith,
+          small,
+          shared.many,
+          ap length whole,
+          length-append (entries_of shared.nodes)
+              (entries_of rest.rest),
+        )
 
     -- what begins a list lies in the table
     pub linked_first : first ≤ count
@@ -166,7 +193,8 @@ module _ (table : ℕ → ℕ → Cell) (count : ℕ) (few : count < 2 ^ 31) whe
         let rest = front_of table count few lead part.nodes linked.nodes part.node.first 0
         (omega (arith, part.is_node.ordered, part.is_node.ends)) (omega arith) part.linked linked.linked
         (part.starts ∙ sym linked.starts) (inl refl) in
-        let begins = begins_with (lead_after lead part.nodes) part.node part.next rest.rest part.named part.is_node rest.linked rest.starts in
+        let begins = begins_with (lead_after lead part.nodes) part.node part.next rest.rest part.named part.is_node
+        rest.linked rest.starts in
         let len : ℕ = part.node.last + 1 - part.node.first in
         let here = range_with_len part.node.first len in
         let whole : list ≡ front ++ (here ++ begins.others) = sym linked.entries ∙ ap entries_of rest.whole
@@ -185,8 +213,10 @@ module _ (table : ℕ → ℕ → Cell) (count : ℕ) (few : count < 2 ^ 31) whe
           ));
           blocks = λ k within.
               (let place : pos + k ≡ length front + (skipped + k) = omega (arith, part.before) in
-              let in_node : skipped + k < len = omega (arith, part.before, part.block, part.last, part.is_node.starts) in
-              let in_here : skipped + k < length here = omega (arith, in_node, length-range_with_len part.node.first len) in
+              let in_node : skipped + k < len = omega (arith, part.before, part.block, part.last, part.is_node.starts)
+              in
+              let in_here : skipped + k < length here = omega
+              (arith, in_node, length-range_with_len part.node.first len) in
               let value : part.node.first + (skipped + k) ≡ run.block + k + 1 = omega (arith, part.block) in
               rw (whole, place) (get_or-append-add front (here ++ begins.others) (skipped + k) 0
               ∙ get_or_append_left here begins.others 0 (skipped + k) in_here
@@ -214,8 +244,10 @@ no_byte (Byte value) part level block blames is = blames
 no_byte (Blank p l b) part level block blames is = is
 no_byte (Spoilt p l b) part level block blames is = is
 
-pub no_words : (table : ℕ → ℕ → Cell) (entry part level block : ℕ) → HasWords table entry → ¬ HasFault table entry part level block
-no_words table entry part level block words (k, small, blames) = no_byte (table entry k) part level block blames (words k small)
+pub no_words : (table : ℕ → ℕ → Cell) (entry part level block : ℕ) → HasWords table entry
+    → ¬ HasFault table entry part level block
+no_words table entry part level block words (k, small, blames) =
+    no_byte (table entry k) part level block blames (words k small)
 
 -- nothing fails in the free list
 pub no_free_break : (table : ℕ → ℕ → Cell) (count : ℕ) (list : List ℕ) → count < 2 ^ 31
@@ -239,7 +271,8 @@ no_free_need table count list few words linked entry part level block (Listed fa
 pub list_done : {A : Type 0} (P : A → Type 0) (s : State) (info : ChainInfo) (lead : Lead) (first : ℕ) (list : List ℕ)
     (result : Result A ChainFault) → info.count < 2 ^ 31 → IsTrue s.told
     → IsLinkedBy (table_in s.cells info) info.count lead first list → IsDistinct nat_eq list
-    → FaultsOnly s info (IsBroken (table_in s.cells info) info.count lead first) (FailsAt (table_in s.cells info) info.count lead first)
+    → FaultsOnly s info (IsBroken (table_in s.cells info) info.count lead first) (FailsAt
+    (table_in s.cells info) info.count lead first)
     (result_err result) → IfOk result P → DoneUnlessDisk result P
 list_done P s info lead first list result few told linked once faults ok =
     let table = table_in s.cells info in

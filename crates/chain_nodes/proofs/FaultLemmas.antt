@@ -12,7 +12,8 @@ use Rattle.chain_nodes.specs.Table.{HasFault, HasAllocationTable}
 use Rattle.chain_nodes.specs.Faults.{IfListBroken, refusal_of, FaultsOnly}
 use Rattle.chain_nodes.proofs.TableLemmas.{table_stays}
 
-pub IfListBroken-map : (fault : Option ChainFault) {P Q : ℕ → Type 0} → ((entry : ℕ) → P entry → Q entry) → IfListBroken fault P → IfListBroken fault Q
+pub IfListBroken-map : (fault : Option ChainFault) {P Q : ℕ → Type 0} → ((entry : ℕ) → P entry → Q entry)
+    → IfListBroken fault P → IfListBroken fault Q
 IfListBroken-map None f h = tt
 IfListBroken-map (Some (Refused bad)) f h = tt
 IfListBroken-map (Some (Broken entry)) f h = f entry h

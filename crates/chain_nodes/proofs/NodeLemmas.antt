@@ -34,13 +34,15 @@ module _ (table : ℕ → ℕ → Cell) (count : ℕ) (lead : Lead) where
 -- A node's first entry was read in one state, and its second in a later one.
 module _ (s m : State) (info : ChainInfo) (lead : Lead) (first v : ℕ) (table : HasAllocationTable s.shape info)
     (stays : Stays s m None) (long : 2 ^ 31 ≤ v)
-    (head : IsTrue s.told → IsHead (table_in s.cells info) info.count lead first × (v ≡ word_v (table_in s.cells info) first)) where
+    (head : IsTrue s.told → IsHead (table_in s.cells info) info.count lead first × (v ≡ word_v
+    (table_in s.cells info) first)) where
   -- what fails at the second entry
   pub second_faults : (fault : Option ChainFault)
       → FaultsOnly m info (λ e. HasWords (table_in m.cells info) e × (e ≡ first + 1)
       × ¬ IsSecond (table_in m.cells info) info.count first)
       (λ e. (e ≡ first + 1) × ¬ IsSecond (table_in m.cells info) info.count first) fault
-      → FaultsOnly s info (λ e. HasWords (table_in s.cells info) e × IsFaulty (table_in s.cells info) info.count lead first e)
+      → FaultsOnly s info (λ e. HasWords (table_in s.cells info) e × IsFaulty
+      (table_in s.cells info) info.count lead first e)
       (IsFaulty (table_in s.cells info) info.count lead first) fault
   second_faults fault faults =
       let same = table_stays s m info table stays in
@@ -49,12 +51,17 @@ module _ (s m : State) (info : ChainInfo) (lead : Lead) (first v : ℕ) (table :
       AtSecond (head told).0 (omega (arith, (head told).1)) is
       (λ second. isnt (subst (λ (t : ℕ → ℕ → Cell). IsSecond t info.count first) (sym (same told)) second)) in
       FaultsOnly-later s m info fault table stays
-      (λ told e (words, is, isnt). (subst (λ (t : ℕ → ℕ → Cell). HasWords t e) (same told) words, faulty told e is isnt))
+      (λ told e (words, is, isnt). (
+        subst (λ (t : ℕ → ℕ → Cell). HasWords t e)
+            (same told) words,
+        faulty told e is isnt,
+      ))
       (λ told e (is, isnt). faulty told e is isnt) faults
 
   -- and its last one in a state still later
   module _ (l : State) (later : Stays s l None) (last : ℕ)
-      (second : IsTrue m.told → IsSecond (table_in m.cells info) info.count first × (last ≡ word_v (table_in m.cells info) (first + 1))) where
+      (second : IsTrue m.told → IsSecond (table_in m.cells info) info.count first × (last ≡ word_v
+      (table_in m.cells info) (first + 1))) where
     second_here : IsTrue s.told
         → IsSecond (table_in s.cells info) info.count first × (last ≡ word_v (table_in s.cells info) (first + 1))
     second_here told =
@@ -66,7 +73,8 @@ module _ (s m : State) (info : ChainInfo) (lead : Lead) (first v : ℕ) (table :
         → FaultsOnly l info (λ e. HasWords (table_in l.cells info) e × (e ≡ last)
         × ¬ IsInner (table_in l.cells info) (record { first = first; last = last }) last)
         (λ e. (e ≡ last) × ¬ IsInner (table_in l.cells info) (record { first = first; last = last }) last) fault
-        → FaultsOnly s info (λ e. HasWords (table_in s.cells info) e × IsFaulty (table_in s.cells info) info.count lead first e)
+        → FaultsOnly s info (λ e. HasWords (table_in s.cells info) e × IsFaulty
+        (table_in s.cells info) info.count lead first e)
         (IsFaulty (table_in s.cells info) info.count lead first) fault
     last_faults fault faults =
         let same = table_stays s l info table later in
@@ -75,7 +83,11 @@ module _ (s m : State) (info : ChainInfo) (lead : Lead) (first v : ℕ) (table :
         AtLast (head told).0 (omega (arith, (head told).1)) (second_here told).0 (is ∙ (second_here told).1)
         (λ inner. isnt (rw (same told) (rw (sym is) inner))) in
         FaultsOnly-later s l info fault table later
-        (λ told e (words, is, isnt). (subst (λ (t : ℕ → ℕ → Cell). HasWords t e) (same told) words, faulty told e is isnt))
+        (λ told e (words, is, isnt). (
+          subst (λ (t : ℕ → ℕ → Cell). HasWords t e)
+              (same told) words,
+          faulty told e is isnt,
+        ))
         (λ told e (is, isnt). faulty told e is isnt) faults
 
     -- the node, where nothing fails

@@ -1,5 +1,6 @@
 -- A list of nodes rests on the words of its own entries alone, and a node that is cut in two has the same entries.
-use Rattle.std.proofs.Common.{◌≡◌, ℕ, zero, suc, ◌+◌, ◌-◌, ◌<◌, ◌≤◌, List, [], ◌∷◌, ◌++◌, length, get_or, sym, ◌∙◌, ap, subst, arith}
+use Rattle.std.proofs.Common.{◌≡◌, ℕ, zero, suc, ◌+◌, ◌-◌, ◌<◌, ◌≤◌, List, [], ◌∷◌, ◌++◌, sym, ◌∙◌, ap}
+use Rattle.std.proofs.Common.{subst, arith}
 use Rattle.std.proofs.Common.{append_assoc, refl}
 use Rattle.std.specs.List.{range_with_len, Contains}
 use Rattle.std.proofs.lemmas.List.Elements.{Contains-append_left, Contains-append_right}
@@ -20,10 +21,12 @@ range_contains a n x from below =
     (k, omega (arith, length-range_with_len a n), get_or-range_with_len a n k x (omega arith) ∙ place)
 
 -- an entry of a node, in a list that begins with the node
-entry_of : (node : Node) (nodes : List Node) (x : ℕ) → node.first ≤ x → x ≤ node.last → Contains (entries_of (node ∷ nodes)) x
+entry_of : (node : Node) (nodes : List Node) (x : ℕ) → node.first ≤ x → x ≤ node.last
+    → Contains (entries_of (node ∷ nodes)) x
 entry_of node nodes x from up_to =
     let len : ℕ = node.last + 1 - node.first in
-    Contains-append_left (range_with_len node.first len) (entries_of nodes) x (range_contains node.first len x from (omega arith))
+    Contains-append_left (range_with_len node.first len) (entries_of nodes) x (range_contains node.first len x from
+    (omega arith))
 
 module _ (old new : ℕ → ℕ → Cell) where
   -- the bytes of an entry are the same
@@ -64,7 +67,8 @@ module _ (old new : ℕ → ℕ → Cell) where
         u = subst (λ (w : ℕ). IsLead lead w) (sym (same_u node.first first h.read)) h.u;
         single = λ same. same_v node.first first h.read ∙ h.single same;
         several = λ more. same_v node.first first h.read ∙ h.several more;
-        second = λ more. same_inner node (node.first + 1) (kept (node.first + 1) (omega arith) (omega (arith, more))) (h.second more);
+        second = λ more. same_inner node (node.first + 1) (kept (node.first + 1) (omega arith) (omega (arith, more)))
+            (h.second more);
         last = λ more. same_inner node node.last (kept node.last h.ordered (omega arith)) (h.last more);
       }
 
@@ -75,7 +79,8 @@ module _ (old new : ℕ → ℕ → Cell) where
   nodes_rest count lead (node ∷ nodes) next kept h = (
     node_rests count lead node (start_of nodes next) (λ x from up_to. kept x (entry_of node nodes x from up_to)) h.0,
     nodes_rest count (Follows node.first) nodes next (λ x within. kept x
-        (Contains-append_right (range_with_len node.first (node.last + 1 - node.first)) (entries_of nodes) x within)) h.1,
+        (Contains-append_right (range_with_len node.first (node.last + 1 - node.first))
+        (entries_of nodes) x within)) h.1,
   )
 
   -- so is a list
@@ -99,7 +104,8 @@ range_cut a (suc m) n =
     let more : suc m + n ≡ suc (m + n) = omega arith in
     let there : a + 1 + m ≡ a + suc m = omega arith in
     let rest : range_with_len (a + 1) (m + n) ≡ range_with_len (a + 1) m ++ range_with_len (a + suc m) n =
-    subst (λ (b : ℕ). range_with_len (a + 1) (m + n) ≡ range_with_len (a + 1) m ++ range_with_len b n) there (range_cut (a + 1) m n) in
+    subst (λ (b : ℕ). range_with_len (a + 1) (m + n) ≡ range_with_len (a + 1) m ++ range_with_len b n) there
+    (range_cut (a + 1) m n) in
     rw more (ap (λ (l : List ℕ). a ∷ l) rest)
 
 -- a node that is cut in two has the same entries

@@ -1,5 +1,6 @@
 -- Two walks over one list.
-use Rattle.std.proofs.Common.{◌≡◌, ℕ, ◌+◌, ◌-◌, ◌^◌, ◌<◌, ◌≤◌, ◌⊎◌, List, [], ◌∷◌, ◌++◌, length, refl, sym, ◌∙◌, ap, subst, arith, ⊎_elim, inl, inr}
+use Rattle.std.proofs.Common.{◌≡◌, ℕ, ◌+◌, ◌-◌, ◌^◌, ◌<◌, ◌≤◌, ◌⊎◌, List, [], ◌∷◌, ◌++◌, length, refl, sym, ◌∙◌, ap}
+use Rattle.std.proofs.Common.{subst, arith, ⊎_elim, inl, inr}
 use Rattle.std.proofs.Common.{length-append}
 use Rattle.std.proofs.lemmas.List.{append-nil}
 use Rattle.std.specs.List.{range_with_len}
@@ -17,7 +18,8 @@ use Rattle.chain_nodes.proofs.CountLemmas.{count_between-split, count_between-al
 use Rattle.chain_nodes.proofs.FrontLemmas.{same_node, start_small, HasRest, front_of}
 
 -- how many entries the first of some nodes and the others have
-length-nodes : (node : Node) (nodes : List Node) → length (entries_of (node ∷ nodes)) ≡ node.last + 1 - node.first + length (entries_of nodes)
+length-nodes : (node : Node) (nodes : List Node) → length (entries_of
+    (node ∷ nodes)) ≡ node.last + 1 - node.first + length (entries_of nodes)
 length-nodes node nodes = length-append (range_with_len node.first (node.last + 1 - node.first)) (entries_of nodes)
     ∙ ap (λ (n : ℕ). n + length (entries_of nodes)) (length-range_with_len node.first (node.last + 1 - node.first))
 
@@ -52,25 +54,35 @@ module _ (table : ℕ → ℕ → Cell) (count : ℕ) (few : count < 2 ^ 31) whe
     both_entries = ap entries_of the_rest.whole ∙ entries_of-append reached.nodes the_rest.rest
 
     rest_len : length (entries_of the_rest.rest) ≡ end.passed - cursor.passed
-    rest_len = omega (arith, ap length both_entries, length-append (entries_of reached.nodes) (entries_of the_rest.rest), reached.behind, whole.behind)
+    rest_len = omega (
+      arith,
+      ap length both_entries,
+      length-append (entries_of reached.nodes)
+          (entries_of the_rest.rest),
+      reached.behind,
+      whole.behind,
+    )
 
     -- a step from a place before the end leads no further than the end
     pub step_within : (node : Node) (next : ℕ) → next ≤ count → IsNode table count cursor.lead node next
         → node.first ≡ cursor.next → cursor.passed < end.passed
         → cursor.passed + (node.last + 1 - node.first) ≤ end.passed
     step_within node next in_next is_node starts less =
-        let here : IsNode table count (lead_after lead reached.nodes) node next = subst (λ (l : Lead). IsNode table count l node next) reached.led is_node in
+        let here : IsNode table count (lead_after lead reached.nodes) node next = subst (λ
+        (l : Lead). IsNode table count l node next) reached.led is_node in
         let len = fits_rest (lead_after lead reached.nodes) node next the_rest.rest end.next in_next in_end here
         the_rest.linked (the_rest.starts ∙ sym starts) (omega (arith, rest_len)) in
         omega (arith, len, rest_len)
 
     -- at the end the walk has the same entries
-    pub same_entries : (end.passed ≤ cursor.passed) ⊎ (cursor.next ≡ 0) → entries_of reached.nodes ≡ entries_of whole.nodes
+    pub same_entries : (end.passed ≤ cursor.passed) ⊎ (cursor.next ≡ 0)
+        → entries_of reached.nodes ≡ entries_of whole.nodes
     same_entries over =
         let none = none_left (lead_after lead reached.nodes) the_rest.rest cursor.next end.next the_rest.linked
         the_rest.starts (⊎_elim (λ (behind : end.passed ≤ cursor.passed). inl (omega (arith, rest_len)))
         (λ (zero_next : cursor.next ≡ 0). inr zero_next) over) in
-        sym (both_entries ∙ ap (λ (l : List ℕ). entries_of reached.nodes ++ l) none ∙ append-nil (entries_of reached.nodes))
+        sym (both_entries ∙ ap (λ (l : List ℕ). entries_of reached.nodes ++ l) none ∙ append-nil
+        (entries_of reached.nodes))
 
 -- some nodes and one more
 pub between_more : (low high between : ℕ) (nodes : List Node) (node : Node)
@@ -91,7 +103,8 @@ pub counted_start : (table : ℕ → ℕ → Cell) (count : ℕ) (lead : Lead) (
     → first ≤ count → cursor.lead ≡ lead → cursor.next ≡ first → cursor.passed ≡ 0
     → Counted table count lead first cursor low high 0
 unfolding reached_start
-counted_start table count lead first cursor low high inside led next none = (reached_start table count lead first cursor inside led next none, refl)
+counted_start table count lead first cursor low high inside led next none =
+    (reached_start table count lead first cursor inside led next none, refl)
 
 pub counted_more : (table : ℕ → ℕ → Cell) (count : ℕ) (lead : Lead) (first : ℕ) (cursor behind : Cursor) (node : Node)
     (low high between more : ℕ) → Counted table count lead first cursor low high between
@@ -100,12 +113,14 @@ pub counted_more : (table : ℕ → ℕ → Cell) (count : ℕ) (lead : Lead) (f
     → more ≡ count_between low high (range_with_len node.first (node.last + 1 - node.first))
     → Counted table count lead first behind low high (between + more)
 unfolding reached_more
-counted_more table count lead first cursor behind node low high between more counted is_node named starts led passed is = (
-  reached_more table count lead first cursor behind node counted.0 is_node named starts led passed,
-  rw is (between_more low high between counted.0.nodes node counted.1),
-)
+counted_more table count lead first cursor behind node low high between more counted is_node named starts led passed is
+    = (
+      reached_more table count lead first cursor behind node counted.0 is_node named starts led passed,
+      rw is (between_more low high between counted.0.nodes node counted.1),
+    )
 
-module _ (table : ℕ → ℕ → Cell) (count : ℕ) (lead : Lead) (first : ℕ) (end : Cursor) (whole : IsReached table count lead first end) where
+module _ (table : ℕ → ℕ → Cell) (count : ℕ) (lead : Lead) (first : ℕ) (end : Cursor)
+    (whole : IsReached table count lead first end) where
   -- the table has fewer entries than the list
   pub crowded_all : count < end.passed → count + 1 - 1 < count_between 1 count (entries_of whole.nodes)
   crowded_all many = omega (arith, count_between-all table count lead whole.nodes end.next whole.linked, whole.behind)
@@ -115,4 +130,5 @@ module _ (table : ℕ → ℕ → Cell) (count : ℕ) (lead : Lead) (first : ℕ
       → high + 1 - low < count_between low high (entries_of whole.nodes)
       → count_between low middle (entries_of whole.nodes) ≤ middle - low + 1
       → high + 1 - (middle + 1) < count_between (middle + 1) high (entries_of whole.nodes)
-  crowded_back low middle high h k crowded front = omega (arith, count_between-split low middle high (entries_of whole.nodes) h (omega arith))
+  crowded_back low middle high h k crowded front =
+      omega (arith, count_between-split low middle high (entries_of whole.nodes) h (omega arith))

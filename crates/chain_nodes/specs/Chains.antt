@@ -40,7 +40,8 @@ start_of (node ∷ nodes) next = node.first
 -- nodes that name each other in turn; behind the last one `next` is named
 abbrev pub AreNodes : (ℕ → ℕ → Cell) → ℕ → Lead → List Node → ℕ → Type 0
 AreNodes table count lead [] next = Unit {0}
-AreNodes table count lead (node ∷ nodes) next = IsNode table count lead node (start_of nodes next) × AreNodes table count (Follows node.first) nodes next
+AreNodes table count lead (node ∷ nodes) next =
+    IsNode table count lead node (start_of nodes next) × AreNodes table count (Follows node.first) nodes next
 
 -- how the node behind these begins
 abbrev pub lead_after : Lead → List Node → Lead

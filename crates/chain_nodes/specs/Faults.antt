@@ -35,7 +35,8 @@ pub record IsSecond (table : ℕ → ℕ → Cell) (count first : ℕ) : Type 0 
 -- an entry of the node that begins with `first` is not as it should be, while those of the node before it are
 pub data IsFaulty (table : ℕ → ℕ → Cell) (count : ℕ) (lead : Lead) (first entry : ℕ) : Type 0 where
   AtFirst : entry ≡ first → ¬ IsHead table count lead first → IsFaulty table count lead first entry
-  AtSecond : IsHead table count lead first → IsLong table first → entry ≡ first + 1 → ¬ IsSecond table count first → IsFaulty table count lead first entry
+  AtSecond : IsHead table count lead first → IsLong table first → entry ≡ first + 1 → ¬ IsSecond table count first
+      → IsFaulty table count lead first entry
   AtLast : IsHead table count lead first → IsLong table first → IsSecond table count first
       → entry ≡ word_v table (first + 1) → ¬ IsInner table (record { first = first; last = entry }) entry
       → IsFaulty table count lead first entry
@@ -98,7 +99,8 @@ refusal_of (Some (Short need have)) = None
 
 -- Which fault comes when. A broken list is named at an entry where it is broken, and a damaged cell is one of an entry
 -- whose words are needed.
-pub record FaultsOnly (s : State) (info : ChainInfo) (Breaks Needs : ℕ → Type 0) (fault : Option ChainFault) : Type 0 where
+pub record FaultsOnly (s : State) (info : ChainInfo) (Breaks Needs : ℕ → Type 0)
+    (fault : Option ChainFault) : Type 0 where
   pub broken : IsTrue s.told → IfListBroken fault Breaks
   pub damaged : IsTrue s.told → IfDamaged (refusal_of fault)
       (λ part level block. (entry : ℕ) × Needs entry × HasFault (table_in s.cells info) entry part level block)

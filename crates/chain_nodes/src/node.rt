@@ -4,7 +4,8 @@ ghost use Rattle.std.specs.Prelude.{◌≡◌, ℕ, ◌+◌, ◌%◌, ◌^◌, �
 ghost use Rattle.std.specs.Result.{result_err};
 ghost use Rattle.save_bytes.specs.Refusals.{IfDamaged, NeverDamaged};
 ghost use Rattle.save_bytes.specs.Reads.{Reads};
-ghost use Rattle.chain_nodes.specs.Table.{table_in, word_u, word_v, index_of, flagged, HasWords, HasFault, HasAllocationTable, IsEntry};
+ghost use Rattle.chain_nodes.specs.Table.{table_in, word_u, word_v, index_of, flagged, HasWords, HasFault};
+ghost use Rattle.chain_nodes.specs.Table.{HasAllocationTable, IsEntry};
 ghost use Rattle.chain_nodes.specs.Chains.{IsLead, IsInner, IsNode};
 ghost use Rattle.chain_nodes.specs.Faults.{IsLong, IsHead, IsSecond, IsFaulty, refusal_of, FaultsOnly};
 

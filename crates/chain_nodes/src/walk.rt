@@ -141,8 +141,10 @@ pub fn advance<S: Space>(
         → IsReached table info.count cursor.opens cursor.first cursor
         → IfOk result (λ step. IsRestOfNode table info.count cursor.opens cursor.first cursor.passed step.0) }
     ensures faults { let table = table_in (S.state base.old).cells info in FaultsOnly (S.state base.old) info
-        (λ e. IsReached table info.count cursor.opens cursor.first cursor → IsBroken table info.count cursor.opens cursor.first e)
-        (λ e. IsReached table info.count cursor.opens cursor.first cursor → FailsAt table info.count cursor.opens cursor.first e)
+        (λ e. IsReached table info.count cursor.opens cursor.first cursor
+        → IsBroken table info.count cursor.opens cursor.first e)
+        (λ e. IsReached table info.count cursor.opens cursor.first cursor
+        → FailsAt table info.count cursor.opens cursor.first e)
         (result_err result) }
     ensures reads { Reads S.state S.keeps S.lands base.old base.new (refusal_of (result_err result)) }
 {

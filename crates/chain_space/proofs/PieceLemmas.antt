@@ -1,5 +1,6 @@
 -- A piece of the base, as one of the view.
-use Rattle.std.proofs.Common.{◌≡◌, ℕ, ◌+◌, ◌<◌, ◌≤◌, List, length, IsTrue, Result, Ok, Err, None, sym, ◌∙◌, ap, subst, arith}
+use Rattle.std.proofs.Common.{◌≡◌, ℕ, ◌+◌, ◌<◌, ◌≤◌, List, length, IsTrue, Result, Ok, Err, None, sym, ◌∙◌, ap, subst}
+use Rattle.std.proofs.Common.{arith}
 use Rattle.std.proofs.lemmas.Bool.{and_parts}
 use Rattle.std.specs.Borrow.{Bor}
 use Rattle.save_bytes.specs.declared.space.Bad.{Bad}
@@ -20,21 +21,27 @@ module _ (base mid : State) (info : ChainInfo) (first blocks at most place n : �
   told_mid told = stays.space.told (told_below told)
 
   -- a cell of the run
-  run_cell : IsTrue (shown_state info first blocks base).told → (k : ℕ) → k < n → (shown_state info first blocks base).cells (at + k) ≡ mid.cells (place + k)
-  run_cell told k less = ap base.cells (run.places told k less) ∙ sym (stays.cells (told_below told) (place + k) (omega (arith, less, run.in_base)))
+  run_cell : IsTrue (shown_state info first blocks base).told → (k : ℕ) → k < n
+      → (shown_state info first blocks base).cells (at + k) ≡ mid.cells (place + k)
+  run_cell told k less =
+      ap base.cells (run.places told k less) ∙ sym (stays.cells (told_below told) (place + k) (omega
+      (arith, less, run.in_base)))
 
   view_bytes : (bytes : List ℕ) → length bytes ≤ n → (IsTrue mid.told → AreBytesAt mid.cells place bytes)
       → IsTrue (shown_state info first blocks base).told
       → AreBytesAt (shown_state info first blocks base).cells at bytes
   view_bytes bytes bounded are told k less = run_cell told k (omega (arith, less, bounded)) ∙ are (told_mid told) k less
 
-  first_cell : IsTrue (shown_state info first blocks base).told → (shown_state info first blocks base).cells at ≡ mid.cells place
+  first_cell : IsTrue (shown_state info first blocks base).told
+      → (shown_state info first blocks base).cells at ≡ mid.cells place
   first_cell told =
       let here : at + 0 ≡ at = omega arith in
       let there : place + 0 ≡ place = omega arith in
-      sym (ap (shown_state info first blocks base).cells here) ∙ run_cell told 0 (omega (arith, run.some)) ∙ ap mid.cells there
+      sym (ap (shown_state info first blocks base).cells here) ∙ run_cell told 0 (omega
+      (arith, run.some)) ∙ ap mid.cells there
 
-  pub view_piece : (result : Result (Bor (List ℕ)) Bad) → IsPiece mid place n result → IsPiece (shown_state info first blocks base) at most result
+  pub view_piece : (result : Result (Bor (List ℕ)) Bad) → IsPiece mid place n result
+      → IsPiece (shown_state info first blocks base) at most result
   view_piece (Ok piece) h = record {
     some = h.some;
     bounded = omega (arith, h.bounded, run.bounded);
@@ -43,12 +50,20 @@ module _ (base mid : State) (info : ChainInfo) (first blocks at most place n : �
     damaged = λ told. tt;
     plain = λ plain. tt;
   }
-  view_piece (Err Disk) h = record { some = tt; bounded = tt; inside = tt; bytes = λ told. tt; damaged = λ told. tt; plain = λ plain. tt }
+  view_piece (Err Disk) h = record {
+    some = tt;
+    bounded = tt;
+    inside = tt;
+    bytes = λ told. tt;
+    damaged = λ told. tt;
+    plain = λ plain. tt;
+  }
   view_piece (Err (Damaged part level block)) h = record {
     some = tt;
     bounded = tt;
     inside = tt;
     bytes = λ told. tt;
-    damaged = λ told. subst (λ (cell : Cell). Blames cell part level block) (sym (first_cell told)) (h.damaged (told_mid told));
+    damaged = λ told. subst (λ (cell : Cell). Blames cell part level block) (sym (first_cell told)) (h.damaged
+        (told_mid told));
     plain = λ plain. h.plain (subst (λ (shape : Shape). IsTrue shape.plain) (sym stays.space.shape) plain);
   }

@@ -1,6 +1,8 @@
 -- The list of a chain whose bytes are shown, and where these lie.
-use Rattle.std.proofs.Common.{◌≡◌, ℕ, ◌+◌, ◌-◌, ◌*◌, ◌/◌, ◌%◌, ◌^◌, ◌<◌, ◌≤◌, true, false, ltb, IsTrue, List, [], ◌∷◌, ◌++◌, length, get_or}
-use Rattle.std.proofs.Common.{unwrap_or, MatchOption, IsSomeAnd, Option, Some, None, refl, sym, ◌∙◌, ap, subst, arith, ⊎_elim, length-append}
+use Rattle.std.proofs.Common.{◌≡◌, ℕ, ◌+◌, ◌-◌, ◌*◌, ◌/◌, ◌%◌, ◌^◌, ◌<◌, ◌≤◌, true, false, ltb, IsTrue, List, [], ◌∷◌}
+use Rattle.std.proofs.Common.{◌++◌, length, get_or}
+use Rattle.std.proofs.Common.{unwrap_or, MatchOption, IsSomeAnd, Option, Some, None, refl, sym, ◌∙◌, ap, subst, arith}
+use Rattle.std.proofs.Common.{⊎_elim, length-append}
 use Rattle.std.proofs.lemmas.Bool.{and_parts, and_from, cases_lt, lt-ltb, le-ltb, le-leb, eq-eqb, leb-true, false≢true}
 use Rattle.std.proofs.lemmas.List.{get_or_append_left, get_or-append_right}
 use Rattle.std.proofs.lemmas.Nat.{div-add-mod'}
@@ -28,7 +30,8 @@ use Rattle.chain_nodes.proofs.ExactLemmas.{no_failure, no_break, same_list, run_
 use Rattle.chain_space.proofs.WalkLemmas.{list_in-linked, linked-list_in}
 
 module _ (table : ℕ → ℕ → Cell) (count : ℕ) where
-  nodes_few : (lead : Lead) (nodes : List Node) (next : ℕ) → AreNodes table count lead nodes next → length nodes ≤ length (entries_of nodes)
+  nodes_few : (lead : Lead) (nodes : List Node) (next : ℕ) → AreNodes table count lead nodes next
+      → length nodes ≤ length (entries_of nodes)
   nodes_few lead [] next h = omega arith
   nodes_few lead (node ∷ nodes) next h =
       let len : ℕ = node.last + 1 - node.first in
@@ -58,7 +61,8 @@ module _ (table : ℕ → ℕ → Cell) (count : ℕ) where
       (λ (behind : len ≤ pos).
       let is : get_or (run ++ entries_of nodes) pos 0 ≡ get_or (entries_of nodes) (pos - len) 0 =
       get_or-append_right run (entries_of nodes) len pos 0 run_len behind in
-      let rest = entry_inside (Follows node.first) nodes next (pos - len) h.1 (omega (arith, less, behind, run_len, length-append run (entries_of nodes))) in
+      let rest = entry_inside (Follows node.first) nodes next (pos - len) h.1 (omega
+      (arith, less, behind, run_len, length-append run (entries_of nodes))) in
       (omega (arith, is, rest.0), omega (arith, is, rest.1)))
       (cases_lt pos len)
 
@@ -91,7 +95,8 @@ shown_by base info first blocks (Some list) is good = record {
   few = leb-true (length list) info.count (and_parts _ _ good).1;
 }
 
-pub is_shown-true : (base : State) (info : ChainInfo) (first blocks : ℕ) → is_shown base info first blocks ≡ true → IsShown base info first blocks
+pub is_shown-true : (base : State) (info : ChainInfo) (first blocks : ℕ) → is_shown base info first blocks ≡ true
+    → IsShown base info first blocks
 unfolding is_shown
 is_shown-true base info first blocks good = shown_by base info first blocks (found_list base info first) refl good
 
@@ -114,7 +119,8 @@ pub true-is_shown : (base : State) (info : ChainInfo) (first blocks : ℕ) (list
     → blocks ≤ length list → is_shown base info first blocks ≡ true
 unfolding is_shown
 true-is_shown base info first blocks list few linked small enough =
-    rw (linked-found base info first list few linked small) (and_from _ _ (le-leb blocks (length list) enough) (le-leb (length list) info.count small))
+    rw (linked-found base info first list few linked small) (and_from _ _ (le-leb blocks (length list) enough)
+    (le-leb (length list) info.count small))
 
 pub true-can_show : (base : Shape) (info : ChainInfo) (blocks : ℕ) → HasAllocationTable base info
     → base.size + blocks * info.block < 2 ^ 64 → can_show base info blocks ≡ true
@@ -141,7 +147,8 @@ module _ (block : ℕ) (some : 0 < block) where
       let whole : at + k ≡ at / block * block + (at % block + k) = omega (arith, div-add-mod' at block) in
       rw whole (mul-add-mod_self_right (at / block) block (at % block + k))
 
-sum : (region b j block skipped k m : ℕ) → j * block + m ≡ skipped + k → region + (b + j + 1 - 1) * block + m ≡ region + b * block + skipped + k
+sum : (region b j block skipped k m : ℕ) → j * block + m ≡ skipped + k
+    → region + (b + j + 1 - 1) * block + m ≡ region + b * block + skipped + k
 sum region b j block skipped k m is =
     let one : b + j + 1 - 1 ≡ b + j = omega arith in
     rw one (omega (arith, is))
@@ -176,7 +183,8 @@ found_run base info first blocks pos None few shown less none =
     (sym (same_list (table_in base.cells info) info.count few Opens first shown.list shown.linked other linked))
     (omega (arith, shown.enough, less)))
 found_run base info first blocks pos (Some run) few shown less rest =
-    subst (λ (l : List ℕ). IsRunIn l pos run) (sym shown.is) (run_in (table_in base.cells info) info.count few Opens first shown.list shown.linked pos run rest)
+    subst (λ (l : List ℕ). IsRunIn l pos run) (sym shown.is) (run_in
+    (table_in base.cells info) info.count few Opens first shown.list shown.linked pos run rest)
 
 -- no fault but the disk's
 pub shown_fault : (base : State) (info : ChainInfo) (first blocks : ℕ) (fault : ChainFault) → info.count < 2 ^ 31
@@ -188,7 +196,8 @@ shown_fault base info first blocks (Refused (Damaged part level block)) few show
     let fault = faults.damaged told in
     absurd (no_failure (table_in base.cells info) info.count few Opens first shown.list shown.linked fault.0 fault.1)
 shown_fault base info first blocks (Broken entry) few shown told faults =
-    absurd (no_break (table_in base.cells info) info.count few Opens first shown.list shown.linked shown.few entry (faults.broken told))
+    absurd (no_break (table_in base.cells info) info.count few Opens first shown.list shown.linked shown.few entry
+    (faults.broken told))
 shown_fault base info first blocks (Short need have) few shown told faults = absurd faults.never_short
 
 -- a block has some bytes where blocks have
@@ -203,7 +212,8 @@ block_some at blocks block inside =
     (cases_lt 0 block)
 
 -- the bytes of a run lie in the region
-pub run_inside : (region size block count b len : ℕ) → b + len ≤ count → region + count * block ≤ size → region + b * block + len * block ≤ size
+pub run_inside : (region size block count b len : ℕ) → b + len ≤ count → region + count * block ≤ size
+    → region + b * block + len * block ≤ size
 run_inside region size block count b len fits in_size = omega (arith, mul-le-mul_right block fits)
 
 pub one_block : (block len : ℕ) → 1 ≤ len → block ≤ len * block

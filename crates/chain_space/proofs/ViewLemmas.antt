@@ -1,8 +1,11 @@
 -- A space behind which a chain's blocks are shown, where its base stays or is put to.
-use Rattle.std.proofs.Common.{◌≡◌, ◌≢◌, ℕ, zero, suc, ◌+◌, ◌-◌, ◌*◌, ◌/◌, ◌<◌, ◌≤◌, min, Bool, true, false, ◌&&◌, ◌||◌, eqb, ltb, cond, IsTrue, List}
-use Rattle.std.proofs.Common.{[], length, get_or, unwrap_or, Option, Some, None, Ok, refl, sym, ◌∙◌, ap, subst, arith, ⊎_elim, ◌^◌, MatchOption}
+use Rattle.std.proofs.Common.{◌≡◌, ◌≢◌, ℕ, zero, suc, ◌+◌, ◌-◌, ◌*◌, ◌/◌, ◌<◌, ◌≤◌, min, Bool, true, false, ◌&&◌, ◌||◌}
+use Rattle.std.proofs.Common.{eqb, ltb, cond, IsTrue, List}
+use Rattle.std.proofs.Common.{[], length, get_or, unwrap_or, Option, Some, None, Ok, refl, sym, ◌∙◌, ap, subst, arith}
+use Rattle.std.proofs.Common.{⊎_elim, ◌^◌, MatchOption}
 use Rattle.std.proofs.Common.{IsSomeAnd}
-use Rattle.std.proofs.lemmas.Bool.{and_parts, and_from, cases_lt, cases_Bool, lt-ltb, le-ltb, le-leb, eq-eqb, false≢true}
+use Rattle.std.proofs.lemmas.Bool.{and_parts, and_from, cases_lt, cases_Bool, lt-ltb, le-ltb, le-leb, eq-eqb}
+use Rattle.std.proofs.lemmas.Bool.{false≢true}
 use Rattle.std.proofs.Math.Bool.{and-true}
 use Rattle.std.proofs.lemmas.Nat.{mod_below}
 use Rattle.std.proofs.Math.Nat.{mul-le-mul_right}
@@ -31,10 +34,12 @@ use Rattle.chain_nodes.specs.declared.node.Lead.TheVariants.{Opens}
 use Rattle.chain_nodes.specs.Table.{table_in, HasAllocationTable}
 use Rattle.chain_space.specs.Bounded.{some_passes}
 use Rattle.chain_space.specs.Walks.{list_in, has_length}
-use Rattle.chain_space.specs.Shown.{found_list, chain_list, is_shown, block_place, is_in_table, is_kept, place_of, shown_state, ShownLands, IsLocatedRun}
+use Rattle.chain_space.specs.Shown.{found_list, chain_list, is_shown, block_place, is_in_table, is_kept, place_of}
+use Rattle.chain_space.specs.Shown.{shown_state, ShownLands, IsLocatedRun}
 use Rattle.chain_nodes.proofs.TableLemmas.{table_same}
 use Rattle.chain_space.specs.ShownLaws.{CanShow, can_show-facts, with_blocks}
-use Rattle.chain_space.proofs.ShownLemmas.{IsShown, found_run, shown_fault, is_shown-true, list_entry, linked-found, block_inside, block_some}
+use Rattle.chain_space.proofs.ShownLemmas.{IsShown, found_run, shown_fault, is_shown-true, list_entry, linked-found}
+use Rattle.chain_space.proofs.ShownLemmas.{block_inside, block_some}
 
 each_below : (n : ℕ) (f g : ℕ → Bool) → ((k : ℕ) → k < n → g k ≡ f k) → some_passes n g ≡ some_passes n f
 unfolding some_passes
@@ -44,8 +49,10 @@ each_below (suc n) f g each =
     let rest : some_passes n g ≡ some_passes n f = each_below n f g (λ k less. each k (omega arith)) in
     rw (last, rest) refl
 
-some_passes-same : (n m : ℕ) (f g : ℕ → Bool) → m ≡ n → ((k : ℕ) → k < n → g k ≡ f k) → some_passes m g ≡ some_passes n f
-some_passes-same n m f g same each = subst (λ (l : ℕ). some_passes l g ≡ some_passes n f) (sym same) (each_below n f g each)
+some_passes-same : (n m : ℕ) (f g : ℕ → Bool) → m ≡ n → ((k : ℕ) → k < n → g k ≡ f k)
+    → some_passes m g ≡ some_passes n f
+some_passes-same n m f g same each =
+    subst (λ (l : ℕ). some_passes l g ≡ some_passes n f) (sym same) (each_below n f g each)
 
 or_false : (x y : Bool) → (x || y) ≡ false → (x ≡ false) × (y ≡ false)
 or_false true y h = absurd (false≢true (sym h))
@@ -66,11 +73,13 @@ kept_apart : (base : State) (info : ChainInfo) (x y : ℕ) → is_kept base info
     → (base.is_fixed y || is_in_table info y) ≡ true → base.bottom y ≢ base.bottom x
 unfolding is_kept
 kept_apart base info x y free inside kept same =
-    let none = some_passes-false base.shape.size (λ z. (base.is_fixed z || is_in_table info z) && eqb (base.bottom z) (base.bottom x)) free y inside in
+    let none = some_passes-false base.shape.size (λ z. (base.is_fixed z || is_in_table info z) && eqb (base.bottom z)
+    (base.bottom x)) free y inside in
     false≢true (sym none ∙ and_from _ _ kept (eq-eqb _ _ same))
 
 -- a place that is not kept is not fixed in the base
-free_below : (base : State) (info : ChainInfo) (x : ℕ) → is_kept base info x ≡ false → x < base.shape.size → base.is_fixed x ≡ false
+free_below : (base : State) (info : ChainInfo) (x : ℕ) → is_kept base info x ≡ false → x < base.shape.size
+    → base.is_fixed x ≡ false
 free_below base info x free inside =
     ⊎_elim
     (λ (fixed : base.is_fixed x ≡ true). absurd (kept_apart base info x x free inside (rw fixed refl) refl))
@@ -94,7 +103,8 @@ module _ (old new : State) (info : ChainInfo) (first blocks : ℕ) (same : SameL
   unfolding place_of chain_list
   same_place x =
       ap (λ (n : ℕ). cond (ltb x n) x (block_place info (chain_list new info first) (x - n))) same_size
-      ∙ ap (λ (o : Option (List ℕ)). cond (ltb x old.shape.size) x (block_place info (unwrap_or o []) (x - old.shape.size))) same.found
+      ∙ ap (λ (o : Option (List ℕ)). cond (ltb x old.shape.size) x (block_place info (unwrap_or o [])
+      (x - old.shape.size))) same.found
 
   same_kept : SameTwins old new → (x : ℕ) → x < old.shape.size → is_kept new info x ≡ is_kept old info x
   unfolding is_kept
@@ -117,10 +127,17 @@ place_inside base info first blocks x room shown inside =
     let at_inside : at < blocks * info.block = omega arith in
     let some = block_some at blocks info.block at_inside in
     let pos = block_inside info.block some at blocks at_inside in
-    let entry = list_entry (table_in base.cells info) info.count Opens first shown.list (at / info.block) shown.linked (omega (arith, pos, shown.enough)) in
+    let entry = list_entry (table_in base.cells info) info.count Opens first shown.list
+    (at / info.block) shown.linked (omega (arith, pos, shown.enough)) in
     let e : ℕ = get_or shown.list (at / info.block) 0 in
     let whole : e - 1 + 1 ≤ info.count = omega (arith, entry.0, entry.1) in
-    rw (le-ltb x base.shape.size behind, shown.is) (omega (arith, mod_below at info.block some, mul-le-mul_right info.block whole, room.table.region)))
+    rw (le-ltb x base.shape.size behind, shown.is) (omega (
+      arith,
+      mod_below at info.block some,
+      mul-le-mul_right
+          info.block whole,
+      room.table.region,
+    )))
     (cases_lt x base.shape.size)
 
 -- the view shows its base, where the chain is as it should be
@@ -143,14 +160,17 @@ base_told base info first blocks told = (and_parts base.told (is_shown base info
 
 pub chain_told : (base : State) (info : ChainInfo) (first blocks : ℕ) → IsTrue (shown_state info first blocks base).told
     → IsShown base info first blocks
-chain_told base info first blocks told = is_shown-true base info first blocks (and_parts base.told (is_shown base info first blocks) told).1
+chain_told base info first blocks told =
+    is_shown-true base info first blocks (and_parts base.told (is_shown base info first blocks) told).1
 
 -- the facts that a view needs of its base
-pub shown_room : (base : State) (shown : Shown) → IsTrue (with_blocks shown base).shape.sound → CanShow base.shape shown.info shown.blocks
+pub shown_room : (base : State) (shown : Shown) → IsTrue (with_blocks shown base).shape.sound
+    → CanShow base.shape shown.info shown.blocks
 shown_room base shown sound = can_show-facts base.shape shown.info shown.blocks sound
 
 -- where the view is told, a call on its chain is done, or fails for the disk's sake
-module _ (base : State) (shown : Shown) (sound : IsTrue (with_blocks shown base).shape.sound) (told : IsTrue (with_blocks shown base).told) where
+module _ (base : State) (shown : Shown) (sound : IsTrue (with_blocks shown base).shape.sound) (told : IsTrue
+    (with_blocks shown base).told) where
   few : shown.info.count < 2 ^ 31
   few = (shown_room base shown sound).table.few
 
@@ -158,11 +178,14 @@ module _ (base : State) (shown : Shown) (sound : IsTrue (with_blocks shown base)
   chain = chain_told base shown.info shown.first shown.blocks told
 
   pub told_first : shown.first ≤ shown.info.count
-  told_first = linked_first (table_in base.cells shown.info) shown.info.count few Opens shown.first chain.list chain.linked
+  told_first = linked_first (table_in base.cells shown.info) shown.info.count few Opens shown.first chain.list
+      chain.linked
 
-  pub told_length : (n : ℕ) → HasLength (table_in base.cells shown.info) shown.info.count Opens shown.first n → shown.blocks ≤ n
+  pub told_length : (n : ℕ) → HasLength (table_in base.cells shown.info) shown.info.count Opens shown.first n
+      → shown.blocks ≤ n
   told_length n len =
-      let same = same_list (table_in base.cells shown.info) shown.info.count few Opens shown.first chain.list chain.linked len.0 len.1 in
+      let same = same_list (table_in base.cells shown.info) shown.info.count few Opens shown.first chain.list
+      chain.linked len.0 len.1 in
       omega (arith, len.2, ap length same, chain.enough)
 
   pub told_run : (pos : ℕ) (found : Option Run) → pos < shown.blocks
@@ -178,7 +201,8 @@ module _ (base : State) (shown : Shown) (sound : IsTrue (with_blocks shown base)
       (base_told base shown.info shown.first shown.blocks told)
 
 -- the list stays where the cells do
-found_stays : (old new : State) (info : ChainInfo) (first : ℕ) → HasAllocationTable old.shape info → new.shape ≡ old.shape → SameCells old new
+found_stays : (old new : State) (info : ChainInfo) (first : ℕ) → HasAllocationTable old.shape info
+    → new.shape ≡ old.shape → SameCells old new
     → SameList old new info first
 unfolding found_list
 found_stays old new info first table shape cells = record {
@@ -198,7 +222,8 @@ module _ (old new : State) (info : ChainInfo) (first blocks : ℕ) (room : CanSh
   view_told told now same = and_from new.told (is_shown new info first blocks) now
       (same_shown old new info first blocks same ∙ (and_parts old.told (is_shown old info first blocks) told).1)
 
-  view_twins : IsTrue (view old).told → SameTwins old new → SameList old new info first → SameTwins (view old) (view new)
+  view_twins : IsTrue (view old).told → SameTwins old new → SameList old new info first
+      → SameTwins (view old) (view new)
   view_twins told twins same =
       let inside = λ (x : ℕ) (below : x < (view old).shape.size). place_inside old info first blocks x room
       (chain_told old info first blocks told) below in
@@ -209,20 +234,24 @@ module _ (old new : State) (info : ChainInfo) (first blocks : ℕ) (room : CanSh
             (same_kept old new info first blocks same twins (place_of old info first x) (inside x below));
       }
 
-  view_cells : IsTrue (view old).told → SameCells old new → SameList old new info first → SameCells (view old) (view new)
+  view_cells : IsTrue (view old).told → SameCells old new → SameList old new info first
+      → SameCells (view old) (view new)
   view_cells told cells same x below = rw (same_place old new info first blocks same x)
-      (cells (place_of old info first x) (place_inside old info first blocks x room (chain_told old info first blocks told) below))
+      (cells (place_of old info first x) (place_inside old info first blocks x room
+      (chain_told old info first blocks told) below))
 
   -- what the base keeps, the view does, where its list stays
   view_space : {P Q : Type 0} (refusal : Option Bad) → (Q → P) → (Q → IsTrue (view old).told)
-      → (Q → UnlessDisk refusal (SameList old new info first)) → SameSpace P old new refusal → SameSpace Q (view old) (view new) refusal
+      → (Q → UnlessDisk refusal (SameList old new info first)) → SameSpace P old new refusal
+      → SameSpace Q (view old) (view new) refusal
   view_space refusal gives told list h = record {
     shape = shape_stays h.shape;
     faults = h.faults;
     cause = h.cause;
     told = λ q. UnlessDisk-both refusal (IsTrue new.told) (SameList old new info first) (IsTrue (view new).told)
         (view_told (told q)) (h.told (gives q)) (list q);
-    twins = λ q. UnlessDisk-both refusal (SameTwins old new) (SameList old new info first) (SameTwins (view old) (view new))
+    twins = λ q. UnlessDisk-both refusal (SameTwins old new) (SameList old new info first) (SameTwins (view old)
+        (view new))
         (view_twins (told q)) (h.twins (gives q)) (list q);
   }
 
@@ -236,7 +265,8 @@ module _ (old new : State) (info : ChainInfo) (first blocks : ℕ) (room : CanSh
   pub view_stays : (refusal : Option Bad) → Stays old new refusal → Stays (view old) (view new) refusal
   view_stays refusal stays = record {
     space = view_space refusal (base_told old info first blocks) (λ told. told) (reads_list refusal stays) stays.space;
-    cells = λ told. UnlessDisk-both refusal (SameCells old new) (SameList old new info first) (SameCells (view old) (view new))
+    cells = λ told. UnlessDisk-both refusal (SameCells old new) (SameList old new info first) (SameCells (view old)
+        (view new))
         (view_cells told) (stays.cells (base_told old info first blocks told)) (reads_list refusal stays told);
   }
 
@@ -246,12 +276,16 @@ module _ {A : Type 0} (states : A → State) (keeps : Spot → A → A → Type 
   view_of x = shown_state info first blocks (states x)
 
   -- what a later put touches it would have touched before, where the list stays
-  pub view_reach : (refusal : Option Bad) → IsTrue (view_of a).told → UnlessDisk refusal (SameList (states a) (states b) info first)
+  pub view_reach : (refusal : Option Bad) → IsTrue (view_of a).told
+      → UnlessDisk refusal (SameList (states a) (states b) info first)
       → UnlessDisk refusal (LandsAsBefore (states a).shape.size (lands a) (lands b))
-      → UnlessDisk refusal (LandsAsBefore (view_of a).shape.size (ShownLands states lands info first a) (ShownLands states lands info first b))
+      → UnlessDisk refusal (LandsAsBefore (view_of a).shape.size (ShownLands states lands info first a)
+      (ShownLands states lands info first b))
   view_reach refusal told =
-      UnlessDisk-both refusal (SameList (states a) (states b) info first) (LandsAsBefore (states a).shape.size (lands a) (lands b))
-      (LandsAsBefore (view_of a).shape.size (ShownLands states lands info first a) (ShownLands states lands info first b))
+      UnlessDisk-both refusal (SameList (states a) (states b) info first) (LandsAsBefore (states a).shape.size
+      (lands a) (lands b))
+      (LandsAsBefore (view_of a).shape.size (ShownLands states lands info first a)
+      (ShownLands states lands info first b))
       (λ same before x below spot lands_b. before (place_of (states a) info first x)
       (place_inside (states a) info first blocks x room (chain_told (states a) info first blocks told) below) spot
       (subst (λ (p : ℕ). lands b p spot) (same_place (states a) (states b) info first blocks same x) lands_b))
@@ -264,7 +298,8 @@ module _ {A : Type 0} (states : A → State) (keeps : Spot → A → A → Type 
     frame = h.frame;
     sectors = h.sectors;
     spots = λ told. h.spots (base_told (states a) info first blocks told);
-    reach = λ told. view_reach refusal told (reads_list (states a) (states b) info first blocks room refusal h.stays told)
+    reach = λ told. view_reach refusal told (reads_list (states a)
+        (states b) info first blocks room refusal h.stays told)
         (h.reach (base_told (states a) info first blocks told));
   }
 
@@ -299,7 +334,8 @@ module _ (old new : State) (info : ChainInfo) (first blocks at most place n : �
       let inside : t < old.shape.size = omega (arith, room.table.table) in
       let in_table : is_in_table info t ≡ true = and_from _ _ (le-leb info.table_at t (omega arith))
       (lt-ltb t (info.table_at + 8 * (info.count + 1)) (omega arith)) in
-      let kept : (old.is_fixed t || is_in_table info t) ≡ true = or_true (old.is_fixed t) (is_in_table info t) in_table in
+      let kept : (old.is_fixed t || is_in_table info t) ≡ true = or_true (old.is_fixed t)
+      (is_in_table info t) in_table in
       let missed : (j : ℕ) → j < length bytes → old.bottom t ≢ old.bottom (place + j) = λ j less same.
       (let here : j < n = omega (arith, less, len) in
       kept_apart old info (place_of old info first (at + j)) t (can.free j here) inside kept
@@ -343,7 +379,8 @@ module _ (old new : State) (info : ChainInfo) (first blocks at most place n : �
       run.places can.told k (omega (arith, less, len)) ∙ ap (λ (p : ℕ). p + k) (sym (first_place can.told)) in
       shown_put old (shown old) (place_of old info first) at bytes new.cells (shown new).cells
       (view_shows old info first blocks room good) (omega (arith, len, run.inside)) side
-      (λ x below. ap new.cells (same_place old new info first blocks same x)) (rw (first_place can.told) (puts.done (can_there can)))
+      (λ x below. ap new.cells (same_place old new info first blocks same x)) (rw (first_place can.told) (puts.done
+      (can_there can)))
   put_done can (Some bad) puts = tt
 
   put_damaged : CanPut (shown old) at (length bytes) → (refusal : Option Bad) → Puts old place bytes new refusal
@@ -355,7 +392,8 @@ module _ (old new : State) (info : ChainInfo) (first blocks at most place n : �
       (put_list (can_here can) (Some (Damaged part level block)) puts)
 
   -- what is put into the base is put into the view
-  pub view_puts : (refusal : Option Bad) → Puts old place bytes new refusal → Puts (shown old) at bytes (shown new) refusal
+  pub view_puts : (refusal : Option Bad) → Puts old place bytes new refusal
+      → Puts (shown old) at bytes (shown new) refusal
   view_puts refusal puts = record {
     space = view_space old new info first blocks room refusal can_there (λ can. can.told)
         (λ can. put_list (can_here can) refusal puts) puts.space;

@@ -1,7 +1,9 @@
 -- The computed list of a table is the one that the relation speaks of.
-use Rattle.std.proofs.Common.{◌≡◌, ℕ, zero, suc, ◌+◌, ◌-◌, ◌^◌, ◌<◌, ◌≤◌, Bool, true, false, ◌&&◌, eqb, ltb, leb, cond, List, [], ◌∷◌, ◌++◌, length}
+use Rattle.std.proofs.Common.{◌≡◌, ℕ, zero, suc, ◌+◌, ◌-◌, ◌^◌, ◌<◌, ◌≤◌, Bool, true, false, ◌&&◌, eqb, ltb, leb, cond}
+use Rattle.std.proofs.Common.{List, [], ◌∷◌, ◌++◌, length}
 use Rattle.std.proofs.Common.{Option, Some, None, option_map, refl, sym, subst, arith, ⊎_elim}
-use Rattle.std.proofs.lemmas.Bool.{and_parts, and_from, cases_lt, cases_Bool, lt-ltb, le-ltb, le-leb, lt-leb, ne_eqb, eq-eqb, leb-true, eqb-true, false≢true}
+use Rattle.std.proofs.lemmas.Bool.{and_parts, and_from, cases_lt, cases_Bool, lt-ltb, le-ltb, le-leb, lt-leb, ne_eqb}
+use Rattle.std.proofs.lemmas.Bool.{eq-eqb, leb-true, eqb-true, false≢true}
 use Rattle.std.specs.List.{range_with_len}
 use Rattle.save_bytes.specs.Cells.{Cell, Byte, Blank, Spoilt, IsByte}
 use Rattle.chain_nodes.specs.declared.node.Node.{Node}
@@ -25,7 +27,8 @@ each_passes-true (suc n) test h k less =
 pub true-each_passes : (n : ℕ) (test : ℕ → Bool) → ((k : ℕ) → k < n → test k ≡ true) → each_passes n test ≡ true
 unfolding each_passes
 true-each_passes zero test h = refl
-true-each_passes (suc n) test h = and_from (test n) (each_passes n test) (h n (omega arith)) (true-each_passes n test (λ k less. h k (omega arith)))
+true-each_passes (suc n) test h =
+    and_from (test n) (each_passes n test) (h n (omega arith)) (true-each_passes n test (λ k less. h k (omega arith)))
 
 is_byte-true : (cell : Cell) → is_byte cell ≡ true → IsByte cell
 is_byte-true (Byte value) h = tt
@@ -40,11 +43,13 @@ true-is_byte (Spoilt part level block) h = absurd h
 module _ (table : ℕ → ℕ → Cell) where
   has_words-true : (entry : ℕ) → has_words table entry ≡ true → HasWords table entry
   unfolding has_words
-  has_words-true entry h k less = is_byte-true (table entry k) (each_passes-true 8 (λ j. is_byte (table entry j)) h k less)
+  has_words-true entry h k less =
+      is_byte-true (table entry k) (each_passes-true 8 (λ j. is_byte (table entry j)) h k less)
 
   true-has_words : (entry : ℕ) → HasWords table entry → has_words table entry ≡ true
   unfolding has_words
-  true-has_words entry h = true-each_passes 8 (λ j. is_byte (table entry j)) (λ k less. true-is_byte (table entry k) (h k less))
+  true-has_words entry h =
+      true-each_passes 8 (λ j. is_byte (table entry j)) (λ k less. true-is_byte (table entry k) (h k less))
 
   is_lead-true : (lead : Lead) (word : ℕ) → is_lead lead word ≡ true → IsLead lead word
   is_lead-true Opens word h = eqb-true word (flagged 0) h
@@ -83,8 +88,10 @@ module _ (table : ℕ → ℕ → Cell) where
           ends = leb-true _ _ c.0;
           read = has_words-true node.first d.0;
           u = is_lead-true lead (word_u table node.first) e.0;
-          single = λ same. (let less : ltb node.first node.last ≡ false = le-ltb node.first node.last (omega arith) in eqb-true _ _ (rw less at e.1));
-          several = λ more. (let less : ltb node.first node.last ≡ true = lt-ltb node.first node.last more in eqb-true _ _ (and_parts _ _ (rw less at e.1)).0);
+          single = λ same. (let less : ltb node.first node.last ≡ false = le-ltb node.first node.last
+              (omega arith) in eqb-true _ _ (rw less at e.1));
+          several = λ more. (let less : ltb node.first node.last ≡ true = lt-ltb node.first node.last more in eqb-true
+              _ _ (and_parts _ _ (rw less at e.1)).0);
           second = λ more. (let less : ltb node.first node.last ≡ true =
               lt-ltb node.first node.last more in is_inner-true node (node.first + 1)
               (and_parts _ _ (and_parts _ _ (rw less at e.1)).1).0);
@@ -125,7 +132,8 @@ some_inj xs ys e = cc
 none_some : (ys : List ℕ) → None ≡ Some ys → ⊥
 none_some ys e = cc
 
-no_list : (table : ℕ → ℕ → Cell) (count : ℕ) (lead : Lead) (list : List ℕ) → Some [] ≡ Some list → IsLinkedBy table count lead 0 list
+no_list : (table : ℕ → ℕ → Cell) (count : ℕ) (lead : Lead) (list : List ℕ) → Some [] ≡ Some list
+    → IsLinkedBy table count lead 0 list
 no_list table count lead list e = record { nodes = []; linked = tt; starts = refl; entries = some_inj [] list e }
 
 module _ (table : ℕ → ℕ → Cell) (count : ℕ) where
@@ -135,7 +143,11 @@ module _ (table : ℕ → ℕ → Cell) (count : ℕ) where
       → IsLinkedBy table count lead first (range_with_len first (node.last + 1 - first) ++ rest)
   longer_list lead first next node rest same h linked = record {
     nodes = node ∷ linked.nodes;
-    linked = (rw linked.starts h, subst (λ (f : ℕ). AreNodes table count (Follows f) linked.nodes 0) (sym same) linked.linked);
+    linked = (
+      rw linked.starts h,
+      subst (λ (f : ℕ). AreNodes table count (Follows f) linked.nodes 0)
+          (sym same) linked.linked,
+    );
     starts = same;
     entries = rw (same, linked.entries) refl;
   }
@@ -176,12 +188,14 @@ module _ (table : ℕ → ℕ → Cell) (count : ℕ) where
       (list_in table count most (Follows first) (index_of (word_v table first))) (node_at-first first)
       (is_node-true table count lead (node_at table first) (index_of (word_v table first)) good)
       (λ rest. list_in-linked most (Follows first) (index_of (word_v table first)) rest) (rw (some, good) at h))
-      (λ (bad : is_node table count lead (node_at table first) (index_of (word_v table first)) ≡ false). absurd (none_some list (rw (some, bad) at h)))
+      (λ (bad : is_node table count lead (node_at table first) (index_of (word_v table first)) ≡ false). absurd
+      (none_some list (rw (some, bad) at h)))
       (cases_Bool (is_node table count lead (node_at table first) (index_of (word_v table first)))))
       (cases_Bool (eqb first 0))
 
   -- a node is the one that its words tell of
-  node_at-is : (lead : Lead) (node : Node) (next : ℕ) → next < 2 ^ 31 → IsNode table count lead node next → node_at table node.first ≡ node
+  node_at-is : (lead : Lead) (node : Node) (next : ℕ) → next < 2 ^ 31 → IsNode table count lead node next
+      → node_at table node.first ≡ node
   unfolding node_at
   node_at-is lead node next small h =
       ⊎_elim
@@ -191,18 +205,22 @@ module _ (table : ℕ → ℕ → Cell) (count : ℕ) where
       rw flag (λ i. record { first = node.first; last = (h.second more).v i }))
       (λ (one : node.last ≤ node.first).
       let same : node.first ≡ node.last = omega (arith, h.ordered) in
-      let flag : leb (2 ^ 31) (word_v table node.first) ≡ false = lt-leb (2 ^ 31) (word_v table node.first) (omega (arith, h.single same)) in
+      let flag : leb (2 ^ 31) (word_v table node.first) ≡ false = lt-leb (2 ^ 31) (word_v table node.first) (omega
+      (arith, h.single same)) in
       rw flag (λ i. record { first = node.first; last = same i }))
       (cases_lt node.first node.last)
 
-  next_is : (lead : Lead) (node : Node) (next : ℕ) → next < 2 ^ 31 → IsNode table count lead node next → index_of (word_v table node.first) ≡ next
+  next_is : (lead : Lead) (node : Node) (next : ℕ) → next < 2 ^ 31 → IsNode table count lead node next
+      → index_of (word_v table node.first) ≡ next
   next_is lead node next small h =
       ⊎_elim
       (λ (more : node.first < node.last). omega (arith, h.several more))
-      (λ (one : node.last ≤ node.first). (let same : node.first ≡ node.last = omega (arith, h.ordered) in omega (arith, h.single same)))
+      (λ (one : node.last ≤ node.first). (let same : node.first ≡ node.last = omega (arith, h.ordered) in omega
+      (arith, h.single same)))
       (cases_lt node.first node.last)
 
-  start_below : count < 2 ^ 31 → (lead : Lead) (nodes : List Node) → AreNodes table count lead nodes 0 → start_of nodes 0 < 2 ^ 31
+  start_below : count < 2 ^ 31 → (lead : Lead) (nodes : List Node) → AreNodes table count lead nodes 0
+      → start_of nodes 0 < 2 ^ 31
   start_below few lead [] h = omega arith
   start_below few lead (node ∷ nodes) h = omega (arith, h.0.ordered, h.0.ends)
 
@@ -223,7 +241,8 @@ module _ (table : ℕ → ℕ → Cell) (count : ℕ) where
       let some : eqb node.first 0 ≡ false = ne_eqb node.first 0 (λ e. omega (arith, e, h.0.starts)) in
       let is = node_at-is lead node (start_of nodes 0) small h.0 in
       let next = next_is lead node (start_of nodes 0) small h.0 in
-      let good : is_node table count lead node (start_of nodes 0) ≡ true = true-is_node table count lead node (start_of nodes 0) h.0 in
+      let good : is_node table count lead node (start_of nodes 0) ≡ true = true-is_node table count lead node
+      (start_of nodes 0) h.0 in
       let rest : list_in table count most (Follows node.first) (start_of nodes 0) ≡ Some (entries_of nodes) =
       linked-list_in few most (Follows node.first) nodes h.1 (omega (arith, enough)) in
       rw (some, is, next, good, rest) refl

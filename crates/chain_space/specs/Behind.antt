@@ -11,7 +11,8 @@ abbrev pub seen : {S : Type 0} → (S → State) → ChainSpace S → State
 seen states space = with_blocks space.shown (states space.base.now)
 
 -- the space holds these
-pub record IsSpaceOver {S : Type 0} (space : ChainSpace S) (base : MutBor S) (info : ChainInfo) (first blocks : ℕ) : Type 0 where
+pub record IsSpaceOver {S : Type 0} (space : ChainSpace S) (base : MutBor S) (info : ChainInfo)
+    (first blocks : ℕ) : Type 0 where
   pub same_base : space.base.ghost_name ≡ base.ghost_name
   pub base_now : space.base.now ≡ base.now
   pub same_info : space.shown.info ≡ info

@@ -1,5 +1,6 @@
 -- A space behind which the bytes of a chain's blocks lie once more.
-use Rattle.std.specs.Prelude.{◌≡◌, ℕ, ◌+◌, ◌-◌, ◌*◌, ◌/◌, ◌%◌, ◌^◌, ◌<◌, ◌≤◌, Bool, true, ◌&&◌, ◌||◌, ◌==◌, nat_lt, nat_le, if◌then◌else◌, IsTrue}
+use Rattle.std.specs.Prelude.{◌≡◌, ℕ, ◌+◌, ◌-◌, ◌*◌, ◌/◌, ◌%◌, ◌^◌, ◌<◌, ◌≤◌, Bool, true, ◌&&◌, ◌||◌, ◌==◌, nat_lt}
+use Rattle.std.specs.Prelude.{nat_le, if◌then◌else◌, IsTrue}
 use Rattle.std.specs.Prelude.{List, [], slice_index, unwrap_or, Option, Result, IfOk}
 use Rattle.std.specs.Result.{result_err}
 use Rattle.save_bytes.specs.declared.space.Bad.{Bad}
@@ -47,7 +48,8 @@ is_kept base info x =
 unfoldable pub can_show : Shape → ChainInfo → ℕ → Bool
 can_show base info blocks =
     base.sound && ((base.first == 0) && (nat_lt info.count (2 ^ 31)
-    && (nat_le (info.table_at + 8 * (info.count + 1)) base.size && (nat_le (info.region_at + info.count * info.block) base.size
+    && (nat_le (info.table_at + 8 * (info.count + 1)) base.size
+    && (nat_le (info.region_at + info.count * info.block) base.size
     && nat_lt (base.size + blocks * info.block) (2 ^ 64)))))
 
 -- The base, and behind it the bytes of the first blocks of a chain. Each byte of these has two places.
@@ -82,10 +84,12 @@ pub record LinksBlocks (base : State) (info : ChainInfo) (first blocks : ℕ) : 
 
 -- Where the bytes from `at` on lie in the base, and how many lie there in one piece: as many as are asked for, up to the
 -- end of the base or of a node.
-pub record IsLocatedRun (base : State) (info : ChainInfo) (first blocks at most : ℕ) (result : Result (ℕ × ℕ) Bad) : Type 0 where
+pub record IsLocatedRun (base : State) (info : ChainInfo) (first blocks at most : ℕ)
+    (result : Result (ℕ × ℕ) Bad) : Type 0 where
   pub some : IfOk result (λ run. 1 ≤ run.1)
   pub bounded : IfOk result (λ run. run.1 ≤ most)
   pub inside : IfOk result (λ run. at + run.1 ≤ base.shape.size + blocks * info.block)
   pub in_base : IfOk result (λ run. run.0 + run.1 ≤ base.shape.size)
-  pub places : IsTrue (shown_state info first blocks base).told → IfOk result (λ run. (k : ℕ) → k < run.1 → place_of base info first (at + k) ≡ run.0 + k)
+  pub places : IsTrue (shown_state info first blocks base).told
+      → IfOk result (λ run. (k : ℕ) → k < run.1 → place_of base info first (at + k) ≡ run.0 + k)
   pub plain : NeverDamaged (result_err result)

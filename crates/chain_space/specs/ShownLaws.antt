@@ -17,7 +17,8 @@ pub record CanShow (base : Shape) (info : ChainInfo) (blocks : ℕ) : Type 0 whe
   pub table : HasAllocationTable base info
   pub fits : base.size + blocks * info.block < 2 ^ 64
 
-pub can_show-facts : (base : Shape) (info : ChainInfo) (blocks : ℕ) → can_show base info blocks ≡ true → CanShow base info blocks
+pub can_show-facts : (base : Shape) (info : ChainInfo) (blocks : ℕ) → can_show base info blocks ≡ true
+    → CanShow base info blocks
 unfolding can_show
 can_show-facts base info blocks h =
     let a = and_parts _ _ h in
@@ -26,11 +27,18 @@ can_show-facts base info blocks h =
     let d = and_parts _ _ c.1 in
     let e = and_parts _ _ d.1 in
     record {
-      table = record { sound = a.0; first = eqb-true _ _ b.0; few = ltb-true _ _ c.0; table = leb-true _ _ d.0; region = leb-true _ _ e.0 };
+      table = record {
+        sound = a.0;
+        first = eqb-true _ _ b.0;
+        few = ltb-true _ _ c.0;
+        table = leb-true _ _ d.0;
+        region = leb-true _ _ e.0;
+      };
       fits = ltb-true _ _ e.1;
     }
 
-pub shown_size_fits : (shown : Shown) (base : State) → IsTrue (with_blocks shown base).shape.sound → base.shape.size + shown.blocks * shown.info.block < 2 ^ 64
+pub shown_size_fits : (shown : Shown) (base : State) → IsTrue (with_blocks shown base).shape.sound
+    → base.shape.size + shown.blocks * shown.info.block < 2 ^ 64
 shown_size_fits shown base h = (can_show-facts base.shape shown.info shown.blocks h).fits
 
 -- the base tells its cells where the view does

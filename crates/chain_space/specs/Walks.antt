@@ -1,5 +1,6 @@
 -- The list that a table gives, as a function: what is said of chains as a relation, computed.
-use Rattle.std.specs.Prelude.{ℕ, zero, suc, ◌+◌, ◌-◌, ◌^◌, Bool, true, false, ◌&&◌, ◌==◌, nat_lt, nat_le, if◌then◌else◌, List, [], ◌++◌, length}
+use Rattle.std.specs.Prelude.{ℕ, zero, suc, ◌+◌, ◌-◌, ◌^◌, Bool, true, false, ◌&&◌, ◌==◌, nat_lt, nat_le, if◌then◌else◌}
+use Rattle.std.specs.Prelude.{List, [], ◌++◌, length}
 use Rattle.std.specs.Prelude.{Option, Some, None, option_map}
 use Rattle.std.specs.List.{range_with_len}
 use Rattle.save_bytes.specs.Cells.{Cell, Byte, Blank, Spoilt}
@@ -23,7 +24,8 @@ is_lead OpensFree word = index_of word == 0
 is_lead (Follows before) word = word == before
 
 unfoldable pub is_inner : (ℕ → ℕ → Cell) → Node → ℕ → Bool
-is_inner table node entry = has_words table entry && ((word_u table entry == flagged node.first) && (word_v table entry == node.last))
+is_inner table node entry =
+    has_words table entry && ((word_u table entry == flagged node.first) && (word_v table entry == node.last))
 
 -- the test of `IsNode`
 unfoldable pub is_node : (ℕ → ℕ → Cell) → ℕ → Lead → Node → ℕ → Bool
@@ -31,12 +33,16 @@ is_node table count lead node next =
     nat_le 1 node.first && (nat_le node.first node.last && (nat_le node.last count
     && (has_words table node.first && (is_lead lead (word_u table node.first)
     && (if nat_lt node.first node.last
-    then (word_v table node.first == flagged next) && (is_inner table node (node.first + 1) && is_inner table node node.last)
+    then (word_v table node.first == flagged next)
+    && (is_inner table node (node.first + 1) && is_inner table node node.last)
     else (word_v table node.first == next))))))
 
 -- the node that begins with an entry, by its words
 unfoldable pub node_at : (ℕ → ℕ → Cell) → ℕ → Node
-node_at table first = record { first = first; last = if nat_le (2 ^ 31) (word_v table first) then word_v table (first + 1) else first }
+node_at table first = record {
+  first = first;
+  last = if nat_le (2 ^ 31) (word_v table first) then word_v table (first + 1) else first;
+}
 
 -- the entries of the list that begins with `first`, where the table is as it should be and the list has so many nodes at most
 unfoldable pub list_in : (ℕ → ℕ → Cell) → ℕ → ℕ → Lead → ℕ → Option (List ℕ)

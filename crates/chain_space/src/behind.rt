@@ -8,7 +8,8 @@ ghost use Rattle.chain_nodes.specs.declared.node.Lead.TheVariants.{Opens};
 ghost use Rattle.chain_nodes.specs.Table.{table_in};
 ghost use Rattle.chain_nodes.specs.Chains.{IsLinkedBy};
 ghost use Rattle.chain_space.specs.Shown.{chain_list, LinksBlocks, place_of, ShownLands};
-ghost use Rattle.chain_space.specs.ShownLaws.{CanShow, with_blocks, shown_size_fits, shown_told, shown_twins, shown_shape};
+ghost use Rattle.chain_space.specs.ShownLaws.{CanShow, with_blocks, shown_size_fits, shown_told, shown_twins};
+ghost use Rattle.chain_space.specs.ShownLaws.{shown_shape};
 ghost use Rattle.chain_space.specs.Behind.{seen, IsSpaceOver};
 
 use crate::space::{Shown, locate, put_shown, ready_runs, shown_len};
@@ -47,20 +48,26 @@ impl<'a, S: Space> ChainSpace<'a, S> {
 impl<S: Space> Space for ChainSpace<'_, S> {
     ghost state = { λ v. with_blocks v.shown (S.state v.base.now) };
 
-    ghost keeps = { λ spot s t. (t.base.ghost_name ≡ s.base.ghost_name) × (t.shown ≡ s.shown) × S.keeps spot s.base.now t.base.now };
+    ghost keeps = { λ spot s t. (t.base.ghost_name ≡ s.base.ghost_name)
+        × (t.shown ≡ s.shown) × S.keeps spot s.base.now t.base.now };
 
     ghost lands = { λ v. ShownLands S.state S.lands v.shown.info v.shown.first v.base.now };
 
     ghost size_fits = { λ v. shown_size_fits v.shown (S.state v.base.now) };
 
-    ghost plain_bytes = { λ v plain told x. S.plain_bytes v.base.now plain (shown_told v.shown (S.state v.base.now) told)
+    ghost plain_bytes = { λ v plain told x. S.plain_bytes v.base.now plain
+        (shown_told v.shown (S.state v.base.now) told)
         (place_of (S.state v.base.now) v.shown.info v.shown.first x) };
 
     ghost no_twins = { λ v. shown_twins v.shown (S.state v.base.now) };
 
     ghost keeps_same = { λ spot v. (refl, refl, S.keeps_same spot v.base.now) };
 
-    ghost keeps_join = { λ spot s t u h k. (k.0 ∙ h.0, k.1 ∙ h.1, S.keeps_join spot s.base.now t.base.now u.base.now h.2 k.2) };
+    ghost keeps_join = { λ spot s t u h k. (
+      k.0 ∙ h.0,
+      k.1 ∙ h.1,
+      S.keeps_join spot s.base.now t.base.now u.base.now h.2 k.2,
+    ) };
 
     ghost keeps_hold = { λ s t h. (h.0, h.1, S.keeps_hold s.base.now t.base.now h.2) };
 

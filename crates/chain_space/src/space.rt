@@ -11,7 +11,8 @@ ghost use Rattle.save_bytes.specs.Puts.{Puts};
 ghost use Rattle.save_bytes.specs.Reads.{Reads};
 ghost use Rattle.save_bytes.specs.Spots.{MovesOnly};
 ghost use Rattle.chain_nodes.specs.Runs.{IsRunIn};
-ghost use Rattle.chain_space.specs.Shown.{chain_list, is_shown, place_of, can_show, shown_state, ShownLands, IsLocatedRun};
+ghost use Rattle.chain_space.specs.Shown.{chain_list, is_shown, place_of, can_show, shown_state, ShownLands};
+ghost use Rattle.chain_space.specs.Shown.{IsLocatedRun};
 ghost use Rattle.chain_space.specs.ShownLaws.{with_blocks};
 
 use chain_nodes::{ChainInfo, Lead, Run, list_len, seek};
@@ -61,7 +62,8 @@ fn locate_behind<S: Space>(base: &mut S, shown: Shown, at: u64) -> Result<(u64, 
     ensures in_base { IfOk result (λ run. run.0 + run.1 ≤ (S.state base.old).shape.size) }
     ensures places { let size = (S.state base.old).shape.size in
         IsTrue (shown_state shown.info shown.first shown.blocks (S.state base.old)).told
-        → IfOk result (λ run. (k : ℕ) → k < run.1 → place_of (S.state base.old) shown.info shown.first (size + at + k) ≡ run.0 + k) }
+        → IfOk result (λ run. (k : ℕ) → k < run.1
+        → place_of (S.state base.old) shown.info shown.first (size + at + k) ≡ run.0 + k) }
     ensures plain { NeverDamaged (result_err result) }
     ensures reads { Reads S.state S.keeps S.lands base.old base.new (result_err result) }
 {
@@ -151,7 +153,8 @@ fn put_run<S: Space>(base: &mut S, shown: Shown, at: u64, bytes: &[u8]) -> Resul
         → ((k : ℕ) → k < length bytes.now → IsUnspoilt (old.cells (at + k))) → NeverDamaged (result_err result) }
     ensures plain { IsTrue (S.state base.old).shape.plain → NeverDamaged (result_err result) }
     ensures puts { let old = with_blocks shown (S.state base.old) in let new = with_blocks shown (S.state base.new) in
-        MatchResult result (λ n. Puts old at (take n bytes.now) new None) (λ bad. Puts old at bytes.now new (Some bad)) }
+        MatchResult result (λ n. Puts old at (take n bytes.now) new None)
+        (λ bad. Puts old at bytes.now new (Some bad)) }
     ensures moves { let was = with_blocks shown (S.state base.old) in
         let lands = ShownLands S.state S.lands shown.info shown.first in
         MatchResult result (λ n. MovesOnly S.keeps lands was base.old at n base.new None)

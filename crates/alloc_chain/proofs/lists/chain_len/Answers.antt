@@ -14,9 +14,11 @@ returns-clause-exact g c = λ told list chain.
     let same = same_list (table_in s.cells info) info.count c.requires.few Opens c.args.first list chain.linked in
     list_done (λ n. n ≡ length list) s info Opens c.args.first list c.list_len.result c.requires.few told chain.linked
     chain.once c.list_len.ensures.faults
-    (IfOk-map c.list_len.result (λ n (other, linked, is). is ∙ ap length (same other linked)) (c.list_len.ensures.length told))
+    (IfOk-map c.list_len.result (λ n (other, linked, is). is ∙ ap length (same other linked))
+    (c.list_len.ensures.length told))
 
 pub returns-clause-faults : goal.returns-clause-faults
 returns-clause-faults g c =
-    FaultsOnly-map (g.S.Space.state c.args.base.now) c.args.info (result_err c.list_len.result) (λ told e broken _. broken)
+    FaultsOnly-map (g.S.Space.state c.args.base.now) c.args.info (result_err c.list_len.result)
+    (λ told e broken _. broken)
     (λ told e fails. fails) c.list_len.ensures.faults

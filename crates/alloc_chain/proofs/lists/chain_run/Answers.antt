@@ -9,7 +9,8 @@ use Rattle.alloc_chain.proofs.lists.chain_run.Goals as goal
 pub returns-in-Ok-Some-clause-exact : goal.returns-in-Ok-Some-clause-exact
 returns-in-Ok-Some-clause-exact g c = λ told list chain less.
     let info = c.args.info in
-    run_in (table_in (g.S.Space.state c.args.base.now).cells info) info.count c.requires.few Opens c.args.first list chain.linked
+    run_in (table_in (g.S.Space.state c.args.base.now).cells info) info.count c.requires.few Opens c.args.first list
+    chain.linked
     c.args.pos c.in-Ok-Some.run' (rw c.in-Ok-Some.field-0-is at (c.in-Ok-Some.ensures.run told))
 
 pub returns-in-Ok-None-clause-exact : goal.returns-in-Ok-None-clause-exact

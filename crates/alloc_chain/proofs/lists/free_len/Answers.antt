@@ -23,16 +23,19 @@ pub returns-clause-length : goal.returns-clause-length
 returns-clause-length g c = λ told.
     let info = c.args.info in
     let stays = c.in-Ok.ensures.reads.stays in
-    let here : IfOk c.list_len.result (HasLength (table_in (g.S.Space.state c.args.base.now).cells info) info.count OpensFree c.in-Ok.first) =
+    let here : IfOk c.list_len.result (HasLength (table_in (g.S.Space.state c.args.base.now).cells info) info.count
+    OpensFree c.in-Ok.first) =
     subst (λ (t : ℕ → ℕ → Cell). IfOk c.list_len.result (HasLength t info.count OpensFree c.in-Ok.first))
     (table_stays (g.S.Space.state c.args.base.now) (g.S.Space.state c.free_first.new.base) info c.requires stays told)
     (c.list_len.ensures.length (stays.space.told told)) in
-    subst (λ (f : ℕ). IfOk c.list_len.result (HasLength (table_in (g.S.Space.state c.args.base.now).cells info) info.count OpensFree f))
+    subst (λ (f : ℕ). IfOk c.list_len.result (HasLength (table_in
+    (g.S.Space.state c.args.base.now).cells info) info.count OpensFree f))
     (c.in-Ok.ensures.first told).1 here
 
 pub returns-clause-faults : goal.returns-clause-faults
 returns-clause-faults g c =
-    free_faults_later (g.S.Space.state c.args.base.now) (g.S.Space.state c.free_first.new.base) c.args.info c.in-Ok.first
+    free_faults_later (g.S.Space.state c.args.base.now) (g.S.Space.state c.free_first.new.base) c.args.info
+    c.in-Ok.first
     (result_err c.list_len.result) c.requires c.in-Ok.ensures.reads.stays (λ told. (c.in-Ok.ensures.first told).1)
     c.list_len.ensures.faults
 

@@ -12,11 +12,14 @@ returns-clause-exact g c = λ told place list linked once.
     let info = c.args.info in
     let cursor = c.args.cursor in
     let few = c.requires.table.few in
-    list_done (λ step. IsRunIn list cursor.passed step.0) s info cursor.opens cursor.first list c.advance.result few told
+    list_done (λ step. IsRunIn list cursor.passed step.0) s info cursor.opens cursor.first list c.advance.result few
+    told
     linked once
-    (FaultsOnly-map s info (result_err c.advance.result) (λ _ e broken. broken place.reached) (λ _ e fails. fails place.reached)
+    (FaultsOnly-map s info (result_err c.advance.result) (λ _ e broken. broken place.reached)
+    (λ _ e fails. fails place.reached)
     c.advance.ensures.faults)
-    (IfOk-map c.advance.result (λ step. run_in (table_in s.cells info) info.count few cursor.opens cursor.first list linked
+    (IfOk-map c.advance.result (λ step. run_in (table_in s.cells info) info.count few cursor.opens cursor.first list
+    linked
     cursor.passed step.0) (c.advance.ensures.run told place.reached))
 
 pub returns-clause-faults : goal.returns-clause-faults

@@ -50,7 +50,8 @@ loop-cursor-preserved g c =
     let is_node = λ (told : IsTrue old.told).
     (let here : IsNode table info.count cursor.lead link.node link.next =
     subst (λ (t : ℕ → ℕ → Cell). IsNode t info.count cursor.lead link.node link.next)
-    (table_stays old now info c.requires.table invariant.reads.stays told) (c.in-Ok.ensures.node (invariant.reads.stays.space.told told)) in
+    (table_stays old now info c.requires.table invariant.reads.stays told) (c.in-Ok.ensures.node
+    (invariant.reads.stays.space.told told)) in
     subst (λ (n : ℕ). IsNode table info.count cursor.lead link.node n) (sym c.behind-cursor.ensures.next) here) in
     record {
       next = omega (arith, c.in-Ok.ensures.next);

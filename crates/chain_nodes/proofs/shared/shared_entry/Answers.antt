@@ -52,7 +52,8 @@ between_in old now count lead first end low high between same is =
 
 -- what was counted, of the table as the search began
 counted : (g : Over) (c : In-Ok g) → IsTrue (g.S.Space.state c.args.base.now).told
-    → (whole : IsReached (table_in (g.S.Space.state c.args.base.now).cells c.args.info) c.args.info.count c.args.lead c.args.first c.args.end)
+    → (whole : IsReached (table_in (g.S.Space.state c.args.base.now).cells c.args.info) c.args.info.count c.args.lead
+    c.args.first c.args.end)
     → c.in-Ok.between ≡ count_between c.loop-low.low (c.loop-low.low + (c.loop-low.high - c.loop-low.low) / 2)
     (entries_of whole.nodes)
 counted g c told =
@@ -60,7 +61,8 @@ counted g c told =
     between_in (table_in (g.S.Space.state c.args.base.now).cells c.args.info)
     (table_in (g.S.Space.state c.loop-low.base).cells c.args.info) c.args.info.count c.args.lead c.args.first c.args.end
     c.loop-low.low (c.loop-low.low + (c.loop-low.high - c.loop-low.low) / 2) c.in-Ok.between
-    (table_stays (g.S.Space.state c.args.base.now) (g.S.Space.state c.loop-low.base) c.args.info c.requires.table stays told)
+    (table_stays (g.S.Space.state c.args.base.now) (g.S.Space.state c.loop-low.base) c.args.info c.requires.table stays
+    told)
     (c.in-Ok.ensures.between (stays.space.told told))
 
 pub loop-low-preserved-then-between-from : goal.loop-low-preserved-then-between-from

@@ -25,9 +25,11 @@ returns-then-behind-from-clause-faults g c =
     let moved = c.behind-behind.ensures in
     let same = table_stays old mid info c.requires.table c.in-Ok.ensures.reads.stays in
     FaultsOnly-later old mid info (Some c.shared_fault.result) c.requires.table c.in-Ok.ensures.reads.stays
-    (λ told e broken reached. subst (λ (t : ℕ → ℕ → Cell). IsReached t info.count c.args.cursor.opens from c.behind-behind.result
+    (λ told e broken reached. subst (λ (t : ℕ → ℕ → Cell). IsReached t info.count c.args.cursor.opens from
+    c.behind-behind.result
     → IsBroken t info.count c.args.cursor.opens from e) (same told) broken
-    (reached_step (table_in old.cells info) info.count c.args.cursor.opens from c.args.cursor c.behind-behind.result link.node link.next
+    (reached_step (table_in old.cells info) info.count c.args.cursor.opens from c.args.cursor c.behind-behind.result
+    link.node link.next
     reached (c.in-Ok.ensures.node told) c.in-Ok.ensures.next c.in-Ok.ensures.first moved.lead moved.next moved.passed))
     (λ told e fails _. subst (λ (t : ℕ → ℕ → Cell). FailsAt t info.count c.args.cursor.opens from e) (same told) fails)
     c.shared_fault.ensures.faults
@@ -40,6 +42,7 @@ pub returns-clause-reached : goal.returns-clause-reached
 returns-clause-reached g c = λ told reached.
     let moved = c.behind-behind.ensures in
     let link = c.in-Ok.link in
-    reached_step (table_in (g.S.Space.state c.args.base.now).cells c.args.info) c.args.info.count c.args.cursor.opens c.args.cursor.first
+    reached_step (table_in (g.S.Space.state c.args.base.now).cells c.args.info) c.args.info.count c.args.cursor.opens
+    c.args.cursor.first
     c.args.cursor c.behind-behind.result link.node link.next reached (c.in-Ok.ensures.node told) c.in-Ok.ensures.next
     c.in-Ok.ensures.first moved.lead moved.next moved.passed

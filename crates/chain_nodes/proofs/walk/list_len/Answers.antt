@@ -7,7 +7,8 @@ use Rattle.chain_nodes.proofs.walk.list_len.Goals as goal
 pub returns-in-Err-clause-faults : goal.returns-in-Err-clause-faults
 returns-in-Err-clause-faults g c =
     let before = c.loop-cursor.invariant in
-    list_faults_later c.requires.table before.reads.stays c.args.first c.loop-cursor.cursor (Some c.in-Err.fault) before.opens
+    list_faults_later c.requires.table before.reads.stays c.args.first c.loop-cursor.cursor
+    (Some c.in-Err.fault) before.opens
     before.first before.reached c.in-Err.ensures.faults
 
 pub returns-in-Err-clause-reads : goal.returns-in-Err-clause-reads
@@ -24,7 +25,8 @@ loop-cursor-preserved g c =
       next = step.next;
       passed = step.bounded;
       reached = λ told. said_later c.requires.table before.reads.stays
-          (λ t l f. IsReached t c.args.info.count l f c.in-Ok.behind) c.args.first c.loop-cursor.cursor before.opens before.first step.reached told
+          (λ t l f. IsReached t c.args.info.count l f c.in-Ok.behind) c.args.first c.loop-cursor.cursor before.opens
+          before.first step.reached told
           (before.reached told);
       reads = reads_then g.met.S.Space.keeps_join before.reads step.reads;
     }

@@ -7,7 +7,8 @@ use Rattle.chain_space.proofs.space.locate_behind.Goals.{In-Ok-Some}
 use Rattle.chain_space.proofs.space.locate_behind.Goals as goal
 
 -- the bytes of the run lie in the region
-run_fits : (g : Over) (c : In-Ok-Some g) → c.args.shown.info.region_at + c.in-Ok-Some.run'.block * c.args.shown.info.block
+run_fits : (g : Over) (c : In-Ok-Some g) → c.args.shown.info.region_at + c.in-Ok-Some.run'.block *
+    c.args.shown.info.block
     + c.in-Ok-Some.run'.len * c.args.shown.info.block ≤ (g.S.Space.state c.args.base.now).shape.size
 run_fits g c =
     let base = g.S.Space.state c.args.base.now in
@@ -32,7 +33,12 @@ run_goes_on g c =
 pub overflow_add-place : goal.overflow_add-place
 overflow_add-place g c =
     let room = shown_room (g.S.Space.state c.args.base.now) c.args.shown c.requires.sound in
-    rw (c.from.ensures, c.from-block.ensures) (omega (arith, run_fits g (goal.at.overflow_add-place g c).In-Ok-Some, room.fits))
+    rw (c.from.ensures, c.from-block.ensures) (omega (
+      arith,
+      run_fits g
+          (goal.at.overflow_add-place g c).In-Ok-Some,
+      room.fits,
+    ))
 
 pub overflow_add-place-in-Ok-Some : goal.overflow_add-place-in-Ok-Some
 overflow_add-place-in-Ok-Some g c =
@@ -43,7 +49,8 @@ overflow_add-place-in-Ok-Some g c =
 pub returns-in-Ok-Some-clause-in_base : goal.returns-in-Ok-Some-clause-in_base
 returns-in-Ok-Some-clause-in_base g c =
     let here = (goal.at.returns-in-Ok-Some-clause-in_base g c).In-Ok-Some in
-    rw (c.from.ensures, c.from-block.ensures, c.from-in-Ok-Some.ensures) (omega (arith, run_fits g here, run_goes_on g here))
+    rw (c.from.ensures, c.from-block.ensures, c.from-in-Ok-Some.ensures) (omega
+    (arith, run_fits g here, run_goes_on g here))
 
 pub returns-in-Ok-Some-clause-places : goal.returns-in-Ok-Some-clause-places
 returns-in-Ok-Some-clause-places g c = λ told k less.

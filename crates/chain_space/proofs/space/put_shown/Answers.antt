@@ -10,26 +10,33 @@ use Rattle.chain_space.specs.declared.space.Shown.{Shown}
 use Rattle.chain_space.specs.Shown.{can_show, ShownLands}
 use Rattle.chain_space.specs.ShownLaws.{can_show-facts, with_blocks}
 use Rattle.chain_space.proofs.ViewLemmas.{view_stays, view_reads}
-use Rattle.chain_space.proofs.PutLemmas.{rest_len, rest_never, rest_refused, rest_put, nothing_put, rest_moves, rest_moves_refused}
+use Rattle.chain_space.proofs.PutLemmas.{rest_len, rest_never, rest_refused, rest_put, nothing_put, rest_moves}
+use Rattle.chain_space.proofs.PutLemmas.{rest_moves_refused}
 use Rattle.chain_space.proofs.space.put_shown.Given.{Over}
 use Rattle.chain_space.proofs.space.put_shown.Goals.{In-Err-ready_runs}
 use Rattle.chain_space.proofs.space.put_shown.Goals as goal
 
 -- two calls that read, in the view
 module _ {A : Type 0} (states : A → State) (keeps : Spot → A → A → Type 0) (lands : A → ℕ → Spot → Type 0)
-    (join : (spot : Spot) (s t u : A) → keeps spot s t → keeps spot t u → keeps spot s u) (a m b : A) (shown : Shown) where
-  reads_both : (refusal : Option Bad) → IsTrue (can_show (states a).shape shown.info shown.blocks) → Reads states keeps lands a m None
+    (join : (spot : Spot) (s t u : A) → keeps spot s t → keeps spot t u
+    → keeps spot s u) (a m b : A) (shown : Shown) where
+  reads_both : (refusal : Option Bad) → IsTrue (can_show (states a).shape shown.info shown.blocks)
+      → Reads states keeps lands a m None
       → Reads states keeps lands m b refusal
-      → Reads (λ (x : A). with_blocks shown (states x)) keeps (ShownLands states lands shown.info shown.first) a b refusal
+      → Reads (λ (x : A). with_blocks shown (states x)) keeps
+      (ShownLands states lands shown.info shown.first) a b refusal
   reads_both refusal sound first second =
-      view_reads states keeps lands a b shown.info shown.first shown.blocks (can_show-facts (states a).shape shown.info shown.blocks sound)
+      view_reads states keeps lands a b shown.info shown.first shown.blocks (can_show-facts
+      (states a).shape shown.info shown.blocks sound)
       refusal (reads_then join first second)
 
 -- a call that read has left the view as it was
-still_shown : (old mid : State) (shown : Shown) → IsTrue (can_show old.shape shown.info shown.blocks) → Stays old mid None
+still_shown : (old mid : State) (shown : Shown) → IsTrue (can_show old.shape shown.info shown.blocks)
+    → Stays old mid None
     → Stays (with_blocks shown old) (with_blocks shown mid) None
 still_shown old mid shown sound stays =
-    view_stays old mid shown.info shown.first shown.blocks (can_show-facts old.shape shown.info shown.blocks sound) None stays
+    view_stays old mid shown.info shown.first shown.blocks (can_show-facts old.shape shown.info shown.blocks sound)
+    None stays
 
 -- the space by what is shown
 abbrev view : (g : Over) → Shown → g.row.S.Denot → State
@@ -38,17 +45,20 @@ view g shown x = with_blocks shown (g.S.Space.state x)
 pub returns-in-Err-ready_runs-clause-ready : goal.returns-in-Err-ready_runs-clause-ready
 returns-in-Err-ready_runs-clause-ready g c = λ can.
     IsReady-before _ _ c.args.at (length c.args.bytes.now) (Some c.in-Err-ready_runs.bad) c.requires.inside.inside
-    (still_shown (g.S.Space.state c.args.base.now) (g.S.Space.state c.is_good.new.base) c.args.shown c.requires.inside.sound
+    (still_shown (g.S.Space.state c.args.base.now) (g.S.Space.state c.is_good.new.base) c.args.shown
+    c.requires.inside.sound
     c.in-Ok-true.ensures.reads.stays)
     c.in-Err-ready_runs.ensures.ready
 
 -- the two calls that read, where the second was refused
 refused : (g : Over) (c : In-Err-ready_runs g)
     → Reads (λ (x : g.row.S.Denot). with_blocks c.args.shown (g.S.Space.state x)) g.S.Space.keeps
-    (ShownLands g.S.Space.state g.S.Space.lands c.args.shown.info c.args.shown.first) c.args.base.now c.ready_runs.new.base
+    (ShownLands g.S.Space.state g.S.Space.lands c.args.shown.info c.args.shown.first) c.args.base.now
+    c.ready_runs.new.base
     (Some c.in-Err-ready_runs.bad)
 refused g c =
-    reads_both g.S.Space.state g.S.Space.keeps g.S.Space.lands g.met.S.Space.keeps_join c.args.base.now c.is_good.new.base
+    reads_both g.S.Space.state g.S.Space.keeps g.S.Space.lands g.met.S.Space.keeps_join c.args.base.now
+    c.is_good.new.base
     c.ready_runs.new.base c.args.shown (Some c.in-Err-ready_runs.bad) c.requires.inside.sound c.in-Ok-true.ensures.reads
     c.in-Err-ready_runs.ensures.reads
 
@@ -113,16 +123,19 @@ loop-done-preserved g c =
 pub returns-in-Err-put_run-clause-ready : goal.returns-in-Err-put_run-clause-ready
 returns-in-Err-put_run-clause-ready g c = λ can.
     let before = c.loop-done.invariant in
-    IsReady-told (view g c.args.shown c.args.base.now) c.args.at (length c.args.bytes.now) (Some c.in-Err-put_run.bad) before.ready
+    IsReady-told (view g c.args.shown c.args.base.now) c.args.at (length c.args.bytes.now)
+    (Some c.in-Err-put_run.bad) before.ready
     (rest_never (view g c.args.shown c.args.base.now) (view g c.args.shown c.loop-done.base) c.args.at c.args.bytes.now
-    c.loop-done.done before.within c.requires.inside.inside before.puts before.ready (view g c.args.shown c.put_run.new.base)
+    c.loop-done.done before.within c.requires.inside.inside before.puts before.ready
+    (view g c.args.shown c.put_run.new.base)
     c.in-Err-put_run.bad c.in-Err-put_run.ensures.never can)
 
 pub returns-in-Err-put_run-clause-puts : goal.returns-in-Err-put_run-clause-puts
 returns-in-Err-put_run-clause-puts g c =
     let before = c.loop-done.invariant in
     rest_refused (view g c.args.shown c.args.base.now) (view g c.args.shown c.loop-done.base) c.args.at c.args.bytes.now
-    c.loop-done.done before.within c.requires.inside.inside before.puts before.ready (view g c.args.shown c.put_run.new.base)
+    c.loop-done.done before.within c.requires.inside.inside before.puts before.ready
+    (view g c.args.shown c.put_run.new.base)
     c.in-Err-put_run.bad c.in-Err-put_run.ensures.never c.in-Err-put_run.ensures.puts
 
 pub returns-in-Err-put_run-clause-moves : goal.returns-in-Err-put_run-clause-moves

@@ -13,7 +13,8 @@ invariant-loop-done g l =
       within : l.done ≤ length l.bytes;
       ready : IsReady was l.at (length l.bytes) None;
       puts : Puts was l.at (take l.done l.bytes) (with_blocks l.shown (g.S.Space.state l.base)) None;
-      moves : MovesOnly g.S.Space.keeps (ShownLands g.S.Space.state g.S.Space.lands l.shown.info l.shown.first) was l.fn.base l.at
+      moves : MovesOnly g.S.Space.keeps (ShownLands g.S.Space.state g.S.Space.lands l.shown.info l.shown.first) was
+          l.fn.base l.at
           l.done l.base None;
     }
 

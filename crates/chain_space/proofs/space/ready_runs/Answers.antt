@@ -30,7 +30,8 @@ ready-requires g c =
 -- what the base says of the next run, of the view
 next_ready : (g : Over) (c : In-Ok g) (refusal : Option Bad)
     → IsReady (g.S.Space.state c.locate.new.base) c.in-Ok.run'.0 c.in-Ok.run'.1 refusal
-    → IsReady (with_blocks c.args.shown (g.S.Space.state c.args.base.now)) (c.args.at + c.loop-done.done) c.in-Ok.run'.1 refusal
+    → IsReady (with_blocks c.args.shown (g.S.Space.state c.args.base.now))
+    (c.args.at + c.loop-done.done) c.in-Ok.run'.1 refusal
 next_ready g c refusal h =
     let located = c.in-Ok.ensures.located in
     ready_later (g.S.Space.state c.args.base.now) (g.S.Space.state c.loop-done.base) (g.S.Space.state c.locate.new.base)
@@ -40,9 +41,11 @@ next_ready g c refusal h =
 
 pub returns-in-Err-ready-clause-ready : goal.returns-in-Err-ready-clause-ready
 returns-in-Err-ready-clause-ready g c =
-    IsReady-refused (with_blocks c.args.shown (g.S.Space.state c.args.base.now)) c.args.at c.loop-done.done c.in-Ok.run'.1
+    IsReady-refused (with_blocks c.args.shown (g.S.Space.state c.args.base.now)) c.args.at c.loop-done.done
+    c.in-Ok.run'.1
     c.args.n c.in-Err-ready.bad (omega (arith, c.in-Ok.ensures.located.bounded)) c.loop-done.invariant.ready
-    (next_ready g (goal.at.returns-in-Err-ready-clause-ready g c).In-Ok (Some c.in-Err-ready.bad) c.in-Err-ready.ensures.ready)
+    (next_ready g (goal.at.returns-in-Err-ready-clause-ready g c).In-Ok
+    (Some c.in-Err-ready.bad) c.in-Err-ready.ensures.ready)
 
 pub returns-in-Err-ready-clause-reads : goal.returns-in-Err-ready-clause-reads
 returns-in-Err-ready-clause-reads g c =

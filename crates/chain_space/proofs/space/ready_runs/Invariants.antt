@@ -7,7 +7,8 @@ use Rattle.chain_space.proofs.space.ready_runs.Given as goal
 abbrev pub invariant-loop-done : goal.invariant-loop-done
 invariant-loop-done g l = record {
   within : l.done ≤ l.n;
-  ready : IsReady (shown_state l.shown.info l.shown.first l.shown.blocks (g.S.Space.state l.initial.base)) l.at l.done None;
+  ready : IsReady (shown_state l.shown.info l.shown.first l.shown.blocks
+      (g.S.Space.state l.initial.base)) l.at l.done None;
   reads : Reads g.S.Space.state g.S.Space.keeps g.S.Space.lands l.initial.base l.base None;
 }
 

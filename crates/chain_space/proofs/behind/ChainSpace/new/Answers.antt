@@ -19,12 +19,14 @@ returns-clause-told g c = λ chain.
     let base = g.S.Space.state c.args.base.now in
     let info = c.args.info in
     let len = chain.linked in
-    let good : is_shown base info c.args.first c.args.blocks ≡ true = true-is_shown base info c.args.first c.args.blocks len.0
+    let good : is_shown base info c.args.first c.args.blocks ≡ true = true-is_shown base info c.args.first
+    c.args.blocks len.0
     c.requires.table.few len.1 (omega (arith, len.2, chain.few)) (omega (arith, len.2, chain.enough)) in
     rw (good, and-true) refl
 
 list_is : (base : State) (info : ChainInfo) (first : ℕ) (list : List ℕ) → info.count < 2 ^ 31
-    → IsLinkedBy (table_in base.cells info) info.count Opens first list → length list ≤ info.count → chain_list base info first ≡ list
+    → IsLinkedBy (table_in base.cells info) info.count Opens first list → length list ≤ info.count
+    → chain_list base info first ≡ list
 unfolding chain_list
 list_is base info first list few linked small =
     ap (λ (o : Option (List ℕ)). unwrap_or o []) (linked-found base info first list few linked small)
@@ -34,5 +36,6 @@ returns-clause-chain g c = λ chain list linked.
     let base = g.S.Space.state c.args.base.now in
     let info = c.args.info in
     let len = chain.linked in
-    let same = same_list (table_in base.cells info) info.count c.requires.table.few Opens c.args.first list linked len.0 len.1 in
+    let same = same_list (table_in base.cells info) info.count c.requires.table.few Opens c.args.first list linked
+    len.0 len.1 in
     list_is base info c.args.first list c.requires.table.few linked (omega (arith, ap length same, len.2, chain.few))

@@ -11,7 +11,8 @@ pub piece-requires-clause-inside : goal.piece-requires-clause-inside
 piece-requires-clause-inside g c =
     let states = g.S.Space.state in
     let space = c.args.self.now in
-    let room = can_show-facts (states space.base.now).shape space.shown.info space.shown.blocks c.requires.inside.sound in
+    let room = can_show-facts (states space.base.now).shape space.shown.info space.shown.blocks c.requires.inside.sound
+    in
     let located = c.in-Ok.ensures.located in
     let here : IsInside (states space.base.now).shape c.in-Ok.run'.0 1 =
     record { sound = room.table.sound; inside = omega (arith, located.in_base, located.some) } in
@@ -33,7 +34,8 @@ returns g c =
             (record space { base = record space.base { now = last } }) refusal room refl refl reads,
       ),
       record {
-        piece = view_piece (base.state space.base.now) (base.state c.locate.new.base) shown.info shown.first shown.blocks c.args.at
+        piece = view_piece (base.state space.base.now) (base.state c.locate.new.base) shown.info shown.first
+            shown.blocks c.args.at
             c.args.most c.in-Ok.run'.0 c.in-Ok.run'.1 c.in-Ok.ensures.located c.in-Ok.ensures.reads.stays c.piece.result
             c.piece.ensures.piece;
         after = tt;

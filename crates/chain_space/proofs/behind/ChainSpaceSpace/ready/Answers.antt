@@ -9,4 +9,5 @@ returns-clause-reads g c =
     let base = g.S.Space in
     let space = c.args.self.now in
     let room = can_show-facts (base.state space.base.now).shape space.shown.info space.shown.blocks c.requires.sound in
-    behind_reads base.state base.keeps base.lands space _ (result_err c.ready_runs.result) room refl refl c.ready_runs.ensures.reads
+    behind_reads base.state base.keeps base.lands space _ (result_err c.ready_runs.result) room refl refl
+    c.ready_runs.ensures.reads
