@@ -9,4 +9,6 @@ pub use chain_nodes::{ChainFault, ChainInfo, Cursor, Run};
 pub use chain_space::ChainSpace;
 
 #[cfg(test)]
+mod counted;
+#[cfg(test)]
 mod tests;

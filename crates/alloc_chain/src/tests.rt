@@ -4,6 +4,7 @@ ghost use Rattle.chain_nodes.specs.Table.{HasAllocationTable};
 ghost use Rattle.alloc_chain.specs.Held.{below, SameChain};
 
 use super::*;
+use crate::counted::Counted;
 use save_bytes::{Bad, MemSpace, Space, set_u32, space_copy};
 use std::test::Fail;
 
@@ -290,4 +291,30 @@ fn the_free_list_is_gone_over_by_places(rt: HostRuntime) -> Result<(), Fail> {
     let start = chain.free_cursor()?;
     assert_eq!(rt; by_runs(&mut chain, start)?, (4, 2));
     Ok(())
+}
+
+// How many runs the chain of a table that begins with entry 1 has, and how many pieces were read to go over them.
+fn runs_and_pieces(bytes: &mut [u8]) -> Result<(u32, u64), ChainFault>
+    requires { length bytes.old ≡ 8008 }
+{
+    let mut memory = MemSpace::new(bytes, 16);
+    let mut space = Counted::new(&mut memory);
+    let mut chain = Chain::new(&mut space, THOUSAND);
+    let (_, runs) = by_runs(&mut chain, Cursor::of_chain(1))?;
+    Ok((runs, space.pieces()))
+}
+
+#[test]
+fn of_each_node_three_entries_are_read(rt: HostRuntime) {
+    // A chain of 250 nodes of four entries each. To read an entry reads two pieces, one of each word.
+    let mut bytes = [0; 8008];
+    for node in 0..250usize {
+        let first = 4 * node + 1;
+        let u = if node == 0 { FLAG } else { first as u32 - 4 };
+        let next = if node == 249 { 0 } else { first as u32 + 4 };
+        set_entry(&mut bytes, first, u, FLAG + next);
+        set_entry(&mut bytes, first + 1, FLAG + first as u32, first as u32 + 3);
+        set_entry(&mut bytes, first + 3, FLAG + first as u32, first as u32 + 3);
+    }
+    assert_eq!(rt; runs_and_pieces(&mut bytes), Ok((250, 1500)));
 }
