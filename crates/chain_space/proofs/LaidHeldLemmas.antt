@@ -1,15 +1,18 @@
 -- What calls of a base leave, as what calls of the space leave that holds it, and the other way round.
-use Rattle.std.proofs.Common.{◌≡◌, ℕ, Option, sym, subst}
+use Rattle.std.proofs.Common.{◌≡◌, ℕ, ◌+◌, ◌≤◌, List, length, Option, sym, subst}
 use Rattle.save_bytes.specs.declared.space.Bad.{Bad}
-use Rattle.save_bytes.specs.State.{State}
-use Rattle.save_bytes.specs.Refusals.{UnlessDisk}
+use Rattle.save_bytes.specs.State.{State, CanPut}
+use Rattle.save_bytes.specs.Refusals.{UnlessDisk, IfDone}
+use Rattle.save_bytes.specs.Puts.{HasPut, Puts}
+use Rattle.save_bytes.specs.Within.{ChangesWithin}
+use Rattle.save_bytes.proofs.SpaceLemmas.{IfDone-map}
 use Rattle.save_bytes.specs.Stays.{Stays}
 use Rattle.save_bytes.specs.Spots.{Spot, LandsAsBefore}
 use Rattle.save_bytes.specs.Reads.{Reads}
 use Rattle.chain_space.specs.declared.laid.BlocksSpace.{BlocksSpace}
-use Rattle.chain_space.specs.Laid.{Extra, laid_state, LaidLands, CanLay}
+use Rattle.chain_space.specs.Laid.{Extra, IsLaidSite, laid_state, LaidLands, CanLay}
 use Rattle.chain_space.specs.LaidHeld.{extra_in, laid}
-use Rattle.chain_space.proofs.LaidLemmas.{laid_reads, laid_back}
+use Rattle.chain_space.proofs.LaidLemmas.{laid_reads, laid_back, laid_changes}
 
 module _ {S : Type 0} (states : S → State) (keeps : Spot → S → S → Type 0) (lands : S → ℕ → Spot
     → Type 0) (old new : BlocksSpace S) where
@@ -57,3 +60,16 @@ module _ {S : Type 0} (states : S → State) (keeps : Spot → S → S → Type 
         reach = λ told. subst (λ (e : Extra). LandsLater refusal (LaidLands states lands e new.base.now)) same
             (h.reach told);
       })
+
+  -- what a put into the space changes in its base: the places of the bytes, and no other but that blank cells soften
+  pub base_changes : (refusal : Option Bad) → CanLay (extra_in old) (states old.base.now).shape
+      → (states new.base.now).shape ≡ (states old.base.now).shape → extra_in new ≡ extra_in old → (at : ℕ)
+      → (bytes : List ℕ) → at + length bytes ≤ (laid states old).shape.size
+      → Puts (laid states old) at bytes (laid states new) refusal → CanPut (laid states old) at (length bytes)
+      → IfDone refusal (ChangesWithin (states old.base.now)
+      (IsLaidSite (extra_in old) (states old.base.now).shape.size at (length bytes)) (states new.base.now).cells)
+  base_changes refusal room shape same at bytes fits puts can =
+      IfDone-map refusal (λ (put : HasPut (laid states old) at bytes (laid states new).cells).
+      laid_changes (extra_in old) (states old.base.now) (states new.base.now) room shape at bytes fits
+      (subst (λ (e : Extra). HasPut (laid states old) at bytes (laid_state e (states new.base.now)).cells) same put))
+      (puts.done can)

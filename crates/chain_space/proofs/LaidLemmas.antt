@@ -17,13 +17,15 @@ use Rattle.save_bytes.specs.Stays.{SameTwins, SameSpace, SameCells, Stays}
 use Rattle.save_bytes.specs.Puts.{HasPut, Puts}
 use Rattle.save_bytes.specs.Spots.{Spot, LandsAsBefore, MovesOnly}
 use Rattle.save_bytes.specs.Reads.{Reads}
+use Rattle.save_bytes.specs.Within.{MaySoften, ChangesWithin}
+use Rattle.save_bytes.proofs.WithinLemmas.{ChangesWithin-put}
 use Rattle.save_bytes.proofs.SpaceLemmas.{UnlessDisk-map, IfDone-map, IfDamaged-map}
 use Rattle.save_bytes.proofs.JoinLemmas.{CanPut-front, Puts-refused, MovesOnly-longer}
 use Rattle.save_bytes.proofs.PutLemmas.{AreUnspoilt, IsReady-unspoilt}
 use Rattle.save_bytes.proofs.ViewLemmas.{Shows, IsRun, shown_ready, shown_put}
 use Rattle.chain_space.specs.Bounded.{each_passes}
 use Rattle.chain_space.specs.Laid.{Extra, laid_place, is_inside, can_lay, laid_shape, laid_state, LaidLands, LieIn}
-use Rattle.chain_space.specs.Laid.{CanLay, IsLaidRun}
+use Rattle.chain_space.specs.Laid.{CanLay, IsLaidRun, IsLaidSite}
 use Rattle.chain_space.proofs.ShownLemmas.{block_inside, block_some, step_div, step_mod}
 use Rattle.chain_space.proofs.WalkLemmas.{each_passes-true, true-each_passes}
 
@@ -389,3 +391,25 @@ module _ (extra : Extra) (base : State) (at most place n : ℕ) (run : IsLaidRun
         (sym (run_first extra base.shape.size at most place n run)) (h.damaged told);
     plain = h.plain;
   }
+
+-- what a put into the view changes in the base
+pub laid_changes : (extra : Extra) (old new : State) → CanLay extra old.shape → new.shape ≡ old.shape → (at : ℕ)
+    (bytes : List ℕ) → at + length bytes ≤ (laid_shape extra old.shape).size
+    → HasPut (laid_state extra old) at bytes (laid_state extra new).cells
+    → ChangesWithin old (IsLaidSite extra old.shape.size at (length bytes)) new.cells
+laid_changes extra old new room same at bytes fits put x inside out =
+    let size : new.shape.size ≡ old.shape.size = ap (λ (s : Shape). s.size) same in
+    let here : laid_place extra old.shape.size x ≡ x = laid_front extra old.shape.size x inside in
+    let there : laid_place extra new.shape.size x ≡ x =
+    laid_front extra new.shape.size x (omega (arith, size, inside)) in
+    let soft = ChangesWithin-put (laid_state extra old) at bytes (laid_state extra new).cells fits put x
+    (omega (arith, inside)) (λ (y, below, written, twin).
+    (let place : at + (y - at) ≡ y = omega (arith, written.0) in
+    out (
+      laid_place extra old.shape.size y,
+      laid_inside extra old.shape y room below,
+      (y - at, omega (arith, written.0, written.1), ap (laid_place extra old.shape.size) place),
+      ap old.bottom (sym here) ∙ twin,
+    ))) in
+    subst (λ (p : ℕ). MaySoften (old.cells x) (new.cells p)) there
+    (subst (λ (p : ℕ). MaySoften (old.cells p) (new.cells (laid_place extra new.shape.size x))) here soft)

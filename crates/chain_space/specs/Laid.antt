@@ -70,11 +70,15 @@ pub record CanLay (extra : Extra) (base : Shape) : Type 0 where
   pub first : base.first ≡ 0
   pub lie : LieIn extra base.size
 
--- Where the bytes from `at` on lie in a base of so many places, and how many lie there in one piece: as many as are asked
--- for, up to the end of the base or of a block.
+-- Where the bytes from `at` on lie in a base of so many places, and how many lie there in one piece: as many as are
+-- asked for, up to the end of the base or of a block.
 pub record IsLaidRun (extra : Extra) (size at most : ℕ) (run : ℕ × ℕ) : Type 0 where
   pub some : 1 ≤ run.1
   pub bounded : run.1 ≤ most
   pub inside : at + run.1 ≤ size + length extra.blocks * extra.block
   pub in_base : run.0 + run.1 ≤ size
   pub places : (k : ℕ) → k < run.1 → laid_place extra size (at + k) ≡ run.0 + k
+
+-- the place lies in the base where one of the n places from `at` on does
+abbrev pub IsLaidSite : Extra → (size at n : ℕ) → ℕ → Type 0
+IsLaidSite extra size at n y = (k : ℕ) × (k < n) × (laid_place extra size (at + k) ≡ y)

@@ -82,8 +82,8 @@ pub record LinksBlocks (base : State) (info : ChainInfo) (first blocks : ℕ) : 
   pub enough : blocks ≤ len
   pub few : len ≤ info.count
 
--- Where the bytes from `at` on lie in the base, and how many lie there in one piece: as many as are asked for, up to the
--- end of the base or of a node.
+-- Where the bytes from `at` on lie in the base, and how many lie there in one piece: as many as are asked for, up to
+-- the end of the base or of a node.
 pub record IsLocatedRun (base : State) (info : ChainInfo) (first blocks at most : ℕ)
     (result : Result (ℕ × ℕ) Bad) : Type 0 where
   pub some : IfOk result (λ run. 1 ≤ run.1)

@@ -44,7 +44,8 @@ node_at table first = record {
   last = if nat_le (2 ^ 31) (word_v table first) then word_v table (first + 1) else first;
 }
 
--- the entries of the list that begins with `first`, where the table is as it should be and the list has so many nodes at most
+-- the entries of the list that begins with `first`, where the table is as it should be and the list has so many nodes
+-- at most
 unfoldable pub list_in : (ℕ → ℕ → Cell) → ℕ → ℕ → Lead → ℕ → Option (List ℕ)
 list_in table count zero lead first = if first == 0 then Some [] else None
 list_in table count (suc most) lead first =

@@ -106,7 +106,8 @@ pub(crate) fn locate<S: Space>(
 /// Whether none of `n` places from `at` on is spoilt.
 pub(crate) fn ready_runs<S: Space>(base: &mut S, shown: Shown, at: u64, n: u64) -> Result<(), Bad>
     requires { IsInside (shown_state shown.info shown.first shown.blocks (S.state base.old)).shape at n }
-    ensures ready { IsReady (shown_state shown.info shown.first shown.blocks (S.state base.old)) at n (result_err result) }
+    ensures ready { IsReady (shown_state shown.info shown.first shown.blocks (S.state base.old)) at n
+        (result_err result) }
     ensures reads { Reads S.state S.keeps S.lands base.old base.new (result_err result) }
 {
     let mut done = 0;
@@ -183,9 +184,10 @@ pub(crate) fn put_shown<S: Space>(
     ensures ready { let old = with_blocks shown (S.state base.old) in
         CanPut old at (length bytes.now) → IsReady old at (length bytes.now) (result_err result) }
     ensures plain { IsTrue (S.state base.old).shape.plain → NeverDamaged (result_err result) }
-    ensures puts { Puts (with_blocks shown (S.state base.old)) at bytes.now (with_blocks shown (S.state base.new)) (result_err result) }
-    ensures moves { MovesOnly S.keeps (ShownLands S.state S.lands shown.info shown.first) (with_blocks shown (S.state base.old))
-        base.old at (length bytes.now) base.new (result_err result) }
+    ensures puts { Puts (with_blocks shown (S.state base.old)) at bytes.now (with_blocks shown (S.state base.new))
+        (result_err result) }
+    ensures moves { MovesOnly S.keeps (ShownLands S.state S.lands shown.info shown.first)
+        (with_blocks shown (S.state base.old)) base.old at (length bytes.now) base.new (result_err result) }
     ensures broken { IsTrue (S.state base.old).told
         → IsFalse (is_shown (S.state base.old) shown.info shown.first shown.blocks)
         → Reads S.state S.keeps S.lands base.old base.new (result_err result) }

@@ -1,7 +1,9 @@
-ghost use Rattle.std.specs.Prelude.{◌≡◌, ℕ, ◌+◌, ◌*◌, ◌<◌, ◌≤◌, length, slice_index};
+ghost use Rattle.std.specs.Prelude.{◌≡◌, ℕ, ◌+◌, ◌*◌, ◌<◌, ◌≤◌, length, slice_index, OnOk};
 ghost use Rattle.std.specs.Result.{result_err};
 ghost use Rattle.save_bytes.specs.Reads.{Reads};
-ghost use Rattle.chain_space.specs.Laid.{extra_of, CanLay};
+ghost use Rattle.save_bytes.specs.State.{CanPut};
+ghost use Rattle.save_bytes.specs.Within.{ChangesWithin};
+ghost use Rattle.chain_space.specs.Laid.{extra_of, laid_state, CanLay, IsLaidSite};
 
 use super::*;
 use chain_nodes::{ChainInfo, FLAG};
@@ -113,6 +115,27 @@ fn copy_laid<S: Space>(
     space_copy(&mut space, at, out)
 }
 
+// Puts bytes into a space behind which some of its blocks lie once more. In its base the places of these bytes change,
+// and all others soften at most.
+fn put_laid_once<S: Space>(
+    base: &mut S,
+    region_at: u64,
+    block: u32,
+    blocks: &[u32],
+    at: u64,
+    bytes: &[u8],
+) -> Result<(), Bad>
+    requires room { CanLay (extra_of region_at block blocks.now) (S.state base.old).shape }
+    requires inside { at + length bytes.now ≤ (S.state base.old).shape.size + length blocks.now * block }
+    ensures changes { let extra = extra_of region_at block blocks.now in
+        CanPut (laid_state extra (S.state base.old)) at (length bytes.now)
+        → OnOk result (ChangesWithin (S.state base.old)
+        (IsLaidSite extra (S.state base.old).shape.size at (length bytes.now)) (S.state base.new).cells) }
+{
+    let mut space = BlocksSpace::new(base, region_at, block, blocks);
+    space.put(at, bytes)
+}
+
 // Puts bytes into a space behind which some of its blocks lie once more.
 fn put_laid_bytes(bytes: &mut [u8], blocks: &[u32], at: u64, put: &[u8]) -> Result<u64, Bad>
     requires bytes { length bytes.old ≡ 116 }
@@ -148,4 +171,7 @@ fn a_byte_put_behind_a_space_shows_in_its_block(rt: HostRuntime) {
     assert!(rt; put_laid_bytes(&mut bytes, &[8, 2], 118, &[91, 92, 93, 94]) == Ok(124));
     assert_eq!(rt; &bytes[112..116], [8, 8, 91, 92].as_slice());
     assert_eq!(rt; &bytes[88..92], [93, 94, 2, 2].as_slice());
+    let mut memory = MemSpace::new(&mut bytes, 16);
+    assert!(rt; put_laid_once(&mut memory, 80, 4, &[8], 116, &[95]).is_ok());
+    assert_eq!(rt; bytes[112], 95);
 }
