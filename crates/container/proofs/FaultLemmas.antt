@@ -1,5 +1,5 @@
 -- Which fault an image has.
-use Rattle.std.proofs.Common.{◌≡◌, ℕ, List, Bool, ◌&&◌, not, bytes_eq, if◌then◌else◌, take, drop, Option, Some, None}
+use Rattle.std.proofs.Common.{◌≡◌, ℕ, List, ◌&&◌, not, bytes_eq, if◌then◌else◌, take, drop, Option, Some, None}
 use Rattle.std.proofs.Common.{Result, Ok, Err, lit≤, sym, ◌∙◌, ap, subst}
 use Rattle.std.proofs.lemmas.List.{take-take, drop-take}
 use Rattle.container_header.specs.declared.header.Header.{Header as Fields}

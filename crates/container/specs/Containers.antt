@@ -1,5 +1,5 @@
 -- What an open container holds.
-use Rattle.std.specs.Prelude.{◌≡◌, ℕ, Bool, List, Some, Ok}
+use Rattle.std.specs.Prelude.{◌≡◌, ℕ, List, Some, Ok}
 use Rattle.container_header.specs.Conditions.{reading as header_reading}
 use Rattle.difi.specs.declared.descriptor.Difi.{Difi}
 use Rattle.part_store.specs.declared.part.Part.{Part}

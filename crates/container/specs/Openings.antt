@@ -1,5 +1,5 @@
 -- What opening an image comes to, over the image's whole list of bytes.
-use Rattle.std.specs.Prelude.{◌≡◌, ℕ, Bool, ◌&&◌, not, ◌==◌, bytes_eq, List, take, drop, Option, Some, None, Result, Ok, Err, if◌then◌else◌, ⊤}
+use Rattle.std.specs.Prelude.{◌≡◌, ℕ, ◌&&◌, not, ◌==◌, bytes_eq, List, take, drop, Option, Some, None, Result, Ok, Err, if◌then◌else◌, ⊤}
 use Rattle.sha2.specs.Sha256.{sha256}
 use Rattle.save_bytes.specs.declared.extent.Extent.{Extent}
 use Rattle.container_header.specs.declared.header.Header.{Header}

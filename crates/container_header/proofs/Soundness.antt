@@ -1,11 +1,11 @@
 -- No condition of the layout fails exactly where a header is sound.
 use Rattle.std.proofs.Common.{◌≡◌, ℕ, suc, ◌+◌, ◌≤◌, Bool, true, false, ◌==◌, ◌&&◌, ◌||◌, not, nat_lt, cond, None, List, [], ◌∷◌, refl, arith, lit≤}
-use Rattle.std.proofs.lemmas.Bool.{false≢true, ltb-false, le-ltb, eqb-true, eq-eqb}
+use Rattle.std.proofs.lemmas.Bool.{ltb-false, le-ltb, eqb-true, eq-eqb}
 use Rattle.std.proofs.lemmas.Bool.{cond_both, or_parts, or_from}
 use Rattle.std.proofs.lemmas.Bool.Decides.{nat_tests}
 use Rattle.save_bytes.specs.declared.extent.Extent.{Extent}
 use Rattle.container_header.specs.declared.header.Header.{Header}
-use Rattle.save_bytes.specs.Extents.{lies_inside, overlap, LiesInside, AreApart}
+use Rattle.save_bytes.specs.Extents.{lies_inside, LiesInside, AreApart}
 use Rattle.save_bytes.proofs.ExtentLemmas.{inside, not-lies_inside, apart, overlap-apart, AllApart, all_apart, some_overlap-apart}
 use Rattle.container_header.specs.Conditions.{max_length, table_at, regions, is_bad_descriptor, is_bad_partition, layout_faults, first_failing}
 use Rattle.container_header.specs.Sound.{IsDescriptorPlace, IsPartition, IsSoundHeader, active_at, inactive_at}
@@ -46,41 +46,18 @@ partition_from e n h =
 partition_to : (e : Extent) (n : ℕ) → IsPartition e n → is_bad_partition e n ≡ false
 partition_to e n h = or_from _ _ (grind (arith, nat_tests, h.some)) (not-lies_inside e 512 n h.inside)
 
--- the tables and the partitions, two by two
-record RegionsApart (header : Header) (two : Bool) : Type 0 where
-  tables : AreApart (table_at header header.primary) (table_at header header.secondary)
-  primary_a : AreApart (table_at header header.primary) header.part_a
-  secondary_a : AreApart (table_at header header.secondary) header.part_a
-  primary_b : two ≡ true → AreApart (table_at header header.primary) header.part_b
-  secondary_b : two ≡ true → AreApart (table_at header header.secondary) header.part_b
-  partitions : two ≡ true → AreApart header.part_a header.part_b
-
+-- the tables and the partitions
 abbrev regions_with : Header → Bool → List Extent
 regions_with header two = table_at header header.primary ∷ table_at header header.secondary ∷ header.part_a ∷ cond two (header.part_b ∷ []) []
 
-regions_from : (header : Header) (two : Bool) → AllApart (regions_with header two) → RegionsApart header two
-regions_from header true h = record {
-  tables = h.0.0;
-  primary_a = h.0.1.0;
-  secondary_a = h.1.0.0;
-  primary_b = λ _. h.0.1.1.0;
-  secondary_b =
-      λ _. h.1.0.1.0;
-  partitions = λ _. h.1.1.0.0;
-}
-regions_from header false h = record {
-  tables = h.0.0;
-  primary_a = h.0.1.0;
-  secondary_a = h.1.0.0;
-  primary_b =
-      λ e. absurd (false≢true e);
-  secondary_b = λ e. absurd (false≢true e);
-  partitions = λ e. absurd (false≢true e);
-}
-
-regions_to : (header : Header) (two : Bool) → RegionsApart header two → AllApart (regions_with header two)
-regions_to header true h = ((h.tables, (h.primary_a, (h.primary_b refl, tt))), ((h.secondary_a, (h.secondary_b refl, tt)), ((h.partitions refl, tt), (tt, tt))))
-regions_to header false h = ((h.tables, (h.primary_a, tt)), ((h.secondary_a, tt), (tt, tt)))
+regions_to : (header : Header) (n : ℕ) (two : Bool) → (two ≡ true → header.parts ≡ 2) → IsSoundHeader header n
+    → AllApart (regions_with header two)
+regions_to header n true is s = (
+  (s.tables_apart, (s.primary_a_apart, (s.primary_b_apart (is refl), tt))),
+  ((s.secondary_a_apart, (s.secondary_b_apart (is refl), tt)), ((s.partitions_apart (is refl), tt), (tt, tt))),
+)
+regions_to header n false is s =
+    ((s.tables_apart, (s.primary_a_apart, tt)), ((s.secondary_a_apart, tt), (tt, tt)))
 
 in_two_from : (n low : ℕ) → not (n == low || n == suc low) ≡ false → (low ≤ n) × (n ≤ suc low)
 in_two_from n low h = grind (arith, nat_tests)
@@ -107,7 +84,8 @@ none_sound header n (longest, (parts, (active, (table, (primary, (secondary, (a,
     let first = header.active == 0 in
     let in_primary = inside (table_at header header.primary) 512 n primary in
     let in_secondary = inside (table_at header header.secondary) 512 n secondary in
-    let pairs = regions_from header (header.parts == 2) (all_apart (regions_with header (header.parts == 2)) regions) in
+    let pairs = all_apart (regions_with header (header.parts == 2)) regions in
+    let with_b = λ (two : header.parts ≡ 2). rw (eq-eqb header.parts 2 two) at pairs in
     record {
       longest = ltb-false max_length n longest;
       one_part = count.0;
@@ -122,73 +100,43 @@ none_sound header n (longest, (parts, (active, (table, (primary, (secondary, (a,
       partition_a = partition_from header.part_a n part_a;
       partition_b = λ two. partition_from header.part_b n (second_from header.parts _ part_b two);
       descriptors_apart = λ two. apart header.desc_a header.desc_b (second_from header.parts _ a_b two);
-      tables_apart = pairs.tables;
-      primary_a_apart = pairs.primary_a;
-      secondary_a_apart = pairs.secondary_a;
-      primary_b_apart = λ two. pairs.primary_b (eq-eqb header.parts 2 two);
-      secondary_b_apart = λ two. pairs.secondary_b (eq-eqb header.parts 2 two);
-      partitions_apart = λ two. pairs.partitions (eq-eqb header.parts 2 two);
+      tables_apart = pairs.0.0;
+      primary_a_apart = pairs.0.1.0;
+      secondary_a_apart = pairs.1.0.0;
+      primary_b_apart = λ two. (with_b two).0.1.1.0;
+      secondary_b_apart = λ two. (with_b two).1.0.1.0;
+      partitions_apart = λ two. (with_b two).1.1.0.0;
       active_inside = either first header.primary header.secondary (λ at. LiesInside (table_at header at) 512 n) in_primary in_secondary;
       inactive_inside = either first header.secondary header.primary (λ at. LiesInside (table_at header at) 512 n) in_secondary in_primary;
-      active_inactive_apart = active_apart header first pairs.tables;
-      active_a_apart = either first header.primary header.secondary (λ at. AreApart (table_at header at) header.part_a) pairs.primary_a pairs.secondary_a;
-      inactive_a_apart = either first header.secondary header.primary (λ at. AreApart (table_at header at) header.part_a) pairs.secondary_a pairs.primary_a;
+      active_inactive_apart = active_apart header first pairs.0.0;
+      active_a_apart = either first header.primary header.secondary (λ at. AreApart (table_at header at) header.part_a) pairs.0.1.0 pairs.1.0.0;
+      inactive_a_apart = either first header.secondary header.primary (λ at. AreApart (table_at header at) header.part_a) pairs.1.0.0 pairs.0.1.0;
       active_b_apart = λ two. either first header.primary header.secondary
-          (λ at. AreApart (table_at header at) header.part_b) (pairs.primary_b (eq-eqb header.parts 2 two))
-          (pairs.secondary_b (eq-eqb header.parts 2 two));
+          (λ at. AreApart (table_at header at) header.part_b) (with_b two).0.1.1.0
+          (with_b two).1.0.1.0;
       inactive_b_apart = λ two. either first header.secondary header.primary
-          (λ at. AreApart (table_at header at) header.part_b) (pairs.secondary_b (eq-eqb header.parts 2 two))
-          (pairs.primary_b (eq-eqb header.parts 2 two));
+          (λ at. AreApart (table_at header at) header.part_b) (with_b two).1.0.1.0
+          (with_b two).0.1.1.0;
     }
+
+also : {A B : Type 0} → A → B → A × B
+also a b = (a, b)
 
 sound_none : (header : Header) (n : ℕ) → IsSoundHeader header n → NoneHolds (layout_faults header n)
 sound_none header n s =
-    let is_two : (header.parts == 2) ≡ true → header.parts ≡ 2 = eqb-true header.parts 2 in
-    let pairs : RegionsApart header (header.parts == 2) = record {
-      tables = s.tables_apart;
-      primary_a = s.primary_a_apart;
-      secondary_a = s.secondary_a_apart;
-      primary_b = λ two. s.primary_b_apart (is_two two);
-      secondary_b = λ two. s.secondary_b_apart (is_two two);
-      partitions = λ two. s.partitions_apart (is_two two);
-    } in (
-      le-ltb max_length n s.longest,
-      (
-        in_two_to header.parts 1 s.one_part s.two_parts,
-        (
-          in_two_to header.active 0 (omega arith) s.active_byte,
-          (
-            or_from (nat_lt header.table_size 0x44) (nat_lt 65536 header.table_size)
-                (le-ltb header.table_size 0x44 s.least_table) (le-ltb 65536 header.table_size s.largest_table),
-            (
-              not-lies_inside (table_at header header.primary) 512 n s.primary_inside,
-              (
-                not-lies_inside (table_at header header.secondary) 512 n s.secondary_inside,
-                (
-                  descriptor_to header header.desc_a s.descriptor_a,
-                  (
-                    second_to header.parts (is_bad_descriptor header header.desc_b) (λ two. descriptor_to header header.desc_b (s.descriptor_b two)),
-                    (
-                      second_to header.parts (overlap header.desc_a header.desc_b) (λ two. overlap-apart header.desc_a header.desc_b (s.descriptors_apart two)),
-                      (
-                        partition_to header.part_a n s.partition_a,
-                        (
-                          second_to header.parts (is_bad_partition header.part_b n) (λ two. partition_to header.part_b n (s.partition_b two)),
-                          (
-                            some_overlap-apart (regions_with header (header.parts == 2)) (regions_to header (header.parts == 2) pairs),
-                            tt,
-                          ),
-                        ),
-                      ),
-                    ),
-                  ),
-                ),
-              ),
-            ),
-          ),
-        ),
-      ),
-    )
+    also (le-ltb max_length n s.longest)
+    (also (in_two_to header.parts 1 s.one_part s.two_parts)
+    (also (in_two_to header.active 0 (omega arith) s.active_byte)
+    (also (or_from _ _ (le-ltb header.table_size 0x44 s.least_table) (le-ltb 65536 header.table_size s.largest_table))
+    (also (not-lies_inside (table_at header header.primary) 512 n s.primary_inside)
+    (also (not-lies_inside (table_at header header.secondary) 512 n s.secondary_inside)
+    (also (descriptor_to header header.desc_a s.descriptor_a)
+    (also (second_to header.parts _ (λ two. descriptor_to header header.desc_b (s.descriptor_b two)))
+    (also (second_to header.parts _ (λ two. overlap-apart header.desc_a header.desc_b (s.descriptors_apart two)))
+    (also (partition_to header.part_a n s.partition_a)
+    (also (second_to header.parts _ (λ two. partition_to header.part_b n (s.partition_b two)))
+    (also (some_overlap-apart (regions_with header (header.parts == 2))
+    (regions_to header n (header.parts == 2) (eqb-true header.parts 2) s)) tt)))))))))))
 
 -- no condition fails exactly where a header is sound
 pub sound_from : (header : Header) (n : ℕ) → first_failing 1 (layout_faults header n) ≡ None → IsSoundHeader header n

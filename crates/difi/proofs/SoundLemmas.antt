@@ -5,15 +5,14 @@ use Rattle.save_bytes.specs.declared.extent.Extent.{Extent}
 use Rattle.difi.specs.declared.places.LevelPlace.{LevelPlace}
 use Rattle.difi.specs.declared.descriptor.Difi.{Difi}
 use Rattle.difi.specs.declared.fault.DifiFault.{DifiFault}
-use Rattle.difi.specs.Places.{some_outside, extent_of, copies_of}
+use Rattle.difi.specs.Places.{extent_of, copies_of}
 use Rattle.difi.specs.Fields.{fields, word_at, ivfc_extent, dpfs_extent, master_extent, ivfc_place, dpfs_place}
 use Rattle.difi.specs.Conditions.{reading, parts, difi_tests, name_tests, level_tests, verdict, has_bad_log}
 use Rattle.difi.specs.Conditions.{has_no_place, has_bad_copies, has_short_bitmap, has_overlapping_copies, pairs}
 use Rattle.difi.specs.Conditions.{inner_levels, has_bad_level, has_overlapping_levels, external_extent}
 use Rattle.difi.specs.Conditions.{has_bad_external, has_too_few_entries}
 use Rattle.difi.specs.Sound.{HasParts, HasBlockSizes, IsPlaced, HasCopies, HasHashLevels, HasExternalLevel, IsSoundDifi, IsDescriptor}
-use Rattle.save_bytes.specs.Extents.{AreApart}
-use Rattle.save_bytes.proofs.ExtentLemmas.{AllApart, all_apart, apart_from}
+use Rattle.save_bytes.proofs.ExtentLemmas.{all_apart, apart_from}
 use Rattle.difi.proofs.TestLemmas.{inner, all_inside, ends_inside, between, not_empty, enough_entries}
 use Rattle.difi.proofs.TestLemmas.{part_inside, part_size, one_of_two, named, numbered}
 use Rattle.difi.proofs.Verdicts.{holds, all_pass}
@@ -59,50 +58,11 @@ copies difi part_len in_partition long_enough none_overlap =
       apart23 = apart.1.0.0;
     }
 
-record InnerApart (external : Bool) (one two three four : Extent) : Type 0 where
-  apart12 : AreApart one two
-  apart13 : AreApart one three
-  apart23 : AreApart two three
-  apart14 : external ≡ false → AreApart one four
-  apart24 : external ≡ false → AreApart two four
-  apart34 : external ≡ false → AreApart three four
-
-inner_apart : (external : Bool) (one two three four : Extent) → AllApart (inner external one two three four) → InnerApart external one two three four
-inner_apart true one two three four h =
-    record {
-      apart12 = h.0.0;
-      apart13 = h.0.1.0;
-      apart23 = h.1.0.0;
-      apart14 = λ e. cc;
-      apart24 = λ e. cc;
-      apart34 =
-          λ e. cc;
-    }
-inner_apart false one two three four h =
-    record {
-      apart12 = h.0.0;
-      apart13 = h.0.1.0;
-      apart23 = h.1.0.0;
-      apart14 = λ e. h.0.1.1.0;
-      apart24 =
-          λ e. h.1.0.1.0;
-      apart34 = λ e. h.1.1.0.0;
-    }
-
-record InnerInside (external : Bool) (one two three four : Extent) (end : ℕ) : Type 0 where
-  inside1 : one.at + one.size ≤ end
-  inside2 : two.at + two.size ≤ end
-  inside3 : three.at + three.size ≤ end
-  inside4 : external ≡ false → four.at + four.size ≤ end
-
-inner_inside : (external : Bool) (one two three four : Extent) (end : ℕ)
-    → some_outside (inner external one two three four) end ≡ false → InnerInside external one two three four end
-inner_inside true one two three four end h =
-    let all = all_inside (inner true one two three four) end h in
-    record { inside1 = all.0; inside2 = all.1.0; inside3 = all.1.1.0; inside4 = λ e. cc }
-inner_inside false one two three four end h =
-    let all = all_inside (inner false one two three four) end h in
-    record { inside1 = all.0; inside2 = all.1.0; inside3 = all.1.1.0; inside4 = λ e. all.1.1.1.0 }
+-- the first three of four levels are looked at, and the last where it is not external
+inner_is : (external : Bool) (one two three four : Extent)
+    → inner external one two three four ≡ one ∷ two ∷ three ∷ cond external [] (four ∷ [])
+inner_is true one two three four = refl
+inner_is false one two three four = refl
 
 pub hash_tree : (difi : Difi) → has_bad_level difi ≡ false → has_overlapping_levels difi ≡ false → has_too_few_entries difi ≡ false → HasHashLevels difi
 unfolding has_bad_level has_overlapping_levels has_too_few_entries
@@ -112,10 +72,11 @@ hash_tree difi in_level3 none_overlap enough =
     let some2 = or_parts _ _ some1.1 in
     let some3 = or_parts _ _ some2.1 in
     let some4 = or_parts _ _ some3.1 in
-    let inside = inner_inside difi.external (extent_of difi.ivfc1) (extent_of difi.ivfc2) (extent_of difi.ivfc3)
-    (extent_of difi.ivfc4) difi.dpfs3.size parts.1 in
-    let apart = inner_apart difi.external (extent_of difi.ivfc1) (extent_of difi.ivfc2) (extent_of difi.ivfc3)
-    (extent_of difi.ivfc4) (all_apart (inner_levels difi) none_overlap) in
+    let are = inner_is difi.external (extent_of difi.ivfc1) (extent_of difi.ivfc2) (extent_of difi.ivfc3) (extent_of difi.ivfc4) in
+    let inside = rw are at (all_inside (inner_levels difi) difi.dpfs3.size parts.1) in
+    let apart = rw are at (all_apart (inner_levels difi) none_overlap) in
+    let inside_all = λ (e : difi.external ≡ false). rw e at inside in
+    let apart_all = λ (e : difi.external ≡ false). rw e at apart in
     let fourth = or_parts _ _ enough in
     let third = or_parts _ _ fourth.0 in
     let second = or_parts _ _ third.0 in
@@ -124,16 +85,16 @@ hash_tree difi in_level3 none_overlap enough =
       some2 = not_empty _ some2.0;
       some3 = not_empty _ some3.0;
       some4 = not_empty _ some4.0;
-      inside1 = inside.inside1;
-      inside2 = inside.inside2;
-      inside3 = inside.inside3;
-      inside4 = inside.inside4;
-      apart12 = apart.apart12;
-      apart13 = apart.apart13;
-      apart23 = apart.apart23;
-      apart14 = apart.apart14;
-      apart24 = apart.apart24;
-      apart34 = apart.apart34;
+      inside1 = inside.0;
+      inside2 = inside.1.0;
+      inside3 = inside.1.1.0;
+      inside4 = λ e. (inside_all e).1.1.1.0;
+      apart12 = apart.0.0;
+      apart13 = apart.0.1.0;
+      apart23 = apart.1.0.0;
+      apart14 = λ e. (apart_all e).0.1.1.0;
+      apart24 = λ e. (apart_all e).1.0.1.0;
+      apart34 = λ e. (apart_all e).1.1.0.0;
       entries1 = enough_entries _ _ second.0;
       entries2 = enough_entries _ _ second.1;
       entries3 = enough_entries _ _ third.1;
@@ -148,13 +109,14 @@ external_level difi part_len h external =
     record { inside = ends_inside (external_extent difi) part_len parts.0; apart1 = apart.0; apart2 = apart.1.0; apart3 = apart.1.1.0 }
 
 -- what the tests on the levels give
-pub record HasLevels (difi : Difi) (part_len : ℕ) : Type 0 where
+pub record HasTestedLevels (difi : Difi) (part_len : ℕ) : Type 0 where
   pub block_sizes : HasBlockSizes difi
   pub copies : HasCopies difi part_len
   pub hash_levels : HasHashLevels difi
   pub external_level : difi.external ≡ true → HasExternalLevel difi part_len
 
-pub on_levels : (difi : Difi) (part_len : ℕ) → verdict (level_tests difi part_len) ≡ Ok tt → HasLevels difi part_len
+pub on_levels : (difi : Difi) (part_len : ℕ) → verdict (level_tests difi part_len) ≡ Ok tt
+    → HasTestedLevels difi part_len
 unfolding level_tests
 on_levels difi part_len h =
     let logs = holds _ _ _ h in

@@ -1,5 +1,5 @@
 -- A partition's cells through both of its trees.
-use Rattle.std.proofs.Common.{◌≡◌, ℕ, ◌+◌, ◌^◌, ◌<◌, Bool, true, false, not, IsTrue, IsFalse, List, length, drop}
+use Rattle.std.proofs.Common.{◌≡◌, ℕ, ◌+◌, ◌^◌, ◌<◌, true, not, IsTrue, IsFalse, List, length, drop}
 use Rattle.std.proofs.Common.{Option, Some, None, Result, Ok, Err, refl, sym, ◌∙◌, ap, subst, arith}
 use Rattle.std.proofs.lemmas.Bool.{not-true, and_parts, and_from, le-leb, leb-true}
 use Rattle.save_bytes.specs.declared.space.Bad.{Bad}

@@ -1,7 +1,7 @@
 -- The laws on the spots of a partition.
-use Rattle.std.proofs.Common.{◌≡◌, ℕ, ◌<◌, length, refl, sym, ◌∙◌}
+use Rattle.std.proofs.Common.{ℕ, refl, sym, ◌∙◌}
 use Rattle.save_bytes.specs.Spots.{Spot, Mark, Frame, LandsAsBefore}
-use Rattle.save_bytes.specs.State.{Shape, State}
+use Rattle.save_bytes.specs.State.{State}
 use Rattle.save_bytes.specs.Stays.{SameCells}
 use Rattle.dpfs_tree.specs.Picks.{bytes_of}
 use Rattle.dpfs_tree.specs.View.{HasContents}

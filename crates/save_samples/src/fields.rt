@@ -28,11 +28,12 @@ pub(crate) fn put_level(bytes: &mut [u8], field: usize, at: u64, size: u64, log:
     set_u32(bytes, field + 16, log);
 }
 
-/// Puts the SHA-256 of the `size` bytes from `at` on into the 32 bytes from `entry` on.
+/// Puts the SHA-256 of the `size` bytes of an image from `at` on into the 32 bytes from `entry` on.
 pub fn put_digest(image: &mut [u8], at: usize, size: usize, entry: usize)
-    requires block { at + size ≤ length image.old }
-    requires entry { entry + 32 ≤ length image.old }
-    ensures { length image.new ≡ length image.old }
+    requires image { length image.old ≡ 110592 }
+    requires block { at + size ≤ 110592 }
+    requires entry { entry + 32 ≤ 110592 }
+    ensures { length image.new ≡ 110592 }
 {
     let digest = Sha256::digest(&image[at..at + size]);
     image[entry..entry + 32].copy_from_slice(&digest);

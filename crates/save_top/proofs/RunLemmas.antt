@@ -1,7 +1,6 @@
 -- A command as a whole.
-use Rattle.std.proofs.Common.{◌≡◌, ◌⊎◌, ℕ, ◌≤◌, List, [], ◌++◌, Bool, Option, Some, Result, Ok, refl, sym, ◌∙◌, ap, arith, inl, inr, ⊎_elim}
-use Rattle.save_disk.specs.Trace.{Event, Told, IsFresh, OnlySays, image_after}
-use Rattle.std.proofs.lemmas.List.{append-nil}
+use Rattle.std.proofs.Common.{◌≡◌, ◌⊎◌, ℕ, ◌≤◌, List, [], Option, Some, Result, Ok, refl, ◌∙◌, ap, arith, inl, inr, ⊎_elim}
+use Rattle.save_disk.specs.Trace.{Told, IsFresh, OnlySays, image_after}
 use Rattle.save_disk.specs.State.{State, IsQuiet, Rose}
 use Rattle.save_disk.specs.Stops.{Since, AtEachMoment}
 use Rattle.save_disk.specs.Tells.{image_of, image_told, NoneRose, Tells}

@@ -1,5 +1,5 @@
 -- What a command answers, as a function of the image.
-use Rattle.std.specs.Prelude.{ℕ, Bool, nat_lt, List, Option, Some, None, Result, Ok, Err, if◌then◌else◌}
+use Rattle.std.specs.Prelude.{ℕ, nat_lt, List, Option, Some, None, Result, Ok, Err, if◌then◌else◌}
 use Rattle.container_header.specs.declared.header.Header.{Header}
 use Rattle.container_header.specs.declared.fault.HeaderFault.{HeaderFault}
 use Rattle.container_header.specs.Conditions.{reading}

@@ -1,4 +1,4 @@
-use Rattle.std.proofs.Common.{◌≡◌, ◌+◌, ◌-◌, length, arith, rules}
+use Rattle.std.proofs.Common.{◌≡◌, ◌+◌, ◌-◌, arith, rules}
 use Rattle.std.specs.Result.{result_err}
 use Rattle.part_store.proofs.PartLemmas.{base_reads, found_part}
 use Rattle.part_store.proofs.calls.find.Goals as goal

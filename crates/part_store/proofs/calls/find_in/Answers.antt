@@ -1,10 +1,9 @@
-use Rattle.std.proofs.Common.{◌≡◌, ℕ, ◌+◌, ◌^◌, ◌<◌, IsTrue, Bool, None, Ok, length, ◌∙◌, ap, arith}
+use Rattle.std.proofs.Common.{◌≡◌, IsTrue, length, ◌∙◌, ap, arith}
 use Rattle.std.specs.Borrow.{Bor}
 use Rattle.std.specs.Result.{result_err}
 use Rattle.save_bytes.specs.State.{Shape}
 use Rattle.save_bytes.proofs.CallLemmas.{Reads-join}
 use Rattle.difi.specs.declared.descriptor.Difi.{Difi}
-use Rattle.difi.specs.Contents.{view_size}
 use Rattle.dpfs_tree.specs.Held.{shown_contents, ContentsKeep, contents_land}
 use Rattle.dpfs_tree.specs.ViewLaws.{view_size_fits, ContentsKeep-join}
 use Rattle.ivfc_tree.specs.ViewLaws.{tree_of}

@@ -1,4 +1,4 @@
-use Rattle.std.proofs.Common.{refl, length, subst, sym, IsTrue}
+use Rattle.std.proofs.Common.{refl, subst, sym, IsTrue}
 use Rattle.std.specs.Result.{result_err}
 use Rattle.save_bytes.specs.State.{Shape}
 use Rattle.save_bytes.proofs.CallLemmas.{Reads-join}
