@@ -6,8 +6,9 @@ ghost use Rattle.dpfs_tree.specs.Marks.{IsMadeForContents};
 ghost use Rattle.dpfs_tree.specs.View.{HasPartition};
 
 use super::*;
-use difi::{Difi, Extent2, LevelPlace};
+use difi::Difi;
 use save_bytes::{MemSpace, Space, space_copy};
+use save_samples::{EXTERNAL_DIFI, LONE_DIFI, LONG_DIFI};
 use std::alloc::{AllocError, Global};
 use std::test::Fail;
 
@@ -21,51 +22,8 @@ fn internal_tree(selector: u8) -> Difi
     ensures size { view_size result ≡ 131840 }
 {
     Difi {
-        place: 0,
-        ivfc_at: 0x44,
-        dpfs_at: 0xBC,
-        master: Extent2 {
-            at: 0x10C,
-            size: 32,
-        },
-        external: false,
-        external_at: 0,
         selector,
-        ivfc1: LevelPlace {
-            at: 0,
-            size: 32,
-            log: 9,
-        },
-        ivfc2: LevelPlace {
-            at: 512,
-            size: 32,
-            log: 9,
-        },
-        ivfc3: LevelPlace {
-            at: 1024,
-            size: 512,
-            log: 9,
-        },
-        ivfc4: LevelPlace {
-            at: 4096,
-            size: 65536,
-            log: 12,
-        },
-        dpfs1: LevelPlace {
-            at: 0,
-            size: 4,
-            log: 0,
-        },
-        dpfs2: LevelPlace {
-            at: 16,
-            size: 132,
-            log: 7,
-        },
-        dpfs3: LevelPlace {
-            at: 512,
-            size: 131840,
-            log: 7,
-        },
+        ..LONG_DIFI
     }
 }
 
@@ -74,53 +32,7 @@ fn external_tree() -> Difi
     ensures sound { HasSoundLevels result 2024 }
     ensures size { view_size result ≡ 1200 }
 {
-    Difi {
-        place: 0,
-        ivfc_at: 0x44,
-        dpfs_at: 0xBC,
-        master: Extent2 {
-            at: 0x10C,
-            size: 32,
-        },
-        external: true,
-        external_at: 1024,
-        selector: 0,
-        ivfc1: LevelPlace {
-            at: 0,
-            size: 32,
-            log: 9,
-        },
-        ivfc2: LevelPlace {
-            at: 32,
-            size: 32,
-            log: 9,
-        },
-        ivfc3: LevelPlace {
-            at: 64,
-            size: 32,
-            log: 9,
-        },
-        ivfc4: LevelPlace {
-            at: 0,
-            size: 1000,
-            log: 12,
-        },
-        dpfs1: LevelPlace {
-            at: 0,
-            size: 4,
-            log: 0,
-        },
-        dpfs2: LevelPlace {
-            at: 16,
-            size: 4,
-            log: 7,
-        },
-        dpfs3: LevelPlace {
-            at: 512,
-            size: 200,
-            log: 7,
-        },
-    }
+    EXTERNAL_DIFI
 }
 
 /// The tree of a new image with one partition of 64 blocks: levels 1, 2 and 3 have 4, 128 and 49,152 bytes.
@@ -128,53 +40,7 @@ fn new_tree() -> Difi
     ensures sound { HasSoundLevels result 106496 }
     ensures size { view_size result ≡ 49152 }
 {
-    Difi {
-        place: 0,
-        ivfc_at: 0x44,
-        dpfs_at: 0xBC,
-        master: Extent2 {
-            at: 0x10C,
-            size: 32,
-        },
-        external: false,
-        external_at: 0,
-        selector: 0,
-        ivfc1: LevelPlace {
-            at: 0,
-            size: 32,
-            log: 9,
-        },
-        ivfc2: LevelPlace {
-            at: 4096,
-            size: 32,
-            log: 9,
-        },
-        ivfc3: LevelPlace {
-            at: 8192,
-            size: 288,
-            log: 12,
-        },
-        ivfc4: LevelPlace {
-            at: 12288,
-            size: 34816,
-            log: 12,
-        },
-        dpfs1: LevelPlace {
-            at: 0,
-            size: 4,
-            log: 0,
-        },
-        dpfs2: LevelPlace {
-            at: 4096,
-            size: 128,
-            log: 7,
-        },
-        dpfs3: LevelPlace {
-            at: 8192,
-            size: 49152,
-            log: 12,
-        },
-    }
+    LONE_DIFI
 }
 
 /// The byte of a fresh view, or 0 where it is refused.
