@@ -1,13 +1,20 @@
 -- Blocks of level 2, their bits, and what sealing one of them leaves.
-use Rattle.std.proofs.Common.{◌≡◌, ℕ, ◌+◌, ◌-◌, ◌*◌, ◌/◌, ◌^◌, ◌<◌, ◌≤◌, min, Bool, true, false, List, length, refl, sym, ◌∙◌, ap, subst, arith, ⊎_elim}
+use Rattle.std.proofs.Common.{◌≡◌, ℕ, ◌+◌, ◌-◌, ◌*◌, ◌/◌, ◌^◌, ◌<◌, ◌≤◌, min, Bool, true, false, IsTrue, Option, None, List, length, refl, sym, ◌∙◌, ap, subst, arith, ⊎_elim}
 use Rattle.std.specs.Int.{div_ceil}
 use Rattle.std.proofs.Math.Nat.{mul-div-mul_left, div-div-eq-div-mul, div-eq_of_eq-mul_left}
 use Rattle.std.proofs.lemmas.Bool.{cases_lt}
 use Rattle.std.proofs.lemmas.Nat.{pow_pos, div-add-mod', div-mul-add, mod_below}
 use Rattle.std.proofs.lemmas.List.{get_or_past}
+use Rattle.save_bytes.specs.declared.space.Bad.{Bad}
 use Rattle.save_bytes.specs.Cells.{Cell}
-use Rattle.save_bytes.specs.State.{Shape}
-use Rattle.save_bytes.specs.Writes.{IsWithin}
+use Rattle.save_bytes.specs.State.{Shape, State}
+use Rattle.save_bytes.specs.Refusals.{IfDone}
+use Rattle.save_bytes.specs.Spots.{Spot, Frame, Hold}
+use Rattle.save_bytes.specs.Reads.{Reads}
+use Rattle.save_bytes.specs.Writes.{IsWithin, Writes}
+use Rattle.save_bytes.proofs.SpaceLemmas.{IfDone-map}
+use Rattle.save_bytes.proofs.WriteLemmas.{Writes-wider, writes_after}
+use Rattle.dpfs_tree.specs.Copies.{CanCopy}
 use Rattle.difi.specs.declared.descriptor.Difi.{Difi}
 use Rattle.difi.specs.Places.{blocks_of}
 use Rattle.difi.proofs.PlaceLemmas.{block_begins}
@@ -17,12 +24,12 @@ use Rattle.dpfs_tree.specs.Picks.{bytes_of, bit_of, copy_place, pick1}
 use Rattle.dpfs_tree.specs.Marks.{is_marked, copy_read, IsMadeForContents}
 use Rattle.dpfs_tree.specs.View.{HasContents}
 use Rattle.dpfs_tree.specs.Puts.{AreCopiesAt}
-use Rattle.dpfs_tree.specs.Turns.{AreTurned}
+use Rattle.dpfs_tree.specs.Turns.{AreTurned, IsTurned}
 use Rattle.dpfs_tree.specs.Seals.{bits_in, HasMark, SealsBlock, IsBlockSealed}
-use Rattle.dpfs_tree.specs.SameLaws.{SameUpper, word_inside, bit1-same, bit2-same}
+use Rattle.dpfs_tree.specs.SameLaws.{SameUpper, upper_same, word_inside, bit1-same, bit2-same}
 use Rattle.dpfs_tree.proofs.PickLemmas.{four_parts}
 use Rattle.dpfs_tree.proofs.BitLemmas.{bit_of-pick2, word_block_below}
-use Rattle.dpfs_tree.proofs.BlockLemmas.{begin, ends, in_block}
+use Rattle.dpfs_tree.proofs.BlockLemmas.{begin, ends, in_block, can_copy_block}
 use Rattle.dpfs_tree.proofs.SealLemmas.{turned_bit}
 
 -- the block of a bit's word, by the bit
@@ -137,3 +144,50 @@ module _ (base : Shape) (part_at : ℕ) (difi : Difi) (state : DpfsState) (tree 
         let copy : chosen ≡ bit_of bits1 (k / bits_in difi) = is ∙ ap (λ (b : ℕ). bit_of bits1 b) (sym here) in
         ap (λ (c : ℕ). bit_of (λ x. bytes_of new (copy_place part_at level (1 - c) x)) k) (sym copy) ∙ bit
         ∙ ap (copy_read (is_marked state.touched.items k)) read
+
+-- what sealing a block leaves behind a call that reads
+module _ {A : Type 0} (states : A → State) (keeps : Spot → A → A → Type 0) (lands : A → ℕ → Spot → Type 0)
+    (join : (spot : Spot) (s t u : A) → keeps spot s t → keeps spot t u → keeps spot s u)
+    (hold : (s t : A) → keeps Frame s t → keeps Hold s t) (s m t : A) (part_at : ℕ) (difi : Difi) (state : DpfsState)
+    (tree : HasContents (states s).shape part_at difi state.selector) (made : IsMadeForContents difi state)
+    (block at chosen : ℕ) (touched : HasMark difi state block) (at_is : at ≡ block * 2 ^ difi.dpfs2.log) (copies : BlockCopies)
+    (are : AreCopiesAt part_at difi.dpfs2 at chosen copies) (one : chosen < 2) (reads : Reads states keeps lands s m None)
+    (bit : IsTrue (states s).told → chosen ≡ bit_of (pick1 (bytes_of (states s).cells) part_at difi state.selector) block) where
+  block_at : at < difi.dpfs2.size
+  block_at = begins_at (states s).shape part_at difi state tree block at at_is made touched
+
+  pub seals_copy : CanCopy (states m).shape copies.from copies.to copies.len
+  seals_copy =
+      subst (λ (shape : Shape). CanCopy shape copies.from copies.to copies.len) (sym reads.stays.space.shape)
+      (can_copy_block part_at difi.dpfs2 at chosen copies are block_at (states s).shape difi state.selector tree tree.level2 one)
+
+  module _ (refusal : Option Bad) where
+    pub seals_block : (first count words : ℕ) → first ≡ at / 4 → words ≡ div_ceil (length state.touched.items) 32
+        → count ≡ min (copies.len / 4) (words - first)
+        → (IsTrue (states m).told → IfDone refusal
+        (IsTurned (is_marked state.touched.items) (states m).cells copies.from copies.to copies.len first count (states t).cells))
+        → IsTrue (states s).told → IfDone refusal (IsBlockSealed part_at difi state (states s).cells block (states t).cells)
+    seals_block first count words first_is words_is count_is turned told =
+        let shape = (states s).shape in
+        let old = (states s).cells in
+        let mid = (states m).cells in
+        let upper = upper_same shape part_at difi state.selector tree (bytes_of old) (bytes_of mid)
+        (λ x less. rw (reads.stays.cells told x less) refl) in
+        let same = bit1-same shape part_at difi state.selector tree (bytes_of old) (bytes_of mid) upper block
+        (marked_block_below shape part_at difi state tree block made touched) in
+        IfDone-map refusal
+        (λ (is : IsTurned (is_marked state.touched.items) mid copies.from copies.to copies.len first count (states t).cells).
+        sealed_before shape part_at difi state tree old mid (states t).cells block upper
+        (block_sealed shape part_at difi state tree block at chosen copies at_is block_at are mid (states t).cells first count words
+        first_is (words_is ∙ ap (λ (n : ℕ). div_ceil n 32) made.marks) count_is (bit told ∙ sym same) is.words))
+        (turned (reads.stays.space.told told))
+
+    pub seals_there : Writes states keeps lands (IsWithin copies.to copies.len) m t refusal
+        → Writes states keeps lands (SealsBlock (bytes_of (states s).cells) part_at difi state block) s t refusal
+    seals_there writes =
+        Writes-wider states keeps lands (IsWithin copies.to copies.len)
+        (SealsBlock (bytes_of (states s).cells) part_at difi state block) s t refusal
+        (λ told x inside within.
+        sealed_site (states s).shape part_at difi state tree block at chosen copies at_is block_at are (bytes_of (states s).cells)
+        touched (bit told) x within)
+        (writes_after states keeps lands join hold (IsWithin copies.to copies.len) s m t refusal reads writes)

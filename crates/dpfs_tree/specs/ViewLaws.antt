@@ -16,6 +16,7 @@ use Rattle.difi.proofs.CompleteLemmas.{levels_pass}
 use Rattle.dpfs_tree.specs.declared.state.DpfsState.{DpfsState}
 use Rattle.difi.specs.Contents.{view_size}
 use Rattle.dpfs_tree.specs.declared.view.DpfsView.{DpfsView}
+use Rattle.dpfs_tree.specs.Marks.{IsMadeForContents}
 use Rattle.dpfs_tree.specs.View.{CanViewContents, can_view_contents, HasContents, contents_state}
 use Rattle.dpfs_tree.specs.Held.{shown_contents, SameContents, SameState, ContentsKeep, ContentsLand, contents_land}
 use Rattle.dpfs_tree.specs.Picks.{bytes_of}
@@ -166,6 +167,15 @@ pub contents_tree : (base : Shape) (part_at : ℕ) (difi : Difi) (state : DpfsSt
     → HasContents base part_at difi state.selector
 contents_tree base part_at difi state fits sound = let view = true-can_view_contents base part_at difi state sound in
     tree_of base part_at difi state (fits view.sound) view
+
+-- so a view that lies soundly over a base has its tree there, and a state that is made for it
+module _ {S : Type 0} (states : S → State) (fits : (s : S) → IsTrue (states s).shape.sound → (states s).shape.size < 2 ^ 64)
+    (view : DpfsView S) (sound : IsTrue (shown_contents states view).shape.sound) where
+  pub shown_tree : HasContents (states view.base.now).shape view.part_at view.difi.now view.state.now.selector
+  shown_tree = contents_tree (states view.base.now).shape view.part_at view.difi.now view.state.now (fits view.base.now) sound
+
+  pub shown_made : IsMadeForContents view.difi.now view.state.now
+  shown_made = (true-can_view_contents (states view.base.now).shape view.part_at view.difi.now view.state.now sound).made
 
 -- the laws of a space
 pub view_size_fits : (base : State) (part_at : ℕ) (difi : Difi) (state : DpfsState)

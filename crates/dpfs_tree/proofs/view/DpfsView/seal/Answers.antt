@@ -1,27 +1,24 @@
 use Rattle.std.specs.Result.{result_err}
 use Rattle.dpfs_tree.specs.Picks.{bytes_of}
 use Rattle.dpfs_tree.specs.Seals.{SealWrites}
-use Rattle.dpfs_tree.specs.ViewLaws.{true-can_view_contents, contents_tree}
+use Rattle.dpfs_tree.specs.ViewLaws.{shown_tree, shown_made}
 use Rattle.dpfs_tree.proofs.SpareLemmas.{seal_spares, writes_spare}
 use Rattle.dpfs_tree.proofs.view.DpfsView.seal.Goals as goal
 
 pub seal_in-requires-clause-tree : goal.seal_in-requires-clause-tree
 seal_in-requires-clause-tree g c =
-    let view = c.args.self.now in
-    contents_tree (g.S.Space.state view.base.now).shape view.part_at view.difi.now view.state.now (g.met.S.Space.size_fits view.base.now)
-    c.requires
+    shown_tree g.S.Space.state g.met.S.Space.size_fits c.args.self.now c.requires
 
 pub seal_in-requires-clause-made : goal.seal_in-requires-clause-made
 seal_in-requires-clause-made g c =
-    let view = c.args.self.now in
-    (true-can_view_contents (g.S.Space.state view.base.now).shape view.part_at view.difi.now view.state.now c.requires).made
+    shown_made g.S.Space.state g.met.S.Space.size_fits c.args.self.now c.requires
 
 pub returns-clause-spares : goal.returns-clause-spares
 returns-clause-spares g c =
     let space = g.S.Space in
     let view = c.args.self.now in
     let base = space.state view.base.now in
-    let tree = contents_tree base.shape view.part_at view.difi.now view.state.now (g.met.S.Space.size_fits view.base.now) c.requires in
+    let tree = shown_tree space.state g.met.S.Space.size_fits view c.requires in
     writes_spare space.state space.keeps space.lands view.part_at view.difi.now view.state.now.selector
     (SealWrites (bytes_of base.cells) view.part_at view.difi.now view.state.now) view.base.now c.seal_in.new.base
     (result_err c.seal_in.result)

@@ -1,6 +1,6 @@
 use Rattle.std.proofs.Common.{refl}
 use Rattle.std.specs.Result.{result_err}
-use Rattle.dpfs_tree.specs.ViewLaws.{contents_tree}
+use Rattle.dpfs_tree.specs.ViewLaws.{shown_tree}
 use Rattle.dpfs_tree.proofs.PieceLemmas.{run_inside, view_piece}
 use Rattle.save_bytes.proofs.CallLemmas.{Reads-join}
 use Rattle.dpfs_tree.proofs.SameLemmas.{contents_read}
@@ -10,9 +10,7 @@ pub piece-requires-clause-inside : goal.piece-requires-clause-inside
 piece-requires-clause-inside g c =
     let states = g.S.Space.state in
     let view = c.args.self.now in
-    let shape = (states view.base.now).shape in
-    let fits = g.met.S.Space.size_fits view.base.now in
-    let tree = contents_tree shape view.part_at view.difi.now view.state.now fits c.requires.inside.sound in
+    let tree = shown_tree states g.met.S.Space.size_fits view c.requires.inside.sound in
     let run = c.in-Ok.run' in
     run_inside (states view.base.now) view.part_at view.difi.now view.state.now c.args.at (states c.locate.new.self.base.now) c.args.most
     run.0 run.1 c.in-Ok.ensures.located c.in-Ok.ensures.base.stays tree.sound
@@ -25,8 +23,7 @@ returns g c =
     let base = space.state view.base.now in
     let last = c.piece.follows.lender-at-none in
     let refusal = result_err c.piece.result in
-    let fits = g.met.S.Space.size_fits view.base.now in
-    let tree = contents_tree base.shape view.part_at view.difi.now view.state.now fits c.requires.inside.sound in
+    let tree = shown_tree space.state g.met.S.Space.size_fits view c.requires.inside.sound in
     let first = c.in-Ok.ensures in
     let same = first.reads.frame.0 in
     let run = c.in-Ok.run' in
