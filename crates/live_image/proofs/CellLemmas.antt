@@ -31,7 +31,7 @@ upper_inside difi levels (suc (suc zero)) some most = levels.inside2
 upper_inside difi levels (suc (suc (suc zero))) some most = levels.inside3
 upper_inside difi levels (suc (suc (suc (suc level)))) some most = absurd (omega (arith, most))
 
-internal_at : (difi : Difi) → difi.external ≡ false → (level_of difi 4).at ≡ difi.ivfc4.at
+pub internal_at : (difi : Difi) → difi.external ≡ false → (level_of difi 4).at ≡ difi.ivfc4.at
 unfolding level_of
 internal_at difi is = rw is refl
 

@@ -11,3 +11,5 @@ pub mod ApartLemmas
 pub mod WriteLemmas
 pub mod ContainerLemmas
 pub mod RowLemmas
+pub mod FootprintTestLemmas
+pub mod MayWriteLemmas

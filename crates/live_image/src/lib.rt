@@ -20,3 +20,5 @@ pub use stops::{a_commit_leaves_a_live_image, a_stop_leaves_a_live_image};
 mod live_tests;
 #[cfg(test)]
 mod stop_tests;
+#[cfg(test)]
+mod footprint_tests;

@@ -17,7 +17,7 @@ use std::alloc::{AllocError, Global};
 use std::test::Fail;
 
 /// Whether a place is one of `size` from `at` on.
-fn lies_from(at: u64, size: u64, place: u64) -> bool
+pub(crate) fn lies_from(at: u64, size: u64, place: u64) -> bool
     requires { at + size < 2 ^ 64 }
     ensures { result ≡ lies_from at size place }
 {
@@ -25,7 +25,7 @@ fn lies_from(at: u64, size: u64, place: u64) -> bool
 }
 
 /// Where a copy of a level begins in the image.
-fn copy_start(partition: &Extent, level: &LevelPlace, copy: u8) -> u64
+pub(crate) fn copy_start(partition: &Extent, level: &LevelPlace, copy: u8) -> u64
     requires fits { partition.now.at + level.now.at + 2 * level.now.size < 2 ^ 64 }
     requires copy { copy < 2 }
     ensures { result ≡ partition.now.at + level.now.at + copy * level.now.size }
@@ -46,7 +46,7 @@ fn bit_at(image: &[u8], from: u64, k: u64) -> u8
 }
 
 /// The copy of a block of level 2 that is chosen.
-fn level2_copy(image: &[u8], partition: &Extent, difi: &Difi, block: u64) -> u8
+pub(crate) fn level2_copy(image: &[u8], partition: &Extent, difi: &Difi, block: u64) -> u8
     requires placed { IsPlaced (length image.now) partition.now difi.now }
     requires block { block < blocks_of difi.now.dpfs2 }
     ensures bit { result ≡ bit_of (pick1 (λ x. slice_index image.now x) partition.now.at difi.now difi.now.selector) block }
@@ -60,7 +60,7 @@ fn level2_copy(image: &[u8], partition: &Extent, difi: &Difi, block: u64) -> u8
 }
 
 /// The copy of a block of level 3 that is chosen.
-fn level3_copy(image: &[u8], partition: &Extent, difi: &Difi, block: u64) -> u8
+pub(crate) fn level3_copy(image: &[u8], partition: &Extent, difi: &Difi, block: u64) -> u8
     requires placed { IsPlaced (length image.now) partition.now difi.now }
     requires block { block < blocks_of difi.now.dpfs3 }
     ensures bit { result ≡ bit_of (pick2 (λ x. slice_index image.now x) partition.now.at difi.now difi.now.selector) block }
@@ -119,7 +119,7 @@ fn is_live_tree(image: &[u8], partition: &Extent, difi: &Difi, place: u64) -> bo
 }
 
 /// The header of an image.
-fn header_of(image: &[u8]) -> Result<Header, HeaderFault>
+pub(crate) fn header_of(image: &[u8]) -> Result<Header, HeaderFault>
     requires { 512 ≤ length image.now }
     ensures exact { result ≡ header_reading image.now }
     ensures header { IfOk result (λ header. IsHeaderOf header image.now) }
@@ -130,7 +130,7 @@ fn header_of(image: &[u8]) -> Result<Header, HeaderFault>
 }
 
 /// The active table of an image.
-fn table_of<'a>(image: &'a [u8], header: &Header) -> &'a [u8]
+pub(crate) fn table_of<'a>(image: &'a [u8], header: &Header) -> &'a [u8]
     requires { IsHeaderOf header.now image.now }
     ensures { result.now ≡ active_table image.now header.now }
 {
@@ -139,7 +139,7 @@ fn table_of<'a>(image: &'a [u8], header: &Header) -> &'a [u8]
 }
 
 /// Where a part's descriptor stands in the table, and its partition in the image.
-fn places_of(header: &Header, number: u8) -> (Extent, Extent)
+pub(crate) fn places_of(header: &Header, number: u8) -> (Extent, Extent)
     ensures descriptor { result.0 ≡ descriptor_of header.now number }
     ensures partition { result.1 ≡ partition_of header.now number }
 {
@@ -203,7 +203,7 @@ fn live_in_sector(image: &[u8], grain: u64, sector: u64) -> u64
 }
 
 /// Puts a byte at each of these places.
-fn set_bytes(image: &mut [u8], bytes: &[(usize, u8)])
+pub(crate) fn set_bytes(image: &mut [u8], bytes: &[(usize, u8)])
     ensures { length image.new ≡ length image.old }
 {
     for (at, byte) in bytes {
