@@ -1,5 +1,6 @@
 -- The cells of level four hang on the live places, and on its own bytes where it is external.
-use Rattle.std.proofs.Common.{◌≡◌, ℕ, zero, suc, ◌+◌, ◌-◌, ◌*◌, ◌/◌, ◌^◌, ◌<◌, ◌≤◌, min, true, false, List, length, get_or, refl, ◌∙◌, ap, arith}
+use Rattle.std.proofs.Common.{◌≡◌, ℕ, zero, suc, ◌+◌, ◌-◌, ◌*◌, ◌/◌, ◌^◌, ◌<◌, ◌≤◌, min, true, false, List, length}
+use Rattle.std.proofs.Common.{get_or, refl, ◌∙◌, ap, arith}
 use Rattle.std.proofs.lemmas.Bool.{lt-ltb, le-ltb}
 use Rattle.std.proofs.lemmas.Nat.{div-mul-add, div-add-mod'}
 use Rattle.save_bytes.specs.Cells.{Cell, Byte}
@@ -48,31 +49,33 @@ module _ (image other : List ℕ) (same : SameLive image other) (header : Header
   now = contents_in other header part difi
 
   -- the chosen contents
-  pub contents_same : (x : ℕ) → x < difi.dpfs3.size → contents_in other header part difi x ≡ contents_in image header part difi x
+  pub contents_same : (x : ℕ) → x < difi.dpfs3.size
+      → contents_in other header part difi x ≡ contents_in image header part difi x
   unfolding chosen
   contents_same x h =
       let place = placed image header part difi has in
       rw (lt-ltb x difi.dpfs3.size h)
-      (ap Byte (pick3_same (partition_of header part).at (partition_of header part).size (length image) difi place.inside place.levels
+      (ap Byte (pick3_same (partition_of header part).at (partition_of header part).size
+      (length image) difi place.inside place.levels
       (λ y. get_or image y 0) (λ y. get_or other y 0) (agrees image other same header has.header_is part difi has) x h))
 
   levels : HasHashLevels difi
   levels = (placed image header part difi has).levels.hash_levels
 
   upper_same : (level : ℕ) → 1 ≤ level → level ≤ 3
-      → SameLevel (contents_in other header part difi) (contents_in image header part difi) difi level
+      → SameLevel now was difi level
   upper_same level some most x h =
       contents_same ((level_of difi level).at + x) (omega (arith, upper_inside difi levels level some most, h))
 
   -- the paths of a block that has the same bytes
   path_in_same : (level block : ℕ) → level ≤ 3
-      → padded_block (contents_in other header part difi) difi (suc level) block
-      ≡ padded_block (contents_in image header part difi) difi (suc level) block
+      → padded_block now difi (suc level) block
+      ≡ padded_block was difi (suc level) block
       → path_in other header part difi (suc level) block ≡ path_in image header part difi (suc level) block
   unfolding path_in
   path_in_same level block most own =
       rw (table_same image other same header has.header_is)
-      (path_same (contents_in other header part difi) (contents_in image header part difi) difi (master_of (active_table image header) difi)
+      (path_same now was difi (master_of (active_table image header) difi)
       level block (λ upper some less. upper_same upper some (omega (arith, less, most))) own)
 
   -- of levels 1 to 3
@@ -81,36 +84,44 @@ module _ (image other : List ℕ) (same : SameLive image other) (header : Header
   upper_path_same zero block some most = absurd (omega (arith, some))
   upper_path_same (suc level) block some most =
       path_in_same level block (omega (arith, most))
-      (block_same (contents_in other header part difi) (contents_in image header part difi) difi (suc level) block
+      (block_same now was difi (suc level) block
       (upper_same (suc level) some most))
 
   -- the cell of a byte by its path and its value
-  cell_same : (x : ℕ) → path_in other header part difi 4 (x / block_size difi.ivfc4) ≡ path_in image header part difi 4 (x / block_size difi.ivfc4)
-      → contents_in other header part difi ((level_of difi 4).at + x) ≡ contents_in image header part difi ((level_of difi 4).at + x)
+  cell_same : (x : ℕ) → path_in other header part difi 4 (x / block_size difi.ivfc4)
+      ≡ path_in image header part difi 4 (x / block_size difi.ivfc4)
+      → contents_in other header part difi ((level_of difi 4).at + x)
+      ≡ contents_in image header part difi ((level_of difi 4).at + x)
       → cell_at other header part difi x ≡ cell_at image header part difi x
   cell_same x path value =
-      ap (λ (found : BlockState). cell_in found part (value_of (contents_in other header part difi ((level_of difi 4).at + x)))) path
-      ∙ ap (λ (cell : Cell). cell_in (path_in image header part difi 4 (x / block_size difi.ivfc4)) part (value_of cell)) value
+      ap (λ (found : BlockState). cell_in found part
+      (value_of (contents_in other header part difi ((level_of difi 4).at + x)))) path
+      ∙ ap (λ (cell : Cell). cell_in (path_in image header part difi 4 (x / block_size difi.ivfc4)) part
+      (value_of cell)) value
 
   module _ (internal : difi.external ≡ false) where
-    four_same : SameLevel (contents_in other header part difi) (contents_in image header part difi) difi 4
+    four_same : SameLevel now was difi 4
     four_same x h =
         let begin = internal_at difi internal in
         let size = level4_size difi in
         contents_same ((level_of difi 4).at + x) (omega (arith, levels.inside4 internal, begin, size, h))
 
-    pub internal_path_same : (block : ℕ) → path_in other header part difi 4 block ≡ path_in image header part difi 4 block
+    pub internal_path_same : (block : ℕ) → path_in other header part difi 4 block
+        ≡ path_in image header part difi 4 block
     internal_path_same block =
         path_in_same 3 block (omega arith)
-        (block_same (contents_in other header part difi) (contents_in image header part difi) difi 4 block four_same)
+        (block_same now was difi 4 block four_same)
 
-    pub internal_cell_same : (x : ℕ) → x < difi.ivfc4.size → cell_at other header part difi x ≡ cell_at image header part difi x
-    internal_cell_same x h = cell_same x (internal_path_same (x / block_size difi.ivfc4)) (four_same x (rw (level4_size difi) h))
+    pub internal_cell_same : (x : ℕ) → x < difi.ivfc4.size
+        → cell_at other header part difi x ≡ cell_at image header part difi x
+    internal_cell_same x h = cell_same x (internal_path_same (x / block_size difi.ivfc4))
+        (four_same x (rw (level4_size difi) h))
 
   module _ (external : difi.external ≡ true) (block : ℕ) (alike : SameBlock image other header part difi block) where
     -- a byte of the block
     byte_same : (y : ℕ) → y < difi.ivfc4.size → y / block_size difi.ivfc4 ≡ block
-        → contents_in other header part difi ((level_of difi 4).at + y) ≡ contents_in image header part difi ((level_of difi 4).at + y)
+        → contents_in other header part difi ((level_of difi 4).at + y)
+        ≡ contents_in image header part difi ((level_of difi 4).at + y)
     unfolding chosen
     byte_same y h here =
         let offset : difi.dpfs3.size + y - difi.dpfs3.size ≡ y = omega arith in
@@ -123,16 +134,19 @@ module _ (image other : List ℕ) (same : SameLive image other) (header : Header
         let size = level4_size difi in
         let log = level4_log difi in
         path_in_same 3 block (omega arith)
-        (lone_block_same (contents_in other header part difi) (contents_in image header part difi) difi 4 block (rw (size, log) begins)
+        (lone_block_same now was difi 4 block (rw (size, log) begins)
         (λ k small.
-        let short : k < min (2 ^ difi.ivfc4.log) (difi.ivfc4.size - block * 2 ^ difi.ivfc4.log) = rw (size, log) at small in
+        let short : k < min (2 ^ difi.ivfc4.log) (difi.ivfc4.size - block * 2 ^ difi.ivfc4.log) = rw
+        (size, log) at small in
         let at_block = div-mul-add block (2 ^ difi.ivfc4.log) k (omega (arith, short)) in
-        let place : (level_of difi 4).at + block * 2 ^ difi.ivfc4.log + k ≡ (level_of difi 4).at + (block * 2 ^ difi.ivfc4.log + k) = omega arith in
+        let place : (level_of difi 4).at + block * 2 ^ difi.ivfc4.log + k
+        ≡ (level_of difi 4).at + (block * 2 ^ difi.ivfc4.log + k) = omega arith in
         rw (log, place) (byte_same (block * 2 ^ difi.ivfc4.log + k) (omega (arith, short)) at_block)))
 
     pub external_cell_same : (x : ℕ) → x < difi.ivfc4.size → x / block_size difi.ivfc4 ≡ block
         → cell_at other header part difi x ≡ cell_at image header part difi x
     external_cell_same x h here =
         let split = div-add-mod' x (2 ^ difi.ivfc4.log) in
-        let row : x / 2 ^ difi.ivfc4.log * 2 ^ difi.ivfc4.log ≡ block * 2 ^ difi.ivfc4.log = ap (λ (b : ℕ). b * 2 ^ difi.ivfc4.log) here in
+        let row : x / 2 ^ difi.ivfc4.log * 2 ^ difi.ivfc4.log
+        ≡ block * 2 ^ difi.ivfc4.log = ap (λ (b : ℕ). b * 2 ^ difi.ivfc4.log) here in
         cell_same x (rw here (external_path_same (omega (arith, split, row, h)))) (byte_same x h here)

@@ -1,5 +1,6 @@
 -- A container that was opened over an image is open over one that agrees on the live places.
-use Rattle.std.proofs.Common.{◌≡◌, ℕ, ◌+◌, ◌/◌, ◌<◌, true, false, List, Option, Some, None, IfSome, refl, sym, ◌∙◌, ap, subst, arith}
+use Rattle.std.proofs.Common.{◌≡◌, ℕ, ◌+◌, ◌/◌, ◌<◌, true, false, List, Option, Some, None, IfSome, refl, sym, ◌∙◌}
+use Rattle.std.proofs.Common.{ap, subst, arith}
 use Rattle.std.proofs.lemmas.Bool.{cases_Bool}
 use Rattle.std.proofs.Common.{⊎_elim}
 use Rattle.save_bytes.specs.Cells.{Cell}
@@ -25,7 +26,8 @@ module _ (image other : List ℕ) (same : SameLive image other) (sign : Signing)
     parts = opened.parts;
   }
 
-  part_of : (number : ℕ) (part : Part) → number < container.header.parts → IsPartRead container.table.items container.header number part
+  part_of : (number : ℕ) (part : Part) → number < container.header.parts
+      → IsPartRead container.table.items container.header number part
       → HasPart image container.header number part.difi
   part_of number part counted read = record {
     header_is = opened.header;
@@ -33,9 +35,11 @@ module _ (image other : List ℕ) (same : SameLive image other) (sign : Signing)
     described = rw opened.table at read.descriptor;
   }
 
-  module _ (external : (number : ℕ) (part : Part) → part_at container.parts number ≡ Some part → part.difi.external ≡ true
+  module _ (external : (number : ℕ) (part : Part) → part_at container.parts number ≡ Some part
+      → part.difi.external ≡ true
       → (block : ℕ) → SameBlock image other container.header number part.difi block) where
-    cell_stays : (number : ℕ) (part : Part) → part_at container.parts number ≡ Some part → number < container.header.parts
+    cell_stays : (number : ℕ) (part : Part) → part_at container.parts number ≡ Some part
+        → number < container.header.parts
         → IsPartRead container.table.items container.header number part → (x : ℕ) → x < part.difi.ivfc4.size
         → cell_at other container.header number part.difi x ≡ cell_at image container.header number part.difi x
     cell_stays number part there counted read x inside =

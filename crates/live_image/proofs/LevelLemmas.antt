@@ -1,6 +1,8 @@
 -- Which places of a level's two copies are live.
-use Rattle.std.proofs.Common.{◌≡◌, ℕ, zero, suc, ◌+◌, ◌-◌, ◌<◌, ◌≤◌, true, false, ◌&&◌, ◌||◌, eqb, refl, sym, ◌∙◌, ap, arith}
-use Rattle.std.proofs.lemmas.Bool.{lt-ltb, le-leb, ltb-true, leb-true, eq-eqb, eqb-true, or_cases, and_parts, and_from, and_left, or_left, or_right, cases_Bool}
+use Rattle.std.proofs.Common.{◌≡◌, ℕ, zero, suc, ◌+◌, ◌-◌, ◌<◌, ◌≤◌, true, false, ◌&&◌, ◌||◌, eqb, refl, sym, ◌∙◌, ap}
+use Rattle.std.proofs.Common.{arith}
+use Rattle.std.proofs.lemmas.Bool.{lt-ltb, le-leb, ltb-true, leb-true, eq-eqb, eqb-true, or_cases, and_parts}
+use Rattle.std.proofs.lemmas.Bool.{and_from, and_left, or_left, or_right, cases_Bool}
 use Rattle.std.proofs.Common.{⊎_elim}
 use Rattle.difi.specs.declared.places.LevelPlace.{LevelPlace}
 use Rattle.dpfs_tree.specs.Picks.{copy_place}
@@ -20,7 +22,8 @@ module _ (part_at : ℕ) (level : LevelPlace) where
   in_copy copy_of copy x inside is =
       let start : ℕ = copy_place part_at level copy 0 in
       let offset : copy_place part_at level copy x - copy_place part_at level copy 0 ≡ x = omega arith in
-      and_from _ _ (lies (copy_place part_at level copy 0) level.size (copy_place part_at level copy x) (omega arith) (omega (arith, inside)))
+      and_from _ _ (lies (copy_place part_at level copy 0) level.size (copy_place part_at level copy x) (omega arith)
+      (omega (arith, inside)))
       (eq-eqb _ _ (ap copy_of offset ∙ is))
 
   pub live_there : (copy_of : ℕ → ℕ) (x : ℕ) → copy_of x < 2 → x < level.size
@@ -37,7 +40,8 @@ module _ (part_at : ℕ) (level : LevelPlace) where
 
   -- the same places are live where each byte is read from the same copy
   module _ (copy_of other : ℕ → ℕ) (same : (x : ℕ) → x < level.size → other x ≡ copy_of x) (place : ℕ) where
-    copy_same : (copy : ℕ) → in_chosen_copy part_at level other copy place ≡ in_chosen_copy part_at level copy_of copy place
+    copy_same : (copy : ℕ) → in_chosen_copy part_at level other copy place
+        ≡ in_chosen_copy part_at level copy_of copy place
     copy_same copy =
         ⊎_elim
         (λ (here : lies_from (copy_place part_at level copy 0) level.size place ≡ true).

@@ -1,20 +1,21 @@
 -- Whether a place may be written, by tests of each kind of place.
-use Rattle.std.proofs.Common.{◌≡◌, ◌⊎◌, ⊎_elim, inl, inr, ℕ, zero, suc, ◌+◌, ◌-◌, ◌*◌, ◌/◌, ◌^◌, ◌<◌, ◌≤◌, Bool, true, false, ◌||◌, ◌&&◌, eqb, ltb, cond, List, get_or, length, Result, Ok, Err, refl, sym, ◌∙◌, ap, subst, arith}
+use Rattle.std.proofs.Common.{◌≡◌, ⊎_elim, ℕ, zero, suc, ◌+◌, ◌-◌, ◌*◌, ◌/◌, ◌^◌, ◌<◌, ◌≤◌, Bool, true, ◌||◌, eqb}
+use Rattle.std.proofs.Common.{cond, List, get_or, Ok, refl, sym, ◌∙◌, ap, subst, arith}
 use Rattle.std.proofs.lemmas.Nat.{div-mul-add}
 use Rattle.std.specs.Bool.{Decides}
-use Rattle.std.proofs.lemmas.Bool.{or_cases, or_left, or_right, eqb-true, eq-eqb, cases_eq}
+use Rattle.std.proofs.lemmas.Bool.{or_cases, or_left, or_right, eqb-true, eq-eqb}
 use Rattle.container_header.specs.declared.header.Header.{Header}
 use Rattle.container_header.specs.Conditions.{reading as header_reading}
 use Rattle.container_header.specs.Sound.{IsHeaderOf, inactive_at}
 use Rattle.container_header.proofs.HeaderRead.{reading-is}
 use Rattle.difi.specs.declared.descriptor.Difi.{Difi}
 use Rattle.difi.specs.Places.{block_size}
-use Rattle.dpfs_tree.specs.Picks.{copy_place, pick1, pick2}
-use Rattle.dpfs_tree.specs.SameLaws.{bit_of-lt}
+use Rattle.dpfs_tree.specs.Picks.{copy_place}
 use Rattle.container.specs.Openings.{partition_of}
 use Rattle.live_image.specs.Live.{copy1, copy2, copy3, lies_from}
 use Rattle.live_image.specs.Same.{HasPart}
-use Rattle.live_image.specs.Footprint.{IsMet, HasMetBit, MayWriteIn, Bits1, Bits2, Contents, External, MayWrite, Front, Table, InPart}
+use Rattle.live_image.specs.Footprint.{MeetsPath, HasPathBit, MayWriteIn, Bits1, Bits2, Contents, External, MayWrite}
+use Rattle.live_image.specs.Footprint.{Front, Table, InPart}
 use Rattle.live_image.proofs.LevelLemmas.{lies, lies_where}
 
 module _ (image : List ℕ) (header : Header) (part : ℕ) (difi : Difi) (touched place : ℕ) where
@@ -29,11 +30,11 @@ module _ (image : List ℕ) (header : Header) (part : ℕ) (difi : Difi) (touche
 
   abbrev Other2 : ℕ → Type 0
   Other2 copy = (x : ℕ) × ((x < difi.dpfs2.size) × ((copy ≡ 1 - copy2 bytes at difi x)
-      × (HasMetBit difi (λ n. eqb n touched) (x / 2 ^ difi.dpfs2.log) × (place ≡ copy_place at difi.dpfs2 copy x))))
+      × (HasPathBit difi (λ n. eqb n touched) (x / 2 ^ difi.dpfs2.log) × (place ≡ copy_place at difi.dpfs2 copy x))))
 
   abbrev Other3 : ℕ → Type 0
   Other3 copy = (x : ℕ) × ((x < difi.dpfs3.size) × ((copy ≡ 1 - copy3 bytes at difi x)
-      × (IsMet difi (λ n. eqb n touched) (x / 2 ^ difi.dpfs3.log) × (place ≡ copy_place at difi.dpfs3 copy x))))
+      × (MeetsPath difi (λ n. eqb n touched) (x / 2 ^ difi.dpfs3.log) × (place ≡ copy_place at difi.dpfs3 copy x))))
 
   abbrev Outside : Type 0
   Outside = (x : ℕ) × ((difi.external ≡ true) × ((x < difi.ivfc4.size) × ((x / block_size difi.ivfc4 ≡ touched)
@@ -81,14 +82,16 @@ module _ (image : List ℕ) (header : Header) (part : ℕ) (difi : Difi) (touche
     back : MayWriteIn image header part difi (λ n. eqb n touched) place → (one || ((a || b) || ((c || d) || e))) ≡ true
     back (Bits1 x h is) = or_left one _ (d1.1 (x, (h, is)))
     back (Bits2 x h met is) =
-        or_right one _ (or_left (a || b) _ (in_second (1 - copy2 bytes at difi x) (omega arith) (x, (h, (refl, (met, is))))))
+        or_right one _ (or_left (a || b) _
+        (in_second (1 - copy2 bytes at difi x) (omega arith) (x, (h, (refl, (met, is))))))
     back (Contents x h met is) =
         or_right one _ (or_right (a || b) _ (or_left (c || d) e
         (in_third (1 - copy3 bytes at difi x) (omega arith) (x, (h, (refl, (met, is)))))))
     back (External x external h own is) =
         or_right one _ (or_right (a || b) _ (or_right (c || d) e (de.1 (x, (external, (h, (eqb-true _ _ own, is)))))))
 
-    pub may_in : Decides (one || ((a || b) || ((c || d) || e))) (MayWriteIn image header part difi (λ n. eqb n touched) place)
+    pub may_in : Decides (one || ((a || b) || ((c || d) || e)))
+        (MayWriteIn image header part difi (λ n. eqb n touched) place)
     may_in = (there, back)
 
 -- one part has one descriptor
@@ -96,7 +99,8 @@ same_descriptor : (image : List ℕ) (header : Header) (part : ℕ) (one other :
     → HasPart image header part other → other ≡ one
 same_descriptor image header part one other has also = let both = sym has.described ∙ also.described in cc
 
-pub by_descriptor : (image : List ℕ) (header : Header) (part : ℕ) (difi : Difi) (blocks : ℕ → Bool) (place : ℕ) (result : Bool)
+pub by_descriptor : (image : List ℕ) (header : Header) (part : ℕ) (difi : Difi) (blocks : ℕ → Bool) (place : ℕ)
+    (result : Bool)
     → HasPart image header part difi → Decides result (MayWriteIn image header part difi blocks place)
     → Decides result ((x : Difi) × (HasPart image header part x × MayWriteIn image header part x blocks place))
 by_descriptor image header part difi blocks place result has decides = (
@@ -114,7 +118,8 @@ abbrev pub InThat : List ℕ → Header → ℕ → ℕ → ℕ → Type 0
 InThat image header part touched place =
     (x : Difi) × (HasPart image header part x × MayWriteIn image header part x (λ n. eqb n touched) place)
 
-module _ (image : List ℕ) (header : Header) (is : IsHeaderOf header image) (first second place : ℕ) (from : 512 ≤ place) where
+module _ (image : List ℕ) (header : Header) (is : IsHeaderOf header image) (first second place : ℕ)
+    (from : 512 ≤ place) where
   one_header : (other : Header) → header_reading image ≡ Ok other → other ≡ header
   one_header other also = let both = sym (reading-is image header is) ∙ also in cc
 
@@ -125,7 +130,7 @@ module _ (image : List ℕ) (header : Header) (is : IsHeaderOf header image) (fi
     may some =
         ⊎_elim
         (λ h. let there = lies_where (inactive_at header) header.table_size place (sym dt ∙ h) in
-            Table header (reading-is image header is) there.0 there.1)
+        Table header (reading-is image header is) there.0 there.1)
         (λ rest.
         ⊎_elim
         (λ h. let there = da.0 h in InPart header 0 there.0 there.1.0 there.1.1)
@@ -147,13 +152,15 @@ module _ (image : List ℕ) (header : Header) (is : IsHeaderOf header image) (fi
         or_left t _ (dt ∙ lies (inactive_at header) header.table_size place (rw same at begin) (rw same at end))
     back_from (InPart other part difi has may) =
         let same = one_header other has.header_is in
-        in_part part difi (rw same at has) (subst (λ (h : Header). MayWriteIn image h part difi (each first second part) place) same may)
+        in_part part difi (rw same at has)
+        (subst (λ (h : Header). MayWriteIn image h part difi (each first second part) place) same may)
 
     pub may_behind : Decides (t || (a || b)) (MayWrite image (each first second) place)
     may_behind = (may, back_from)
 
 -- a place of a sector
-pub sector_is : (grain sector place : ℕ) → sector * grain ≤ place → place < sector * grain + grain → place / grain ≡ sector
+pub sector_is : (grain sector place : ℕ) → sector * grain ≤ place → place < sector * grain + grain
+    → place / grain ≡ sector
 sector_is grain sector place from below =
     let split : place ≡ sector * grain + (place - sector * grain) = omega (arith, from) in
     ap (λ (x : ℕ). x / grain) split ∙ div-mul-add sector grain (place - sector * grain) (omega (arith, from, below))

@@ -16,7 +16,8 @@ SameLevel one other difi level =
 
 module _ (one other : ℕ → Cell) (difi : Difi) where
   level_same : (level : ℕ) → SameLevel one other difi level → ivfc_level one difi level ≡ ivfc_level other difi level
-  level_same level same = bytes_in-same one other (level_of difi level).at (level_of difi level).at (level_of difi level).size same
+  level_same level same = bytes_in-same one other (level_of difi level).at (level_of difi level).at
+      (level_of difi level).size same
 
   -- a whole level
   pub block_same : (level block : ℕ) → SameLevel one other difi level

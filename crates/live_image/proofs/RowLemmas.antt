@@ -1,5 +1,6 @@
 -- Small traces over an image worked out.
-use Rattle.std.proofs.Common.{◌≡◌, ℕ, ◌+◌, ◌-◌, ◌*◌, ◌≤◌, true, false, List, [], ◌∷◌, Some, IfSome, refl, sym, ◌∙◌, arith}
+use Rattle.std.proofs.Common.{◌≡◌, ℕ, ◌+◌, ◌-◌, ◌*◌, ◌≤◌, true, false, List, [], ◌∷◌, Some, IfSome, refl, sym, ◌∙◌}
+use Rattle.std.proofs.Common.{arith}
 use Rattle.save_disk.specs.Trace.{Write}
 use Rattle.save_disk.specs.Stops.{CrashMayLeave}
 use Rattle.save_disk.specs.Keeps.{HoldsAll, Keeps, EachStop}
@@ -30,9 +31,11 @@ module _ (grain : ℕ) (some : 1 ≤ grain) where
       (one_write (HoldsAll (live_places image) grain image) sector bytes holds) sign old new
 
   -- after one write that holds the live bytes
-  after_write : (image left : List ℕ) (sector : ℕ) (bytes : List ℕ) → HoldsAll (live_places image) grain image sector bytes
+  after_write : (image left : List ℕ) (sector : ℕ) (bytes : List ℕ)
+      → HoldsAll (live_places image) grain image sector bytes
       → CrashMayLeave grain image (Write sector bytes ∷ []) left → SameLive image left
-  after_write image left sector bytes holds leaves = stop_agrees image grain image (Write sector bytes ∷ []) some keeps left leaves
+  after_write image left sector bytes holds leaves = stop_agrees image grain image
+      (Write sector bytes ∷ []) some keeps left leaves
     where
       keeps : Keeps (live_places image) image grain image (Write sector bytes ∷ [])
       keeps = record {
@@ -69,7 +72,8 @@ module _ (grain : ℕ) (some : 1 ≤ grain) where
             (one_write (HoldsAll (live_places image) grain image) sector bytes holds) moment fits left leaves;
       }
 
-      no_external : (left : List ℕ) (number : ℕ) (part : Part) → IsOne container.parts number part → part.difi.external ≡ true
+      no_external : (left : List ℕ) (number : ℕ) (part : Part) → IsOne container.parts number part
+          → part.difi.external ≡ true
           → (block : ℕ) → SameBlock image left container.header number part.difi block
       no_external left number part (is_first zeroth same) external block =
           absurd (let none = rw same at first in let both = sym none ∙ external in cc)
@@ -77,7 +81,8 @@ module _ (grain : ℕ) (some : 1 ≤ grain) where
           absurd (let none : IfSome (Some part) (λ part. part.difi.external ≡ false) = rw same at second in
           let both = sym none ∙ external in cc)
 
-      internal : (left : List ℕ) (number : ℕ) (part : Part) → part_at container.parts number ≡ Some part → part.difi.external ≡ true
+      internal : (left : List ℕ) (number : ℕ) (part : Part) → part_at container.parts number ≡ Some part
+          → part.difi.external ≡ true
           → (block : ℕ) → SameBlock image left container.header number part.difi block
       internal left number part there external block =
           no_external left number part (one_of container.parts number part there) external block

@@ -19,20 +19,25 @@ module _ (image : List ℕ) (grain : ℕ) (start : List ℕ) (events : List Even
     live = kept_leaves (live_places image) image grain start events some keeps left leaves;
   }
 
-  module _ (writes : List Event) (sector : ℕ) (bytes : List ℕ) (holds : EachWrite (HoldsAll (live_places image) grain image) writes) where
-    pub commit_agrees : EachStop (λ left. SameLive image left ⊎ (left ≡ image_committed grain start events writes sector bytes))
+  module _ (writes : List Event) (sector : ℕ) (bytes : List ℕ)
+      (holds : EachWrite (HoldsAll (live_places image) grain image) writes) where
+    pub commit_agrees : EachStop
+        (λ left. SameLive image left ⊎ (left ≡ image_committed grain start events writes sector bytes))
         grain start events (committing writes sector bytes)
     commit_agrees moment fits left leaves =
         ⊎_elim
-        (λ (agrees : Agree (live_places image) image left). inl (record { size = leaves.size ∙ sym keeps.size; live = agrees }))
+        (λ (agrees : Agree (live_places image) image left). inl
+        (record { size = leaves.size ∙ sym keeps.size; live = agrees }))
         inr
-        (commit_leaves (live_places image) image grain start events writes sector bytes some keeps holds moment fits left leaves)
+        (commit_leaves (live_places image) image grain start events writes sector bytes some keeps holds moment fits
+        left leaves)
 
     pub commit_opens : (sign : Signing) → Opens sign image
         → Opens sign (image_committed grain start events writes sector bytes)
         → EachStop (Opens sign) grain start events (committing writes sector bytes)
     commit_opens sign old new =
-        stops-map (λ left. SameLive image left ⊎ (left ≡ image_committed grain start events writes sector bytes)) (Opens sign)
+        stops-map (λ left. SameLive image left ⊎ (left ≡ image_committed grain start events writes sector bytes))
+        (Opens sign)
         grain start events (committing writes sector bytes)
         (λ left. ⊎_elim
         (λ (agrees : SameLive image left). (opens_same image left agrees sign).0 old)

@@ -1,5 +1,6 @@
 -- What is read of an image for tests.
-use Rattle.std.proofs.Common.{◌≡◌, ℕ, suc, ◌+◌, ◌-◌, ◌*◌, ◌/◌, ◌%◌, ◌^◌, ◌≤◌, List, length, slice_index, take, refl, sym, ◌∙◌, ap, arith}
+use Rattle.std.proofs.Common.{◌≡◌, ℕ, suc, ◌+◌, ◌-◌, ◌*◌, ◌/◌, ◌%◌, ◌^◌, ◌≤◌, List, length, slice_index, take, refl}
+use Rattle.std.proofs.Common.{sym, ◌∙◌, ap, arith}
 use Rattle.std.proofs.Common.{Result, Ok, Err, IfOk}
 use Rattle.std.proofs.lemmas.List.{append-nil}
 use Rattle.save_bytes.specs.Fields.{number_at}
@@ -11,7 +12,8 @@ use Rattle.container_header.proofs.HeaderRead.{reading-ok}
 use Rattle.dpfs_tree.specs.Picks.{word_of, bit_of}
 
 -- a bit of the number in four bytes
-number_at-word : (image : List ℕ) (from n : ℕ) → number_at 4 image (from + 4 * n) ≡ word_of (λ x. slice_index image (from + x)) n
+number_at-word : (image : List ℕ) (from n : ℕ)
+    → number_at 4 image (from + 4 * n) ≡ word_of (λ x. slice_index image (from + x)) n
 unfolding number_at word_of
 number_at-word image from n =
     let one : suc (from + 4 * n) ≡ from + (4 * n + 1) = omega arith in

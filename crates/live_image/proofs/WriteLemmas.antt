@@ -1,5 +1,6 @@
 -- What puts, seals and commits write is in the footprint.
-use Rattle.std.proofs.Common.{◌≡◌, ⊎_elim, ℕ, ◌+◌, ◌-◌, ◌/◌, ◌^◌, ◌<◌, ◌≤◌, Bool, true, IsTrue, List, length, get_or, refl, sym, ◌∙◌, ap, subst, arith}
+use Rattle.std.proofs.Common.{◌≡◌, ⊎_elim, ℕ, ◌+◌, ◌-◌, ◌/◌, ◌^◌, ◌<◌, ◌≤◌, Bool, true, IsTrue, List, length, get_or}
+use Rattle.std.proofs.Common.{refl, sym, ◌∙◌, ap, subst, arith}
 use Rattle.std.proofs.lemmas.Bool.{cases_lt, lt-ltb, le-ltb}
 use Rattle.std.proofs.lemmas.Nat.{div-add-mod', mod_below}
 use Rattle.container_header.specs.declared.header.Header.{Header}
@@ -19,7 +20,8 @@ use Rattle.ivfc_tree.specs.Paths.{block_above, path_block}
 use Rattle.ivfc_tree.specs.Held.{IsOnPath}
 use Rattle.ivfc_tree.specs.ViewLaws.{level4_size, level4_log}
 use Rattle.container.specs.Openings.{partition_of}
-use Rattle.live_image.specs.Footprint.{IsMet, MayWriteIn, Bits1, Bits2, Contents, External, MayWrite, Front, Table, InPart, write_footprint}
+use Rattle.live_image.specs.Footprint.{MeetsPath, MayWriteIn, Bits1, Bits2, Contents, External, MayWrite, Front}
+use Rattle.live_image.specs.Footprint.{Table, InPart, write_footprint}
 use Rattle.live_image.proofs.CellLemmas.{upper_inside, external_behind}
 
 -- a place lies in its sector
@@ -35,12 +37,14 @@ own_block : (difi : Difi) (x : ℕ) → path_block difi x 4 ≡ x / block_size d
 unfolding block_above
 own_block difi x = refl
 
-module _ (image : List ℕ) (header : Header) (part : ℕ) (difi : Difi) (blocks : ℕ → Bool) (levels : HasHashLevels difi) where
+module _ (image : List ℕ) (header : Header) (part : ℕ) (difi : Difi) (blocks : ℕ → Bool)
+    (levels : HasHashLevels difi) where
   -- a put at a byte of a view that is on the path of a byte of these blocks
-  module _ (four level at y : ℕ) (in_four : four < difi.ivfc4.size) (touched : IsTrue (blocks (four / block_size difi.ivfc4)))
+  module _ (four level at y : ℕ) (in_four : four < difi.ivfc4.size)
+      (touched : IsTrue (blocks (four / block_size difi.ivfc4)))
       (in_tree : IsLevel level) (on_path : IsOnPath difi four level at)
       (beside : IsBeside difi ((level_of difi level).at + at) y) where
-    beside_met : y < difi.dpfs3.size → IsMet difi blocks (y / 2 ^ difi.dpfs3.log)
+    beside_met : y < difi.dpfs3.size → MeetsPath difi blocks (y / 2 ^ difi.dpfs3.log)
     beside_met below =
         ⊎_elim
         (λ (there : y ≡ (level_of difi level).at + at). record {
@@ -79,7 +83,8 @@ module _ (image : List ℕ) (header : Header) (part : ℕ) (difi : Difi) (blocks
         (λ (last : 4 ≤ level). (omega (arith, last, in_tree.1), there))
         (cases_lt level 4))
         (λ (both : ((level_of difi level).at + at < difi.dpfs3.size) × (y < difi.dpfs3.size)
-        × (y / 2 ^ difi.dpfs3.log ≡ ((level_of difi level).at + at) / 2 ^ difi.dpfs3.log)). absurd (omega (arith, both.1, behind)))
+        × (y / 2 ^ difi.dpfs3.log ≡ ((level_of difi level).at + at) / 2 ^ difi.dpfs3.log)). absurd (omega
+        (arith, both.1, behind)))
         beside
 
     put_external : difi.external ≡ true → difi.dpfs3.size ≤ y
@@ -95,7 +100,8 @@ module _ (image : List ℕ) (header : Header) (part : ℕ) (difi : Difi) (blocks
         External at external (omega (arith, path.0, size)) (rw same touched) (omega (arith, here, begin))
 
     pub put_writes : y < view_size difi
-        → MayWriteIn image header part difi blocks (other_place (λ x. get_or image x 0) (partition_of header part).at difi difi.selector y)
+        → MayWriteIn image header part difi blocks
+        (other_place (λ x. get_or image x 0) (partition_of header part).at difi difi.selector y)
     unfolding place_by
     put_writes inside =
         ⊎_elim
@@ -106,15 +112,18 @@ module _ (image : List ℕ) (header : Header) (part : ℕ) (difi : Difi) (blocks
         (cases_lt y difi.dpfs3.size)
 
   -- a seal of marks of such blocks
-  pub seal_writes : (state : DpfsState) → IsMadeForContents difi state → 2 ≤ difi.dpfs2.log → state.selector ≡ difi.selector
-      → ((block : ℕ) → block < blocks_of difi.dpfs3 → is_marked state.touched.items block ≡ true → IsMet difi blocks block)
+  pub seal_writes : (state : DpfsState) → IsMadeForContents difi state → 2 ≤ difi.dpfs2.log
+      → state.selector ≡ difi.selector
+      → ((block : ℕ) → block < blocks_of difi.dpfs3 → is_marked state.touched.items block ≡ true
+      → MeetsPath difi blocks block)
       → (place : ℕ) → SealWrites (λ x. get_or image x 0) (partition_of header part).at difi state place
       → MayWriteIn image header part difi blocks place
   seal_writes state made least selector marks place writes =
       let part_at = (partition_of header part).at in
       let bytes : ℕ → ℕ = λ y. get_or image y 0 in
       ⊎_elim
-      (λ (first : (x : ℕ) × (x < difi.dpfs1.size) × (place ≡ copy_place (partition_of header part).at difi.dpfs1 (1 - state.selector) x)).
+      (λ (first : (x : ℕ) × (x < difi.dpfs1.size)
+      × (place ≡ copy_place (partition_of header part).at difi.dpfs1 (1 - state.selector) x)).
       Bits1 first.0 first.1 (rw selector at first.2))
       (λ (block, (x, inside, here, (k, within, marked), is)).
       Bits2 x inside
@@ -124,11 +133,13 @@ module _ (image : List ℕ) (header : Header) (part : ℕ) (difi : Difi) (blocks
         there = word_block k difi.dpfs2.log least ∙ in_bits (bits_in difi) block k within ∙ sym here;
       })
       (is ∙ ap (λ (s : ℕ). copy_place part_at difi.dpfs2 (1 - bit_of (pick1 bytes part_at difi s) block) x) selector
-      ∙ ap (λ (b : ℕ). copy_place part_at difi.dpfs2 (1 - bit_of (pick1 bytes part_at difi difi.selector) b) x) (sym here)))
+      ∙ ap (λ (b : ℕ). copy_place part_at difi.dpfs2 (1 - bit_of (pick1 bytes part_at difi difi.selector) b) x)
+      (sym here)))
       writes
 
 -- more blocks
-met_more : (difi : Difi) (few many : ℕ → Bool) → ((b : ℕ) → IsTrue (few b) → IsTrue (many b)) → (block : ℕ) → IsMet difi few block → IsMet difi many block
+met_more : (difi : Difi) (few many : ℕ → Bool) → ((b : ℕ) → IsTrue (few b) → IsTrue (many b)) → (block : ℕ)
+    → MeetsPath difi few block → MeetsPath difi many block
 met_more difi few many more block met = record {
   four = met.four;
   level = met.level;
@@ -147,10 +158,13 @@ may_in_more : (image : List ℕ) (header : Header) (part : ℕ) (difi : Difi) (f
 may_in_more image header part difi few many place more (Bits1 x h is) = Bits1 x h is
 may_in_more image header part difi few many place more (Bits2 x h met is) =
     Bits2 x h (record { bit = met.bit; met = met_more difi few many more met.bit met.met; there = met.there }) is
-may_in_more image header part difi few many place more (Contents x h met is) = Contents x h (met_more difi few many more _ met) is
-may_in_more image header part difi few many place more (External x external h touched is) = External x external h (more _ touched) is
+may_in_more image header part difi few many place more (Contents x h met is) = Contents x h
+    (met_more difi few many more _ met) is
+may_in_more image header part difi few many place more (External x external h touched is) = External x external h
+    (more _ touched) is
 
-may_more : (image : List ℕ) (few many : ℕ → ℕ → Bool) (place : ℕ) → ((part b : ℕ) → IsTrue (few part b) → IsTrue (many part b))
+may_more : (image : List ℕ) (few many : ℕ → ℕ → Bool) (place : ℕ)
+    → ((part b : ℕ) → IsTrue (few part b) → IsTrue (many part b))
     → MayWrite image few place → MayWrite image many place
 may_more image few many place more (Front h) = Front h
 may_more image few many place more (Table header is begin end) = Table header is begin end

@@ -1,5 +1,6 @@
 -- The sectors that a transaction may write.
-use Rattle.std.specs.Prelude.{◌≡◌, ℕ, ◌+◌, ◌-◌, ◌*◌, ◌/◌, ◌^◌, ◌<◌, ◌≤◌, Bool, true, IsTrue, List, length, slice_index, Ok}
+use Rattle.std.specs.Prelude.{◌≡◌, ℕ, ◌+◌, ◌-◌, ◌*◌, ◌/◌, ◌^◌, ◌<◌, ◌≤◌, Bool, true, IsTrue, List, length}
+use Rattle.std.specs.Prelude.{slice_index, Ok}
 use Rattle.container_header.specs.declared.header.Header.{Header}
 use Rattle.container_header.specs.Conditions.{reading as header_reading}
 use Rattle.container_header.specs.Sound.{inactive_at}
@@ -14,7 +15,7 @@ use Rattle.live_image.specs.Same.{HasPart, external_at}
 
 -- a block of DPFS level 3 meets one of these level-four blocks, where level four is internal, or a block above one in
 -- IVFC levels 1 to 3
-pub record IsMet (difi : Difi) (blocks : ℕ → Bool) (block : ℕ) : Type 0 where
+pub record MeetsPath (difi : Difi) (blocks : ℕ → Bool) (block : ℕ) : Type 0 where
   pub four : ℕ
   pub level : ℕ
   pub at : ℕ
@@ -26,21 +27,23 @@ pub record IsMet (difi : Difi) (blocks : ℕ → Bool) (block : ℕ) : Type 0 wh
   pub there : ((level_of difi level).at + at) / 2 ^ difi.dpfs3.log ≡ block
 
 -- a block of DPFS level 2 has the bit of such a block
-pub record HasMetBit (difi : Difi) (blocks : ℕ → Bool) (block : ℕ) : Type 0 where
+pub record HasPathBit (difi : Difi) (blocks : ℕ → Bool) (block : ℕ) : Type 0 where
   pub bit : ℕ
-  pub met : IsMet difi blocks bit
+  pub met : MeetsPath difi blocks bit
   pub there : 4 * (bit / 32) / 2 ^ difi.dpfs2.log ≡ block
 
--- a place of a part: in the copy not chosen of level 1, of a block of level 2 that has such a bit, or of such a block of
--- level 3; or in one of the level-four blocks, where level four is external
-pub data MayWriteIn (image : List ℕ) (header : Header) (part : ℕ) (difi : Difi) (blocks : ℕ → Bool) (place : ℕ) : Type 0 where
-  Bits1 : (x : ℕ) → x < difi.dpfs1.size → place ≡ copy_place (partition_of header part).at difi.dpfs1 (1 - copy1 difi x) x
+-- a place of a part: in the copy not chosen of level 1, of a block of level 2 that has such a bit, or of such a block
+-- of level 3; or in one of the level-four blocks, where level four is external
+pub data MayWriteIn (image : List ℕ) (header : Header) (part : ℕ) (difi : Difi) (blocks : ℕ → Bool)
+    (place : ℕ) : Type 0 where
+  Bits1 : (x : ℕ) → x < difi.dpfs1.size
+      → place ≡ copy_place (partition_of header part).at difi.dpfs1 (1 - copy1 difi x) x
       → MayWriteIn image header part difi blocks place
-  Bits2 : (x : ℕ) → x < difi.dpfs2.size → HasMetBit difi blocks (x / 2 ^ difi.dpfs2.log)
+  Bits2 : (x : ℕ) → x < difi.dpfs2.size → HasPathBit difi blocks (x / 2 ^ difi.dpfs2.log)
       → place ≡ copy_place (partition_of header part).at difi.dpfs2
       (1 - copy2 (λ y. slice_index image y) (partition_of header part).at difi x) x
       → MayWriteIn image header part difi blocks place
-  Contents : (x : ℕ) → x < difi.dpfs3.size → IsMet difi blocks (x / 2 ^ difi.dpfs3.log)
+  Contents : (x : ℕ) → x < difi.dpfs3.size → MeetsPath difi blocks (x / 2 ^ difi.dpfs3.log)
       → place ≡ copy_place (partition_of header part).at difi.dpfs3
       (1 - copy3 (λ y. slice_index image y) (partition_of header part).at difi x) x
       → MayWriteIn image header part difi blocks place

@@ -1,5 +1,6 @@
 -- The places of an image on which it stands while it is open, over its whole list of bytes.
-use Rattle.std.specs.Prelude.{ℕ, ◌+◌, ◌-◌, ◌/◌, ◌^◌, Bool, false, ◌&&◌, ◌||◌, ◌==◌, nat_lt, nat_le, List, slice_index, Result, Ok, Err}
+use Rattle.std.specs.Prelude.{ℕ, ◌+◌, ◌-◌, ◌/◌, ◌^◌, Bool, false, ◌&&◌, ◌||◌, ◌==◌, nat_lt, nat_le, List, slice_index}
+use Rattle.std.specs.Prelude.{Result, Ok, Err}
 use Rattle.container_header.specs.declared.header.Header.{Header}
 use Rattle.container_header.specs.declared.fault.HeaderFault.{HeaderFault}
 use Rattle.container_header.specs.Conditions.{reading as header_reading}
@@ -22,7 +23,8 @@ in_chosen_copy part_at level copy_of copy place =
 
 -- the same of either copy, where a function tells for each byte of the level from which of them it is read
 unfoldable pub live_level : ℕ → LevelPlace → (ℕ → ℕ) → ℕ → Bool
-live_level part_at level copy_of place = in_chosen_copy part_at level copy_of 0 place || in_chosen_copy part_at level copy_of 1 place
+live_level part_at level copy_of place =
+    in_chosen_copy part_at level copy_of 0 place || in_chosen_copy part_at level copy_of 1 place
 
 -- DPFS level 1: the descriptor's selector chooses the copy of all of it
 abbrev pub copy1 : Difi → ℕ → ℕ
@@ -40,7 +42,8 @@ copy3 bytes part_at difi x = bit_of (pick2 bytes part_at difi difi.selector) (x 
 abbrev pub live_tree : (ℕ → ℕ) → ℕ → Difi → ℕ → Bool
 live_tree bytes part_at difi place =
     live_level part_at difi.dpfs1 (copy1 difi) place
-    || (live_level part_at difi.dpfs2 (copy2 bytes part_at difi) place || live_level part_at difi.dpfs3 (copy3 bytes part_at difi) place)
+    || (live_level part_at difi.dpfs2 (copy2 bytes part_at difi) place
+    || live_level part_at difi.dpfs3 (copy3 bytes part_at difi) place)
 
 -- a partition whose descriptor has no fault; external level four is not live
 abbrev pub live_part : (ℕ → ℕ) → ℕ → Result Difi DifiFault → ℕ → Bool
@@ -50,7 +53,8 @@ live_part bytes part_at (Err fault) place = false
 -- a part of an image by its number, and its descriptor in the active table
 abbrev pub live_of : List ℕ → Header → ℕ → ℕ → Bool
 live_of image header part place =
-    live_part (λ x. slice_index image x) (partition_of header part).at (part_reading (active_table image header) header part) place
+    live_part (λ x. slice_index image x) (partition_of header part).at
+    (part_reading (active_table image header) header part) place
 
 -- behind the first 512 bytes: the active table, and each part
 abbrev pub live_behind : List ℕ → Result Header HeaderFault → ℕ → Bool

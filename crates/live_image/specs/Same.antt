@@ -22,7 +22,7 @@ pub record HasPart (image : List ℕ) (header : Header) (part : ℕ) (difi : Dif
   pub described : part_reading (active_table image header) header part ≡ Ok difi
 
 -- a partition's levels are sound, and it lies in an image of a length
-pub record IsPlaced (len : ℕ) (partition : Extent) (difi : Difi) : Type 0 where
+pub record LiesInImage (len : ℕ) (partition : Extent) (difi : Difi) : Type 0 where
   pub levels : HasSoundLevels difi partition.size
   pub inside : partition.at + partition.size ≤ len
 

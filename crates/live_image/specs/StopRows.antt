@@ -15,8 +15,8 @@ use Rattle.container.specs.ImageCells.{AreImageCells}
 use Rattle.live_image.specs.Live.{live_places}
 use Rattle.live_image.specs.Same.{SameLive}
 
--- a sector is written that has the live bytes, then come a sync, the first sector with another header, and a sync: where
--- the image opens at the start and at the end, each image that a stop may leave opens
+-- a sector is written that has the live bytes, then come a sync, the first sector with another header, and a sync:
+-- where the image opens at the start and at the end, each image that a stop may leave opens
 abbrev pub OpensAtEachStop : ℕ → Type 0
 OpensAtEachStop grain =
     (sign : Signing) (image : List ℕ) (sector : ℕ) (bytes first : List ℕ) → Opens sign image
@@ -27,7 +27,8 @@ OpensAtEachStop grain =
 -- a sector is written, and the disk stops; what it left is written again, and the disk stops again
 abbrev pub IsLiveAfterTwoStops : ℕ → Type 0
 IsLiveAfterTwoStops grain =
-    (image left last : List ℕ) (sector other : ℕ) (bytes more : List ℕ) → HoldsAll (live_places image) grain image sector bytes
+    (image left last : List ℕ) (sector other : ℕ) (bytes more : List ℕ)
+    → HoldsAll (live_places image) grain image sector bytes
     → CrashMayLeave grain image (Write sector bytes ∷ []) left → HoldsAll (live_places left) grain left other more
     → CrashMayLeave grain left (Write other more ∷ []) last → SameLive image last
 
@@ -45,6 +46,7 @@ HasCellsAtEachStop grain =
 abbrev pub LosesATableByte : ℕ → Type 0
 LosesATableByte grain =
     (image : List ℕ) (header : Header) (sector offset : ℕ) (bytes : List ℕ) → header_reading image ≡ Ok header
-    → active_at header ≤ sector * grain + offset → sector * grain + offset < active_at header + header.table_size → offset < grain
+    → active_at header ≤ sector * grain + offset → sector * grain + offset < active_at header + header.table_size
+    → offset < grain
     → slice_index bytes offset ≢ slice_index image (sector * grain + offset)
     → HoldsAll (live_places image) grain image sector bytes → ⊥

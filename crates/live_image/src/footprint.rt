@@ -16,7 +16,7 @@ ghost use Rattle.ivfc_tree.specs.Held.{IsOnPath};
 ghost use Rattle.container.specs.Openings.{partition_of};
 ghost use Rattle.live_image.specs.Live.{live_places};
 ghost use Rattle.live_image.specs.Same.{HasPart};
-ghost use Rattle.live_image.specs.Footprint.{IsMet, MayWrite, write_footprint};
+ghost use Rattle.live_image.specs.Footprint.{MeetsPath, MayWrite, write_footprint};
 
 /// No place that a transaction may write is live, but for bytes 0 to 511, which a commit writes.
 pub fn what_may_be_written_is_not_live()
@@ -30,21 +30,26 @@ pub fn places_that_may_be_written_are_in_the_footprint()
         → MayWrite image blocks place → write_footprint grain image blocks (place / grain) }
 {}
 
-/// A put into one of the level-four blocks writes in its block and in the blocks above it: in the copies of their level 3
-/// blocks that the image does not choose, or in external level four. It may write there.
+/// A put into one of the level-four blocks writes in its block and in the blocks above it: in the copies of their
+/// level 3 blocks that the image does not choose, or in external level four. It may write there.
 pub fn a_put_writes_where_it_may()
-    ensures { (image : List ℕ) (blocks : ℕ → ℕ → Bool) (header : Header) (part : ℕ) (difi : Difi) → HasPart image header part difi
+    ensures { (image : List ℕ) (blocks : ℕ → ℕ → Bool) (header : Header) (part : ℕ) (difi : Difi)
+        → HasPart image header part difi
         → (four level at y : ℕ) → four < difi.ivfc4.size → IsTrue (blocks part (four / block_size difi.ivfc4))
-        → IsLevel level → IsOnPath difi four level at → IsBeside difi ((level_of difi level).at + at) y → y < view_size difi
-        → MayWrite image blocks (other_place (λ x. slice_index image x) (partition_of header part).at difi difi.selector y) }
+        → IsLevel level → IsOnPath difi four level at → IsBeside difi ((level_of difi level).at + at) y
+        → y < view_size difi
+        → MayWrite image blocks
+        (other_place (λ x. slice_index image x) (partition_of header part).at difi difi.selector y) }
 {}
 
-/// A seal writes in levels 1 and 2. It may, where each block of level 3 that is marked meets one of the level-four blocks
-/// or one above them.
+/// A seal writes in levels 1 and 2. It may, where each block of level 3 that is marked meets one of the level-four
+/// blocks or one above them.
 pub fn a_seal_writes_where_it_may()
-    ensures { (image : List ℕ) (blocks : ℕ → ℕ → Bool) (header : Header) (part : ℕ) (difi : Difi) → HasPart image header part difi
+    ensures { (image : List ℕ) (blocks : ℕ → ℕ → Bool) (header : Header) (part : ℕ) (difi : Difi)
+        → HasPart image header part difi
         → (state : DpfsState) → IsMadeForContents difi state → state.selector ≡ difi.selector
-        → ((block : ℕ) → block < blocks_of difi.dpfs3 → is_marked state.touched.items block ≡ true → IsMet difi (blocks part) block)
+        → ((block : ℕ) → block < blocks_of difi.dpfs3 → is_marked state.touched.items block ≡ true
+        → MeetsPath difi (blocks part) block)
         → (place : ℕ) → SealWrites (λ x. slice_index image x) (partition_of header part).at difi state place
         → MayWrite image blocks place }
 {}
@@ -52,7 +57,8 @@ pub fn a_seal_writes_where_it_may()
 /// A commit may write the table that is not active, and bytes 0 to 511.
 pub fn a_commit_writes_where_it_may()
     ensures table { (image : List ℕ) (blocks : ℕ → ℕ → Bool) (header : Header) → header_reading image ≡ Ok header
-        → (place : ℕ) → inactive_at header ≤ place → place < inactive_at header + header.table_size → MayWrite image blocks place }
+        → (place : ℕ) → inactive_at header ≤ place → place < inactive_at header + header.table_size
+        → MayWrite image blocks place }
     ensures front { (image : List ℕ) (blocks : ℕ → ℕ → Bool) (place : ℕ) → place < 512 → MayWrite image blocks place }
 {}
 

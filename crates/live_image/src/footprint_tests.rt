@@ -1,7 +1,8 @@
-//! Which places of an image a change to one block of level 4 may write: what is asked here is the definition's answer, and
-//! the rows are worked out by hand.
+//! Which places of an image a change to one block of level 4 may write: what is asked here is the definition's
+//! answer, and the rows are worked out by hand.
 
-ghost use Rattle.std.specs.Prelude.{◌≡◌, ◌==◌, ℕ, ◌+◌, ◌-◌, ◌*◌, ◌/◌, ◌^◌, ◌<◌, ◌≤◌, length, slice_index, true, if◌then◌else◌};
+ghost use Rattle.std.specs.Prelude.{◌≡◌, ◌==◌, ℕ, ◌+◌, ◌-◌, ◌*◌, ◌/◌, ◌^◌, ◌<◌, ◌≤◌, length, slice_index, true};
+ghost use Rattle.std.specs.Prelude.{if◌then◌else◌};
 ghost use Rattle.std.specs.Bool.{Decides};
 ghost use Rattle.difi.specs.Places.{block_size, blocks_of};
 ghost use Rattle.difi.specs.Sound.{HasBlockSizes, HasHashLevels};
@@ -12,8 +13,8 @@ ghost use Rattle.container_header.specs.Sound.{IsHeaderOf};
 ghost use Rattle.difi.specs.declared.descriptor.Difi.{Difi as Descriptor};
 ghost use Rattle.container.specs.Openings.{partition_of};
 ghost use Rattle.live_image.specs.Live.{copy1, copy2, copy3};
-ghost use Rattle.live_image.specs.Same.{IsPlaced, HasPart};
-ghost use Rattle.live_image.specs.Footprint.{IsMet, HasMetBit, MayWriteIn, MayWrite, write_footprint};
+ghost use Rattle.live_image.specs.Same.{LiesInImage, HasPart};
+ghost use Rattle.live_image.specs.Footprint.{MeetsPath, HasPathBit, MayWriteIn, MayWrite, write_footprint};
 
 use crate::live_tests::{
     copy_start, header_of, level2_copy, level3_copy, lies_from, places_of, set_bytes, table_of,
@@ -103,7 +104,7 @@ fn meets_one(difi: &Difi, touched: u64, block: u64) -> bool
     requires sizes { HasBlockSizes difi.now }
     requires small { (difi.now.dpfs3.size ≤ 67108864) × (difi.now.ivfc4.size ≤ 67108864) }
     requires touched { touched < blocks_of difi.now.ivfc4 }
-    ensures { Decides result (IsMet difi.now (λ n. n == touched) block) }
+    ensures { Decides result (MeetsPath difi.now (λ n. n == touched) block) }
 {
     for level in 1..5 {
         let place = level_place(difi, level);
@@ -127,7 +128,7 @@ fn is_met(difi: &Difi, touched: u64, block: u64) -> bool
     requires levels { HasHashLevels difi.now }
     requires sizes { HasBlockSizes difi.now }
     requires small { (difi.now.dpfs3.size ≤ 67108864) × (difi.now.ivfc4.size ≤ 67108864) }
-    ensures { Decides result (IsMet difi.now (λ n. n == touched) block) }
+    ensures { Decides result (MeetsPath difi.now (λ n. n == touched) block) }
 {
     if touched >= block_count(&difi.ivfc4) {
         return false;
@@ -140,7 +141,7 @@ fn has_met_bit(difi: &Difi, touched: u64, block: u64) -> bool
     requires levels { HasHashLevels difi.now }
     requires sizes { HasBlockSizes difi.now }
     requires small { (difi.now.dpfs3.size ≤ 67108864) × (difi.now.ivfc4.size ≤ 67108864) }
-    ensures { Decides result (HasMetBit difi.now (λ n. n == touched) block) }
+    ensures { Decides result (HasPathBit difi.now (λ n. n == touched) block) }
 {
     for bit in 0..(difi.dpfs3.size >> difi.dpfs3.log) + 1 {
         if (4 * (bit / 32)) >> difi.dpfs2.log == block && is_met(difi, touched, bit) {
@@ -170,12 +171,12 @@ fn in_other2(
     copy: u8,
     place: u64,
 ) -> bool
-    requires placed { IsPlaced (length image.now) partition.now difi.now }
+    requires placed { LiesInImage (length image.now) partition.now difi.now }
     requires small { length image.now ≤ 67108864 }
     requires copy { copy < 2 }
     ensures { Decides result ((x : ℕ) × ((x < difi.now.dpfs2.size)
         × ((copy ≡ 1 - copy2 (λ y. slice_index image.now y) partition.now.at difi.now x)
-        × (HasMetBit difi.now (λ n. n == touched) (x / 2 ^ difi.now.dpfs2.log)
+        × (HasPathBit difi.now (λ n. n == touched) (x / 2 ^ difi.now.dpfs2.log)
         × (place ≡ copy_place partition.now.at difi.now.dpfs2 copy x))))) }
 {
     let start = copy_start(partition, &difi.dpfs2, copy);
@@ -195,12 +196,12 @@ fn in_other3(
     copy: u8,
     place: u64,
 ) -> bool
-    requires placed { IsPlaced (length image.now) partition.now difi.now }
+    requires placed { LiesInImage (length image.now) partition.now difi.now }
     requires small { length image.now ≤ 67108864 }
     requires copy { copy < 2 }
     ensures { Decides result ((x : ℕ) × ((x < difi.now.dpfs3.size)
         × ((copy ≡ 1 - copy3 (λ y. slice_index image.now y) partition.now.at difi.now x)
-        × (IsMet difi.now (λ n. n == touched) (x / 2 ^ difi.now.dpfs3.log)
+        × (MeetsPath difi.now (λ n. n == touched) (x / 2 ^ difi.now.dpfs3.log)
         × (place ≡ copy_place partition.now.at difi.now.dpfs3 copy x))))) }
 {
     let start = copy_start(partition, &difi.dpfs3, copy);
@@ -239,7 +240,7 @@ fn may_write_in(
     touched: u64,
     place: u64,
 ) -> bool
-    requires placed { IsPlaced (length image.now) (partition_of header.now number) difi.now }
+    requires placed { LiesInImage (length image.now) (partition_of header.now number) difi.now }
     requires small { length image.now ≤ 67108864 }
     ensures { Decides result (MayWriteIn image.now header.now number difi.now (λ n. n == touched) place) }
 {
@@ -318,7 +319,8 @@ fn may_write_there(image: &[u8], grain: u64, touched: (u64, u64), sector: u64, p
 fn in_footprint(image: &[u8], grain: u64, touched: (u64, u64), sector: u64) -> bool
     requires long { 512 ≤ length image.now }
     requires grain { 1 ≤ grain }
-    ensures { Decides result (write_footprint grain image.now (λ part n. n == (if part == 0 then touched.0 else touched.1)) sector) }
+    ensures { Decides result
+        (write_footprint grain image.now (λ part n. n == (if part == 0 then touched.0 else touched.1)) sector) }
 {
     for place in 0..image.len() as u64 {
         if may_write_there(image, grain, touched, sector, place) {
@@ -343,9 +345,9 @@ fn may_write_with(
     Ok(may_write(&image, (touched, NONE), place))
 }
 
-// The lone partition lies at 4,096: level 1 has copies of 4 bytes at 0, level 2 copies of 128 bytes at 4,096, and level 3
-// copies of 49,152 bytes at 8,192. In level 3, whose blocks have 4,096 bytes, blocks 0, 1 and 2 have the hash levels 1, 2
-// and 3, and block 3 + n has block n of level 4. The table at 512, of 300 bytes, is not active.
+// The lone partition lies at 4,096: level 1 has copies of 4 bytes at 0, level 2 copies of 128 bytes at 4,096, and
+// level 3 copies of 49,152 bytes at 8,192. In level 3, whose blocks have 4,096 bytes, blocks 0, 1 and 2 have the hash
+// levels 1, 2 and 3, and block 3 + n has block n of level 4. The table at 512, of 300 bytes, is not active.
 #[test]
 fn other_copies_may_be_written(rt: HostRuntime) -> Result<(), Fail> {
     let alloc = rt.alloc();
@@ -389,7 +391,11 @@ fn other_copies_may_be_written(rt: HostRuntime) -> Result<(), Fail> {
         (&[(8195, 0x04)], 2, 61_440, true),
     ];
     for (bytes, touched, place, may) in rows {
-        assert_eq!(rt; may_write_with(alloc, bytes, touched, place)?, may, "at {place}");
+        assert_eq!(rt;
+            may_write_with(alloc, bytes, touched, place)?,
+            may,
+            "at {place}"
+        );
     }
     Ok(())
 }
@@ -435,14 +441,19 @@ fn a_footprint_has_sectors_of_each_kind(rt: HostRuntime) -> Result<(), Fail> {
         (true, 27, false),
     ];
     for (wide, sector, there) in rows {
-        assert_eq!(rt; in_footprint(&image, grain_of(wide), (2, NONE), sector), there, "sector {sector}");
+        assert_eq!(rt;
+            in_footprint(&image, grain_of(wide), (2, NONE), sector),
+            there,
+            "sector {sector}"
+        );
     }
     Ok(())
 }
 
-// The table at 512, of 604 bytes, is not active. Part 0 lies at 4,096, with second copies at 4,100, 8,320 and, of 16,384
-// bytes, at 28,672; all its four blocks of level 3 are met. Part 1 lies at 45,056, with second copies at 45,060, 49,280 and,
-// of 12,288 bytes, at 65,536, which are met by any block of level 4; that is external, from 77,824 on.
+// The table at 512, of 604 bytes, is not active. Part 0 lies at 4,096, with second copies at 4,100, 8,320 and, of
+// 16,384 bytes, at 28,672; all its four blocks of level 3 are met. Part 1 lies at 45,056, with second copies at
+// 45,060, 49,280 and, of 12,288 bytes, at 65,536, which are met by any block of level 4; that is external, from
+// 77,824 on.
 #[test]
 fn a_footprint_has_sectors_of_both_parts(rt: HostRuntime) -> Result<(), Fail> {
     let image = sample(rt.alloc(), Sample::Dual)?;
@@ -476,7 +487,11 @@ fn a_footprint_has_sectors_of_both_parts(rt: HostRuntime) -> Result<(), Fail> {
         ((0, 0), 160, false),
     ];
     for (touched, sector, there) in rows {
-        assert_eq!(rt; in_footprint(&image, 512, touched, sector), there, "sector {sector}");
+        assert_eq!(rt;
+            in_footprint(&image, 512, touched, sector),
+            there,
+            "sector {sector}"
+        );
     }
     Ok(())
 }
@@ -501,7 +516,11 @@ fn a_short_last_sector_is_in_a_footprint(rt: HostRuntime) -> Result<(), Fail> {
         (true, 6, 26, false),
     ];
     for (wide, touched, sector, there) in rows {
-        assert_eq!(rt; in_footprint(&image, grain_of(wide), (NONE, touched), sector), there, "sector {sector}");
+        assert_eq!(rt;
+            in_footprint(&image, grain_of(wide), (NONE, touched), sector),
+            there,
+            "sector {sector}"
+        );
     }
     Ok(())
 }

@@ -1,7 +1,7 @@
 //! What hangs on the live places of an image alone, for all images: each function's contract is a law, and its body is
 //! empty.
 
-ghost use Rattle.std.specs.Prelude.{◌≡◌, ◌↔◌, ◌<◌, ◌≤◌, ◌/◌, ℕ, Bool, List, true, false, Some};
+ghost use Rattle.std.specs.Prelude.{◌≡◌, ◌↔◌, ◌<◌, ◌≤◌, ◌/◌, ℕ, List, true, false, Some};
 ghost use Rattle.save_bytes.specs.Cells.{Cell};
 ghost use Rattle.container.specs.Signers.{Signing};
 ghost use Rattle.container_header.specs.declared.header.Header.{Header};
@@ -17,11 +17,11 @@ ghost use Rattle.container.specs.Containers.{IsOpenOf};
 ghost use Rattle.container.specs.ImageCells.{contents_in, path_in, cell_at, AreImageCells};
 ghost use Rattle.live_image.specs.Live.{live_places};
 ghost use Rattle.live_image.specs.Same.{SameLive, HasPart, SameBlock};
-ghost use Rattle.live_image.specs.Footprint.{write_footprint};
 
 /// An image that agrees with another one on its live places has the same live places.
 pub fn live_places_stay()
-    ensures { (image other : List ℕ) → SameLive image other → (place : ℕ) → live_places other place ≡ live_places image place }
+    ensures { (image other : List ℕ) → SameLive image other → (place : ℕ)
+        → live_places other place ≡ live_places image place }
 {}
 
 /// It has the same header, or the same fault in the header's place, and the same parts.
@@ -63,11 +63,13 @@ pub fn internal_level_four_stays()
 /// block's hash path comes to.
 pub fn external_blocks_stay()
     ensures cells { (image other : List ℕ) → SameLive image other → (header : Header) (part : ℕ) (difi : Difi)
-        → HasPart image header part difi → difi.external ≡ true → (block : ℕ) → SameBlock image other header part difi block
+        → HasPart image header part difi → difi.external ≡ true → (block : ℕ)
+        → SameBlock image other header part difi block
         → (x : ℕ) → x < difi.ivfc4.size → x / block_size difi.ivfc4 ≡ block
         → cell_at other header part difi x ≡ cell_at image header part difi x }
     ensures path { (image other : List ℕ) → SameLive image other → (header : Header) (part : ℕ) (difi : Difi)
-        → HasPart image header part difi → difi.external ≡ true → (block : ℕ) → SameBlock image other header part difi block
+        → HasPart image header part difi → difi.external ≡ true → (block : ℕ)
+        → SameBlock image other header part difi block
         → block < blocks_of difi.ivfc4
         → path_in other header part difi 4 block ≡ path_in image header part difi 4 block }
 {}

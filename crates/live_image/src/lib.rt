@@ -17,8 +17,8 @@ pub use laws::{
 pub use stops::{a_commit_leaves_a_live_image, a_stop_leaves_a_live_image};
 
 #[cfg(test)]
+mod footprint_tests;
+#[cfg(test)]
 mod live_tests;
 #[cfg(test)]
 mod stop_tests;
-#[cfg(test)]
-mod footprint_tests;

@@ -1,13 +1,15 @@
-//! Which places of an image are live: what is asked here is the definition's answer, and the rows are worked out by hand.
+//! Which places of an image are live: what is asked here is the definition's answer, and the rows are worked out by
+//! hand.
 
 ghost use Rattle.std.specs.Prelude.{◌≡◌, ◌+◌, ◌*◌, ◌/◌, ◌^◌, ◌<◌, ◌≤◌, length, slice_index, Ok, IfOk};
 ghost use Rattle.container_header.specs.Conditions.{reading as header_reading};
-ghost use Rattle.container_header.specs.Sound.{IsHeaderOf, IsDescriptorPlace};
+ghost use Rattle.container_header.specs.Sound.{IsHeaderOf};
 ghost use Rattle.difi.specs.Places.{blocks_of};
 ghost use Rattle.dpfs_tree.specs.Picks.{bit_of, pick1, pick2};
-ghost use Rattle.container.specs.Openings.{active_table, descriptor_of, partition_of, part_reading};
-ghost use Rattle.live_image.specs.Live.{lies_from, in_chosen_copy, live_level, copy1, copy2, copy3, live_tree, live_part, live_of, live_behind, live_places};
-ghost use Rattle.live_image.specs.Same.{IsPlaced};
+ghost use Rattle.container.specs.Openings.{active_table, descriptor_of, partition_of};
+ghost use Rattle.live_image.specs.Live.{lies_from, in_chosen_copy, live_level, copy1, copy2, copy3, live_tree};
+ghost use Rattle.live_image.specs.Live.{live_part, live_of, live_behind, live_places};
+ghost use Rattle.live_image.specs.Same.{LiesInImage};
 
 use container_header::{Extent, Header, HeaderFault};
 use difi::{Difi, LevelPlace};
@@ -47,9 +49,10 @@ fn bit_at(image: &[u8], from: u64, k: u64) -> u8
 
 /// The copy of a block of level 2 that is chosen.
 pub(crate) fn level2_copy(image: &[u8], partition: &Extent, difi: &Difi, block: u64) -> u8
-    requires placed { IsPlaced (length image.now) partition.now difi.now }
+    requires placed { LiesInImage (length image.now) partition.now difi.now }
     requires block { block < blocks_of difi.now.dpfs2 }
-    ensures bit { result ≡ bit_of (pick1 (λ x. slice_index image.now x) partition.now.at difi.now difi.now.selector) block }
+    ensures bit { result ≡ bit_of
+        (pick1 (λ x. slice_index image.now x) partition.now.at difi.now difi.now.selector) block }
     ensures one_of_two { result < 2 }
 {
     bit_at(
@@ -61,9 +64,10 @@ pub(crate) fn level2_copy(image: &[u8], partition: &Extent, difi: &Difi, block: 
 
 /// The copy of a block of level 3 that is chosen.
 pub(crate) fn level3_copy(image: &[u8], partition: &Extent, difi: &Difi, block: u64) -> u8
-    requires placed { IsPlaced (length image.now) partition.now difi.now }
+    requires placed { LiesInImage (length image.now) partition.now difi.now }
     requires block { block < blocks_of difi.now.dpfs3 }
-    ensures bit { result ≡ bit_of (pick2 (λ x. slice_index image.now x) partition.now.at difi.now difi.now.selector) block }
+    ensures bit { result ≡ bit_of
+        (pick2 (λ x. slice_index image.now x) partition.now.at difi.now difi.now.selector) block }
     ensures one_of_two { result < 2 }
 {
     let copy = level2_copy(image, partition, difi, (4 * (block / 32)) >> difi.dpfs2.log);
@@ -82,7 +86,7 @@ fn in_copy1(partition: &Extent, difi: &Difi, copy: u8, place: u64) -> bool
 
 /// Whether a place lies in a copy of level 2, at a byte of a block that is read from it.
 fn in_copy2(image: &[u8], partition: &Extent, difi: &Difi, copy: u8, place: u64) -> bool
-    requires placed { IsPlaced (length image.now) partition.now difi.now }
+    requires placed { LiesInImage (length image.now) partition.now difi.now }
     requires copy { copy < 2 }
     ensures { result ≡ in_chosen_copy partition.now.at difi.now.dpfs2
         (copy2 (λ x. slice_index image.now x) partition.now.at difi.now) copy place }
@@ -94,7 +98,7 @@ fn in_copy2(image: &[u8], partition: &Extent, difi: &Difi, copy: u8, place: u64)
 
 /// Whether a place lies in a copy of level 3, at a byte of a block that is read from it.
 fn in_copy3(image: &[u8], partition: &Extent, difi: &Difi, copy: u8, place: u64) -> bool
-    requires placed { IsPlaced (length image.now) partition.now difi.now }
+    requires placed { LiesInImage (length image.now) partition.now difi.now }
     requires copy { copy < 2 }
     ensures { result ≡ in_chosen_copy partition.now.at difi.now.dpfs3
         (copy3 (λ x. slice_index image.now x) partition.now.at difi.now) copy place }
@@ -107,7 +111,7 @@ fn in_copy3(image: &[u8], partition: &Extent, difi: &Difi, copy: u8, place: u64)
 /// Whether a place is live in a partition.
 #[tactic(auto, unfolding(crate::specs::Live::live_level))]
 fn is_live_tree(image: &[u8], partition: &Extent, difi: &Difi, place: u64) -> bool
-    requires { IsPlaced (length image.now) partition.now difi.now }
+    requires { LiesInImage (length image.now) partition.now difi.now }
     ensures { result ≡ live_tree (λ x. slice_index image.now x) partition.now.at difi.now place }
 {
     let level1 = in_copy1(partition, difi, 0, place) | in_copy1(partition, difi, 1, place);
@@ -214,8 +218,9 @@ pub(crate) fn set_bytes(image: &mut [u8], bytes: &[(usize, u8)])
 }
 
 // The table at 1,536 is active, the one at 512 is not. Part 0 lies at 4,096 and part 1 at 45,056: in each, level 1 has
-// copies of 4 bytes at 0, level 2 copies of 128 bytes at 4,096, and level 3 copies at 8,192, of 16,384 bytes in part 0 and
-// of 12,288 in part 1. The selectors and all bits are 0. Part 1's level four is external, from 77,824 to the image's end.
+// copies of 4 bytes at 0, level 2 copies of 128 bytes at 4,096, and level 3 copies at 8,192, of 16,384 bytes in part
+// 0 and of 12,288 in part 1. The selectors and all bits are 0. Part 1's level four is external, from 77,824 to the
+// image's end.
 #[test]
 fn first_copies_are_live_in_a_new_image(rt: HostRuntime) -> Result<(), Fail> {
     let image = sample(rt.alloc(), Sample::Dual)?;
@@ -277,8 +282,8 @@ fn is_live_with(
     Ok(is_live(&image, place))
 }
 
-// The selector of part 0 is byte 1,593, that of part 1 byte 1,897. Bit 0 of a word is the highest of its last byte, bit 31
-// the lowest of its first byte. Of level 2 there is one block; of level 3 a block has 4,096 bytes.
+// The selector of part 0 is byte 1,593, that of part 1 byte 1,897. Bit 0 of a word is the highest of its last byte,
+// bit 31 the lowest of its first byte. Of level 2 there is one block; of level 3 a block has 4,096 bytes.
 #[test]
 fn selectors_and_bits_choose_what_is_live(rt: HostRuntime) -> Result<(), Fail> {
     let alloc = rt.alloc();
@@ -405,8 +410,8 @@ fn sectors_have_live_and_dead_bytes(rt: HostRuntime) -> Result<(), Fail> {
     Ok(())
 }
 
-// Level 3 of the lone partition has 49,052 bytes, 100 fewer than in a new image, and so its second copy lies from 61,340 to
-// 110,391, where the image ends. Its last block, of 3,996 bytes, is number 11, and is read from that copy.
+// Level 3 of the lone partition has 49,052 bytes, 100 fewer than in a new image, and so its second copy lies from
+// 61,340 to 110,391, where the image ends. Its last block, of 3,996 bytes, is number 11, and is read from that copy.
 #[test]
 fn a_short_last_sector_has_the_live_bytes_that_there_are(rt: HostRuntime) -> Result<(), Fail> {
     let mut image = sample(rt.alloc(), Sample::Single)?;

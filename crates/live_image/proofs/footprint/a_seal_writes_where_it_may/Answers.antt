@@ -8,5 +8,6 @@ pub returns : goal.returns
 returns c = λ image blocks header part difi has state made selector marks place writes.
     let levels = (placed image header part difi has).levels in
     InPart header part difi has
-    (seal_writes image header part difi (blocks part) levels.hash_levels state made (omega (arith, levels.block_sizes.dpfs2.0)) selector
+    (seal_writes image header part difi (blocks part) levels.hash_levels state made
+    (omega (arith, levels.block_sizes.dpfs2.0)) selector
     marks place writes)

@@ -6,5 +6,6 @@ use Rattle.live_image.proofs.footprint_tests.in_other2.Goals as goal
 pub level2_copy-requires-clause-block : goal.level2_copy-requires-clause-block
 level2_copy-requires-clause-block c =
     let level = c.args.difi.now.dpfs2 in
-    let there = lies_where c.copy_start-start.result level.size c.args.place (sym c.lies_from.ensures ∙ c.if-not-lies_from.false) in
+    let there = lies_where c.copy_start-start.result level.size c.args.place
+    (sym c.lies_from.ensures ∙ c.if-not-lies_from.false) in
     block_below (c.args.place - c.copy_start-start.result) level.size level.log (omega (arith, there.0, there.1))

@@ -10,7 +10,8 @@ returns-in-Ok c =
       header_is = reading-is c.args.image.now c.args.header.now c.requires.header;
       counted = c.requires.number;
       described =
-          sym (rw (c.table_of-table.ensures, c.places_of.ensures.descriptor, c.places_of.ensures.partition) at c.read.ensures.exact)
+          sym (rw (c.table_of-table.ensures, c.places_of.ensures.descriptor, c.places_of.ensures.partition) at
+          c.read.ensures.exact)
           ∙ c.in-Ok.is;
     } in
     by_descriptor c.args.image.now c.args.header.now c.args.number c.in-Ok.difi _ c.args.place c.may_write_in.result has

@@ -7,4 +7,5 @@ returns-clause-cells c = external_cell_same
 
 pub returns-clause-path : goal.returns-clause-path
 returns-clause-path c = λ image other same header part difi has external block alike there.
-    external_path_same image other same header part difi has external block alike (block_begins block difi.ivfc4.size difi.ivfc4.log there)
+    external_path_same image other same header part difi has external block alike
+    (block_begins block difi.ivfc4.size difi.ivfc4.log there)

@@ -20,7 +20,8 @@ has_part c = record {
   header_is = reading-is c.args.image.now c.args.header.now c.requires.header;
   counted = c.requires.number;
   described =
-      sym (rw (c.table_of-table.ensures, c.places_of.ensures.descriptor, c.places_of.ensures.partition) at c.read.ensures.exact)
+      sym (rw (c.table_of-table.ensures, c.places_of.ensures.descriptor, c.places_of.ensures.partition) at
+      c.read.ensures.exact)
       ∙ c.in-Ok.is;
 }
 
@@ -31,6 +32,7 @@ is_live_tree-requires c =
 pub returns-in-Ok : goal.returns-in-Ok
 returns-in-Ok c =
     let read =
-    sym (rw (c.table_of-table.ensures, c.places_of.ensures.descriptor, c.places_of.ensures.partition) at c.read.ensures.exact)
+    sym (rw (c.table_of-table.ensures, c.places_of.ensures.descriptor, c.places_of.ensures.partition) at
+    c.read.ensures.exact)
     ∙ c.in-Ok.is in
     rw read (rw c.places_of.ensures.partition at c.is_live_tree.ensures)

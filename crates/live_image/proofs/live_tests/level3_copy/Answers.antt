@@ -9,6 +9,8 @@ level2_copy-copy-requires-clause-block c =
 pub returns-clause-bit : goal.returns-clause-bit
 returns-clause-bit c =
     c.bit_at.ensures.bit
-    ∙ bit_of-pick2 (λ x. slice_index c.args.image.now x) c.args.partition.now.at c.args.difi.now c.args.difi.now.selector
-    c.copy_start.result c.level2_copy-copy.result c.args.block c.requires.placed.levels.block_sizes.dpfs2.0 c.copy_start.ensures
+    ∙ bit_of-pick2 (λ x. slice_index c.args.image.now x) c.args.partition.now.at c.args.difi.now
+    c.args.difi.now.selector
+    c.copy_start.result c.level2_copy-copy.result c.args.block c.requires.placed.levels.block_sizes.dpfs2.0
+    c.copy_start.ensures
     c.level2_copy-copy.ensures.bit
