@@ -1,23 +1,27 @@
 -- A store over its image and disk.
-use Rattle.std.proofs.Common.{◌≡◌, ◌^◌, ◌<◌, List, length, Option, Some, None, Ok, IsTrue, ℕ, refl, sym, ◌∙◌, ap, subst}
+use Rattle.std.proofs.Common.{◌≡◌, ◌^◌, ◌+◌, ◌<◌, ◌≤◌, List, length, Option, Some, None, Ok, Err, IsTrue, ℕ, refl, sym, ◌∙◌, ap, subst, arith}
 use Rattle.std.specs.Borrow.{Bor}
-use Rattle.std.proofs.lemmas.Bool.{and_parts, eqb-true}
 use Rattle.save_bytes.specs.declared.space.Bad.{Bad}
+use Rattle.save_bytes.specs.declared.space.Bad.TheVariants.{Disk}
+use Rattle.save_bytes.specs.Cells.{Byte}
+use Rattle.save_bytes.specs.Refusals.{Rose}
 use Rattle.save_bytes.specs.Answers.{IsPiece}
 use Rattle.save_bytes.specs.State.{State}
-use Rattle.save_bytes.specs.Spots.{Spot, Mark, Frame, LandsAsBefore}
+use Rattle.save_bytes.specs.Spots.{Spot, Place, Sector, Mark, Frame, LandsAsBefore}
 use Rattle.save_bytes.specs.Stays.{SameCells, Stays}
 use Rattle.save_bytes.specs.Reads.{Reads}
-use Rattle.save_bytes.proofs.SpaceLemmas.{UnlessDisk-map}
+use Rattle.save_bytes.proofs.SpaceLemmas.{UnlessDisk-map, Stays-join}
 use Rattle.save_disk.specs.State as disks
+use Rattle.save_disk.specs.Tells.{tells}
 use Rattle.page_image.specs.declared.state.ImageState.{ImageState}
 use Rattle.page_image.specs.Images.{IsDiskOf, IsHeldPiece, image_state}
 use Rattle.page_image.specs.Laws.{image_size_fits, Leaves-join}
 use Rattle.page_image.specs.declared.image.Image.{Image}
-use Rattle.page_image.specs.Spots.{ImageLands}
+use Rattle.page_image.specs.Spots.{ImageLands, LeavesTold}
 use Rattle.page_image.specs.Held.{ImageKeeps}
 use Rattle.page_image.specs.Held.{shown as shown_image}
-use Rattle.page_image.proofs.PieceLemmas.{image_piece}
+use Rattle.page_image.proofs.DiskLemmas.{disk_of-true}
+use Rattle.page_image.proofs.PieceLemmas.{image_piece, brought_stays, failed_stays, asked}
 use Rattle.part_store.specs.declared.part.Part.{Part}
 use Rattle.part_store.specs.Parts.{IsFound}
 use Rattle.part_store.specs.Spots.{SamePart, PartSpot}
@@ -32,9 +36,7 @@ module _ (disk : disks.State) (image : ImageState) (first : Part) (second : Opti
     (sound : IsTrue (state_of (image_state disk image) first second table).shape.sound) where
   -- a sound store's disk is that of its image
   pub disk_of_store : IsDiskOf disk image
-  disk_of_store =
-      let both = and_parts _ _ (sound_base (image_state disk image) first table second sound) in
-      record { size = eqb-true _ _ both.0; grain = eqb-true _ _ both.1 }
+  disk_of_store = disk_of-true disk image (sound_base (image_state disk image) first table second sound)
 
   -- its length is a number of 64 bits
   pub length_fits : (state_of (image_state disk image) first second table).shape.size < 2 ^ 64
@@ -52,9 +54,44 @@ module _ (disk : disks.State) (image : ImageState) (first : Part) (second : Opti
 -- bytes that are held where they were found are a piece of the store
 pub held_piece : (s : State) (disk : disks.State) (image : ImageState) (at most place m : ℕ) (piece : Bor (List ℕ))
     → (IsTrue s.told → IsTrue (image_state disk image).told) → IsFound s (image_state disk image) at most (Ok (place, m))
-    → IsHeldPiece image place m piece.now → IsPiece s at most (Ok piece)
+    → IsHeldPiece disk image place m piece.now → IsPiece s at most (Ok piece)
 held_piece s disk image at most place m piece told found held =
     found_piece s (image_state disk image) at most place m refl told found (Ok piece) (image_piece disk image place m piece held)
+
+-- bytes that were found are found where their page was brought
+module _ (s : State) (d e f : disks.State) (i j k : ImageState) (leaves : LeavesTold e j f k) where
+  pub found_brought : (at most place m : ℕ) → (IsTrue s.told → IsTrue (image_state e j).told) → IsFound s (image_state e j) at most (Ok (place, m))
+      → IsFound s (image_state f k) at most (Ok (place, m))
+  found_brought at most place m told found = record {
+    some = found.some;
+    bounded = found.bounded;
+    inside = found.inside;
+    in_base = omega (arith, found.in_base, (leaves Frame tt).0.len);
+    cells = λ is n below.
+        found.cells is n below ∙ sym (ap Byte ((leaves (Place (place + n)) (told is)).1 (omega (arith, found.in_base))).0);
+    damaged = λ is. tt;
+  }
+
+  pub reads_brought : ReadsImage d i e j None → tells f ≡ tells e → ReadsImage d i f k None
+  reads_brought reads told = record {
+    stays = Stays-join (image_state d i) (image_state e j) (image_state f k) None reads.stays (brought_stays e f j k leaves told);
+    frame = Leaves-join d e f i j k Frame reads.frame (leaves Frame tt);
+    sectors = λ number. Leaves-join d e f i j k (Sector number) (reads.sectors number) (leaves (Sector number) tt);
+    spots = λ is spot. Leaves-join d e f i j k spot (reads.spots is spot) (leaves spot (asked e (reads.stays.space.told is) spot));
+  }
+
+  pub reads_not_brought : ReadsImage d i e j None → Rose e.counts.disk f.counts.disk → ReadsImage d i f k (Some Disk)
+  reads_not_brought reads rose = record {
+    stays = Stays-join (image_state d i) (image_state e j) (image_state f k) (Some Disk) reads.stays (failed_stays e f j k leaves rose);
+    frame = Leaves-join d e f i j k Frame reads.frame (leaves Frame tt);
+    sectors = λ number. Leaves-join d e f i j k (Sector number) (reads.sectors number) (leaves (Sector number) tt);
+    spots = λ is spot. Leaves-join d e f i j k spot (reads.spots is spot) (leaves spot (asked e (reads.stays.space.told is) spot));
+  }
+
+-- none are found where the disk failed
+pub found_nowhere : (s base : State) (at most : ℕ) → IsFound s base at most (Err Disk)
+found_nowhere s base at most =
+    record { some = tt; bounded = tt; inside = tt; in_base = tt; cells = λ is. tt; damaged = λ is. tt }
 
 second_same : (P : Part → Part → Type 0) → ((part : Part) → P part part) → (second : Option Part) → SameSecond P second second
 second_same P same None = tt

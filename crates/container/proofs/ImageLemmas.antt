@@ -26,6 +26,7 @@ use Rattle.part_store.proofs.PartLemmas.{hashes_there, contents_there, can_view_
 use Rattle.page_image.specs.declared.state.ImageState.{ImageState}
 use Rattle.page_image.specs.Images.{IsDiskOf, image_state}
 use Rattle.page_image.specs.Laws.{image_size_fits}
+use Rattle.page_image.proofs.DiskLemmas.{true-disk_of}
 use Rattle.container.specs.Openings.{active_table, partition_of}
 use Rattle.container.specs.declared.parts.Parts.{Parts}
 use Rattle.container.specs.Parts.{IsPartOf, IsUntouched, IsPartRead, AreRead, part_at, part_count}
@@ -55,7 +56,7 @@ module _ (disk : disks.State) (image : ImageState) (header : Header) (table : Li
       let descriptor = (sound_descriptors header image.len sound).each number there in
       record {
         contents = record {
-          sound = and_from _ _ (eq-eqb _ _ disk_of.size) (eq-eqb _ _ disk_of.grain);
+          sound = true-disk_of disk image disk_of;
           plain = refl;
           single = refl;
           partition = record {
@@ -198,7 +199,7 @@ module _ (base : State) (bytes : List ℕ) (header : Header) (number : ℕ) (par
       ∙ ap (λ (n : ℕ). cell_in (path_in bytes header number part.difi 4 block) n (value_of (contents_in bytes header number part.difi at))) is
 
 module _ (disk : disks.State) (image : ImageState) (bytes : List ℕ) (header : Header) (table : List ℕ)
-    (disk_of : IsDiskOf disk image) (held : IsHeld bytes image) (sound : IsSoundHeader header image.len)
+    (disk_of : IsDiskOf disk image) (held : IsHeld bytes disk image) (sound : IsSoundHeader header image.len)
     (whole : length table ≡ header.table_size) (active : table ≡ active_table bytes header) where
   -- the cells of a part that was read, over the image
   read_cells : (number : ℕ) (part : Part) → number < header.parts → IsPartRead table header number part → (x : ℕ)

@@ -12,6 +12,7 @@ use Rattle.ivfc_tree.specs.Levels.{level_of, HasBlock}
 use Rattle.ivfc_tree.specs.View.{status_of}
 use Rattle.ivfc_tree.specs.Paths.{path_state, cell_in}
 use Rattle.part_store.specs.Parts.{master_of}
+use Rattle.save_disk.specs.State as disks
 use Rattle.page_image.specs.declared.state.ImageState.{ImageState}
 use Rattle.page_image.specs.Images.{byte_of}
 use Rattle.part_store.specs.declared.part.Part.{Part}
@@ -33,9 +34,9 @@ abbrev pub cell_at : List ℕ → Header → ℕ → Difi → ℕ → Cell
 cell_at image header part difi x =
     cell_in (path_in image header part difi 4 (x / block_size difi.ivfc4)) part (value_of (contents_in image header part difi ((level_of difi 4).at + x)))
 
--- what is held of an image are these bytes
-abbrev pub IsHeld : List ℕ → ImageState → Type 0
-IsHeld image held = (x : ℕ) → x < held.len → byte_of held x ≡ slice_index image x
+-- an image over its disk is these bytes
+abbrev pub IsHeld : List ℕ → disks.State → ImageState → Type 0
+IsHeld image disk held = (x : ℕ) → x < held.len → byte_of disk held x ≡ slice_index image x
 
 -- the cells of a store are those of the image: part 0's level four, followed by part 1's
 pub record AreImageCells (image : List ℕ) (header : Header) (parts : Parts) (cells : ℕ → Cell) : Type 0 where

@@ -1,6 +1,6 @@
 //! The cells of an open image's parts.
 
-ghost use Rattle.std.specs.Prelude.{◌≡◌, ℕ, ◌<◌, ◌≤◌, Bool, List, [], IsTrue, IfOk, IfSome};
+ghost use Rattle.std.specs.Prelude.{◌≡◌, ℕ, ◌/◌, ◌<◌, ◌≤◌, Bool, true, List, [], IsTrue, IfOk, IfSome};
 ghost use Rattle.std.specs.Borrow.{sem};
 ghost use Rattle.std.specs.Io.BufRead.{Rests};
 ghost use Rattle.std.specs.Result.{result_err};
@@ -10,7 +10,7 @@ ghost use Rattle.save_bytes.specs.Answers.{IsPiece};
 ghost use Rattle.save_bytes.specs.Reads.{Reads};
 ghost use Rattle.ivfc_tree.specs.Levels.{HasBlock};
 ghost use Rattle.part_store.specs.Parts.{IsFound, status_in};
-ghost use Rattle.page_image.specs.Images.{image_state, IsDiskOf};
+ghost use Rattle.page_image.specs.Images.{is_held, image_state, IsDiskOf};
 ghost use Rattle.container.specs.Signers.{Signing};
 ghost use Rattle.container.specs.Parts.{part_count, part_at};
 ghost use Rattle.container.specs.StoreHeld.{shown, store_of, IsStoreOf, IsKept, ReadsImage, StoreKeeps, store_lands};
@@ -40,10 +40,10 @@ impl Container {
         ensures sound { IsWholeContainer self.old → IsTrue (shown D.state result).shape.sound }
         // As the container was opened, the cells are those of the image.
         ensures cells { (sign : Signing) (image : List ℕ) → IsWholeContainer self.old
-            → IsOpenOf sign image self.old → IsHeld image self.old.image
+            → IsOpenOf sign image self.old → IsHeld image (D.state disk.old) self.old.image
             → AreImageCells image self.old.header self.old.parts (store_of (D.state disk.old) self.old).cells }
         ensures statuses { (sign : Signing) (image : List ℕ) → IsWholeContainer self.old
-            → IsOpenOf sign image self.old → IsHeld image self.old.image
+            → IsOpenOf sign image self.old → IsHeld image (D.state disk.old) self.old.image
             → AreImageStatuses image self.old.header self.old.parts (λ part level block.
             status_in (image_state (D.state disk.old) self.old.image) part self.old.table.items level block) }
     {
@@ -55,7 +55,7 @@ impl Container {
 }
 
 // Where bytes lie in the image, where they have a hash path.
-fn locate_in<D: Disk>(
+fn find_in<D: Disk>(
     container: &mut Container,
     disk: &mut D,
     at: u64,
@@ -72,6 +72,30 @@ fn locate_in<D: Disk>(
     let table = &mut container.table[..];
     let mut view = image.view(disk);
     find(&mut view, parts, table, at, most)
+}
+
+// The same, and the page of the first of them is held then.
+fn locate_in<D: Disk>(
+    container: &mut Container,
+    disk: &mut D,
+    at: u64,
+    most: usize,
+) -> Result<(u64, usize), Bad>
+    requires inside { IsInside (store_of (D.state disk.old) container.old).shape at 1 }
+    requires some { 1 ≤ most }
+    ensures found { IsFound (store_of (D.state disk.old) container.old) (image_state (D.state disk.new) container.new.image) at most result }
+    ensures reads { ReadsImage (D.state disk.old) container.old.image (D.state disk.new) container.new.image (result_err result) }
+    ensures kept { IsKept container.old container.new }
+    ensures held { IfOk result (λ run. is_held container.new.image (run.0 / 4096) ≡ true) }
+{
+    let (place, most) = match find_in(container, disk, at, most) {
+        Ok(run) => run,
+        Err(bad) => return Err(bad),
+    };
+    match container.image.bring(disk, place) {
+        Ok(()) => Ok((place, most)),
+        Err(_) => Err(Bad::Disk),
+    }
 }
 
 // Whether the path of a block of a part holds.
@@ -111,11 +135,12 @@ impl<'a, D: Disk> Store<'a, D> {
         }
     }
 
-    // Where bytes lie in the image, where they have a hash path.
+    // Where bytes lie in the image, where they have a hash path. The page of the first of them is held then.
     fn locate(&mut self, at: u64, most: usize) -> Result<(u64, usize), Bad>
         requires inside { IsInside (shown D.state self.old).shape at 1 }
         requires some { 1 ≤ most }
         ensures found { IsFound (shown D.state self.old) (image_state (D.state self.new.disk.now) self.new.container.now.image) at most result }
+        ensures held { IfOk result (λ run. is_held self.new.container.now.image (run.0 / 4096) ≡ true) }
         ensures reads { Reads (shown D.state) (StoreKeeps D.state) (store_lands D.state) self.old self.new (result_err result) }
     {
         let container = &mut *self.container;

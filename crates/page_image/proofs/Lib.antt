@@ -1,7 +1,14 @@
-pub mod ReadLemmas
 pub mod SectorLemmas
-pub mod PieceLemmas
-pub mod PutLemmas
+pub mod FrameLemmas
+pub mod StateLemmas
+pub mod RefillLemmas
+pub mod DiskLemmas
+pub mod LeaveLemmas
+pub mod ReadLemmas
 pub mod WriteLemmas
 pub mod CountLemmas
+pub mod PutLemmas
+pub mod FrontLemmas
+pub mod FewLemmas
 pub mod QuietLemmas
+pub mod PieceLemmas

@@ -1,5 +1,5 @@
 -- What calls write, by the spots that they leave alone.
-use Rattle.std.proofs.Common.{◌≡◌, ◌≢◌, ℕ, false, List, [], ◌∷◌, ◌++◌, Option, Some, None, MatchOption, refl, sym, ◌∙◌, ap, subst}
+use Rattle.std.proofs.Common.{◌≡◌, ◌≢◌, ℕ, ◌<◌, false, List, [], ◌∷◌, ◌++◌, Option, Some, None, MatchOption, refl, sym, ◌∙◌, ap, subst}
 use Rattle.std.specs.Bool.{⊤}
 use Rattle.std.proofs.Math.Path.{fun_ext}
 use Rattle.std.proofs.lemmas.List.{append-nil}
@@ -80,28 +80,28 @@ module _ {D : Type 0} (states : D → disks.State) (lands : Image D → ℕ → 
 
 -- a place that is missed, or a sector that is missed and not changed
 data Left (i : ImageState) (at n : ℕ) : Type 0 where
-  a_place : (x : ℕ) → Misses (ImageLands i.grain) at n (Place x) → Left i at n
+  a_place : (x : ℕ) → x < i.len → Misses (ImageLands i.grain) at n (Place x) → Left i at n
   a_sector : (sector : ℕ) → is_changed i sector ≡ false → Misses (ImageLands i.grain) at n (Sector sector) → Left i at n
 
-module _ (i : ImageState) (at n : ℕ) where
+module _ (d : disks.State) (i : ImageState) (at n : ℕ) where
   -- what each of them asks of a write
   asks : Left i at n → ℕ → List ℕ → Type 0
-  asks (a_place x misses) = HoldsAt i.grain x (byte_of i x)
+  asks (a_place x inside misses) = HoldsAt i.grain x (byte_of d i x)
   asks (a_sector sector clean misses) = λ written bytes. written ≢ sector
 
-  module _ (d e : disks.State) (j : ImageState) (leaves : LeavesMissed at n d i e j) where
+  module _ (e : disks.State) (j : ImageState) (leaves : LeavesMissed at n d i e j) where
     each : (left : Left i at n) → WritesOnly (asks left) d e
     unfolding asks
-    each (a_place x misses) = (leaves (Place x) misses).1.1
+    each (a_place x inside misses) = ((leaves (Place x) misses).1 inside).1
     each (a_sector sector clean misses) = ((leaves (Sector sector) misses).1 clean).1
 
-    pub allowed : WritesOnly (IsAllowedWrite i at n) d e
+    pub allowed : WritesOnly (IsAllowedWrite d i at n) d e
     unfolding asks
     allowed =
         let base = (leaves Frame (λ k below lands. lands)).0.writes in
-        WritesOnly-map (λ sector bytes. (left : Left i at n) → asks left sector bytes) (IsAllowedWrite i at n)
+        WritesOnly-map (λ sector bytes. (left : Left i at n) → asks left sector bytes) (IsAllowedWrite d i at n)
         (λ sector bytes all. record {
           changed = λ clean misses. all (a_sector sector clean misses) refl;
-          bytes = λ x misses. all (a_place x misses);
+          bytes = λ x inside misses. all (a_place x inside misses);
         }) d e
         (WritesOnly-all asks (λ sector bytes. ⊤) d e base each)

@@ -1,9 +1,12 @@
 pub mod Layout
-pub mod Reading
 pub mod Images
+pub mod Frames
+pub mod Reading
 pub mod Spots
 pub mod Held
 pub mod Laws
 pub mod WriteOuts
 pub mod Puts
 pub mod Allowed
+pub mod Fronts
+pub mod PutFronts

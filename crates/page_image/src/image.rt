@@ -1,6 +1,6 @@
 //! A view of an image and its disk.
 
-ghost use Rattle.std.specs.Prelude.{refl, ◌≡◌, ℕ, true, length, IsTrue, OnOk, OnErr};
+ghost use Rattle.std.specs.Prelude.{refl, ◌≡◌, ℕ, ◌/◌, ◌<◌, true, false, List, length, IsTrue, OnOk, OnErr};
 ghost use Rattle.std.specs.Result.{result_err};
 ghost use Rattle.std.proofs.Common.{ap, subst};
 ghost use Rattle.save_bytes.specs.Cells.{Byte, AreBytesAt};
@@ -10,18 +10,22 @@ ghost use Rattle.save_bytes.specs.Refusals.{NeverDamaged};
 ghost use Rattle.save_bytes.specs.Stays.{SameCells};
 ghost use Rattle.save_bytes.specs.Puts.{Puts};
 ghost use Rattle.save_bytes.specs.Spots.{Spot, Place, Frame, MovesOnly};
-ghost use Rattle.save_disk.specs.Trace.{Sync};
+ghost use Rattle.save_disk.specs.Trace.{Sync, Write};
 ghost use Rattle.save_disk.specs.State.{GoesOn, Happens, IsQuiet, IsSteady, HasCause};
 ghost use Rattle.save_disk.specs.Tells.{tells};
 ghost use Rattle.save_disk.specs.Writes.{GrewBy, WritesOnly};
-ghost use Rattle.page_image.specs.Images.{IsDiskOf, Mirrors, IsStored};
-ghost use Rattle.page_image.specs.Spots.{ImageLands};
+ghost use Rattle.page_image.specs.Images.{is_held, is_changed, IsDiskOf, IsStored, DiffersWithin};
+ghost use Rattle.page_image.specs.Spots.{ImageLands, LeavesTold};
+ghost use Rattle.page_image.specs.Fronts.{IsFront, FailsFront, LeavesBehind};
 ghost use Rattle.page_image.specs.Held.{shown, IsImageViewOf, SameImageView, ImageKeeps};
 ghost use Rattle.page_image.specs.Puts.{IsPending};
 ghost use Rattle.page_image.specs.Allowed.{IsOldOrNewSector};
 ghost use Rattle.page_image.specs.WriteOuts.{WritesEach, WritesSome, IsClean};
 ghost use Rattle.page_image.specs.Laws.{image_size_fits, ImageKeeps-same, ImageKeeps-join, SameImage-shape};
 
+use crate::fetching::reach;
+use crate::heading::write_front;
+use crate::putting::put_all;
 use crate::state::ImageState;
 use crate::writing::write_out;
 use save_bytes::{Bad, Space};
@@ -66,15 +70,53 @@ impl<D: Disk> Image<'_, D> {
         ensures cells { SameCells (shown D.state self.old) (shown D.state self.new) }
         ensures clean { OnOk result (IsClean self.new.image.now) }
         ensures written { OnOk result
-            (GoesOn (GrewBy (WritesEach self.old.image.now (λ sector. true))) (D.state self.old.disk.now) (D.state self.new.disk.now)) }
+            (GoesOn (GrewBy (WritesEach (D.state self.old.disk.now) self.old.image.now (λ sector. true))) (D.state self.old.disk.now) (D.state self.new.disk.now)) }
         ensures failed { OnErr result
-            (GoesOn (GrewBy (WritesSome self.old.image.now (λ sector. true))) (D.state self.old.disk.now) (D.state self.new.disk.now)) }
-        ensures stored { Mirrors (D.state self.old.disk.now) self.old.image.now → OnOk result (IsStored (D.state self.new.disk.now) self.new.image.now) }
+            (GoesOn (GrewBy (WritesSome (D.state self.old.disk.now) self.old.image.now (λ sector. true))) (D.state self.old.disk.now) (D.state self.new.disk.now)) }
+        ensures stored { OnOk result (IsStored (D.state self.new.disk.now) self.new.image.now) }
+        ensures few { IsTrue (tells (D.state self.old.disk.now))
+            → OnOk result (DiffersWithin (length self.old.image.now.pages.items) (D.state self.new.disk.now) self.new.image.now) }
         ensures told { OnOk result ((shown D.state self.new).told ≡ (shown D.state self.old).told) }
         ensures cause { HasCause (D.state self.old.disk.now).counts.disk (D.state self.new.disk.now).counts.disk result }
     {
         let disk = &mut *self.disk;
         write_out(disk, &mut *self.image)
+    }
+
+    /// Writes sector 0: these bytes, then the image's. They are bytes 0 to 511 then.
+    ///
+    /// # Errors
+    ///
+    /// Where the disk fails. The image is then as before, and sector 0 may be written or not.
+    pub fn write_header(&mut self, header: &[u8; 512]) -> Result<(), Failed>
+        requires { IsTrue (shown D.state self.old).shape.sound }
+        ensures view { SameImageView self.old self.new }
+        ensures leaves { LeavesBehind (D.state self.old.disk.now) self.old.image.now (D.state self.new.disk.now) self.new.image.now }
+        ensures written { OnOk result ((bytes : List ℕ) × IsFront (D.state self.old.disk.now) self.old.image.now header.now bytes
+            × Happens (Write 0 bytes) (D.state self.old.disk.now) (D.state self.new.disk.now)) }
+        ensures failed { OnErr result (FailsFront (D.state self.old.disk.now) self.old.image.now header.now (D.state self.new.disk.now)) }
+        ensures header { OnOk result (AreBytesAt (shown D.state self.new).cells 0 header.now) }
+        ensures clean { OnOk result (is_changed self.new.image.now 0 ≡ false) }
+        ensures kept { OnErr result (self.new.image.now.header ≡ self.old.image.now.header) }
+        ensures told { OnOk result ((shown D.state self.new).told ≡ (shown D.state self.old).told) }
+        ensures cause { HasCause (D.state self.old.disk.now).counts.disk (D.state self.new.disk.now).counts.disk result }
+    {
+        let disk = &mut *self.disk;
+        write_front(disk, &mut *self.image, header)
+    }
+
+    // Sees to it that the page of a place is held.
+    fn bring(&mut self, at: u64) -> Result<(), Failed>
+        requires sound { IsTrue (shown D.state self.old).shape.sound }
+        requires inside { at < self.old.image.now.len }
+        ensures view { SameImageView self.old self.new }
+        ensures leaves { LeavesTold (D.state self.old.disk.now) self.old.image.now (D.state self.new.disk.now) self.new.image.now }
+        ensures held { OnOk result (is_held self.new.image.now (at / 4096) ≡ true) }
+        ensures told { OnOk result (tells (D.state self.new.disk.now) ≡ tells (D.state self.old.disk.now)) }
+        ensures cause { HasCause (D.state self.old.disk.now).counts.disk (D.state self.new.disk.now).counts.disk result }
+    {
+        let disk = &mut *self.disk;
+        self.image.bring(disk, at)
     }
 
     /// Keeps all that was written, whatever stops later.
@@ -112,7 +154,7 @@ impl<D: Disk> Space for Image<'_, D> {
     ghost keeps_join = { ImageKeeps-join D.state };
 
     ghost keeps_cells = { λ s t sound single told still kept.
-        (λ x inside. ap Byte (kept (Place x)).1.1.0, record { bottom = λ x inside. refl; is_fixed = λ x inside. refl }) };
+        (λ x inside. ap Byte ((kept (Place x)).1.1 inside).0, record { bottom = λ x inside. refl; is_fixed = λ x inside. refl }) };
 
     ghost keeps_lands = { λ s t sound single told still kept x below spot. subst (λ (grain : ℕ). ImageLands grain x spot) (kept Frame).1.0.grain };
 
@@ -125,6 +167,10 @@ impl<D: Disk> Space for Image<'_, D> {
     }
 
     fn piece(&mut self, at: u64, most: usize) -> Result<&[u8], Bad> {
+        match self.bring(at) {
+            Ok(()) => {}
+            Err(_) => return Err(Bad::Disk),
+        }
         Ok(self.image.held(at, most))
     }
 
@@ -143,9 +189,16 @@ impl<D: Disk> Space for Image<'_, D> {
             (shown D.state self.old) self.old at (length bytes.now) self.new (result_err result) }
         ensures pending { OnOk result (IsPending at (length bytes.now) (D.state self.old.disk.now) (D.state self.new.disk.now) self.new.image.now) }
         ensures old_or_new { IsTrue (tells (D.state self.old.disk.now))
-            → WritesOnly (IsOldOrNewSector self.old.image.now self.new.image.now) (D.state self.old.disk.now) (D.state self.new.disk.now) }
+            → WritesOnly
+            (IsOldOrNewSector (D.state self.old.disk.now) self.old.image.now (D.state self.new.disk.now) self.new.image.now)
+            (D.state self.old.disk.now) (D.state self.new.disk.now) }
+        ensures few { IsTrue (tells (D.state self.old.disk.now))
+            → OnOk result (DiffersWithin (length self.old.image.now.pages.items) (D.state self.new.disk.now) self.new.image.now) }
     {
-        self.image.put(at, bytes);
-        Ok(())
+        let disk = &mut *self.disk;
+        match put_all(disk, &mut *self.image, at, bytes) {
+            Ok(()) => Ok(()),
+            Err(_) => Err(Bad::Disk),
+        }
     }
 }

@@ -1,10 +1,12 @@
 //! What the calls on an image write, as laws over the spots that they leave alone.
 
-ghost use Rattle.std.specs.Prelude.{ℕ};
+ghost use Rattle.std.specs.Prelude.{ℕ, length, IsTrue};
 ghost use Rattle.save_bytes.specs.Spots.{Sector};
-ghost use Rattle.save_disk.specs.State.{State, IsQuiet};
+ghost use Rattle.save_disk.specs.State.{State, IsSound, IsQuiet};
+ghost use Rattle.save_disk.specs.Tells.{tells};
 ghost use Rattle.save_disk.specs.Writes.{WritesOnly};
 ghost use Rattle.page_image.specs.declared.state.ImageState.{ImageState};
+ghost use Rattle.page_image.specs.Images.{IsDiskOf, DiffersWithin};
 ghost use Rattle.page_image.specs.Spots.{Leaves};
 ghost use Rattle.page_image.specs.WriteOuts.{IsClean};
 ghost use Rattle.page_image.specs.Allowed.{IsAllowedWrite, LeavesMissed};
@@ -13,7 +15,7 @@ ghost use Rattle.page_image.specs.Allowed.{IsAllowedWrite, LeavesMissed};
 /// is changed or that the put meets, and with the image's bytes at all places that the put does not meet.
 pub fn writes_of_calls()
     ensures { (disk disk_new : State) (image image_new : ImageState) (at n : ℕ) → LeavesMissed at n disk image disk_new image_new
-        → WritesOnly (IsAllowedWrite image at n) disk disk_new }
+        → WritesOnly (IsAllowedWrite disk image at n) disk disk_new }
 {}
 
 /// Where nothing of an image is changed, a call that leaves alone each sector leaves the disk's trace as it is, with all
@@ -26,4 +28,11 @@ pub fn quiet_calls()
     ensures clean { (disk disk_new : State) (image image_new : ImageState) → IsClean image
         → ((number : ℕ) → Leaves (Sector number) disk image disk_new image_new)
         → IsClean image_new }
+{}
+
+/// The bytes of an image behind the first 512 that are not those of its disk lie in at most as many pages as there are
+/// frames, at each moment between two calls.
+pub fn few_pages_differ()
+    ensures { (disk : State) (image : ImageState) → IsSound disk → IsDiskOf disk image → IsTrue (tells disk)
+        → DiffersWithin (length image.pages.items) disk image }
 {}

@@ -1,4 +1,4 @@
-ghost use Rattle.std.specs.Prelude.{◌≡◌, ℕ, ◌+◌, ◌<◌, ◌≤◌, length, slice_index, IsTrue, IfOk, OnOk, Some};
+ghost use Rattle.std.specs.Prelude.{◌≡◌, ℕ, ◌+◌, ◌*◌, ◌<◌, ◌≤◌, length, slice_index, IsTrue, IfOk, OnOk, Some};
 ghost use Rattle.std.specs.Result.{result_err};
 ghost use Rattle.save_bytes.specs.Cells.{Byte};
 ghost use Rattle.save_bytes.specs.State.{IsInside, IsWritable, CanPut};
@@ -7,7 +7,7 @@ ghost use Rattle.save_bytes.specs.Spots.{Spot, Hold, Misses};
 ghost use Rattle.save_disk.specs.MemDesks.{state_of};
 ghost use Rattle.save_disk.specs.State.{IsQuiet};
 ghost use Rattle.save_disk.specs.Trace.{Told, image_now};
-ghost use Rattle.page_image.specs.Images.{IsDiskOf, Mirrors};
+ghost use Rattle.page_image.specs.Images.{IsDiskOf};
 ghost use Rattle.page_image.specs.Held.{shown};
 ghost use Rattle.page_image.specs.WriteOuts.{IsClean};
 
@@ -19,7 +19,7 @@ use std::test::Fail;
 
 /// A desk with such a length of bytes, each unlike its neighbours.
 fn desk_with(alloc: Global, len: usize, is_wide: bool) -> Result<MemDesk, AllocError>
-    requires { len ≤ 20000 }
+    requires { len ≤ 100000 }
     ensures { IfOk result (λ desk. (state_of desk).size ≡ len) }
 {
     let mut bytes = vec![in alloc; 0u8; len]?;
@@ -66,8 +66,10 @@ fn pieces_are_lent_from_any_place(rt: HostRuntime) -> Result<(), Fail> {
     for is_wide in [false, true] {
         for (at, most, want) in [
             (0u64, 1usize, (1usize, 0u8, 0u8)),
-            (0, 2000, (1300, 0, 44)),
-            (511, 3, (3, 9, 11)),
+            (0, 2000, (512, 0, 9)),
+            (511, 3, (1, 9, 9)),
+            (512, 3, (3, 10, 12)),
+            (512, 2000, (788, 10, 44)),
             (1024, 300, (276, 20, 44)),
             (1299, 5, (1, 44, 44)),
         ] {
@@ -79,25 +81,27 @@ fn pieces_are_lent_from_any_place(rt: HostRuntime) -> Result<(), Fail> {
 }
 
 #[test]
-fn opening_reads_each_sector_once(rt: HostRuntime) -> Result<(), Fail> {
-    for (is_wide, len, reads) in [
-        (false, 1300usize, 3usize),
-        (false, 1536, 3),
+fn opening_reads_the_first_sector_alone(rt: HostRuntime) -> Result<(), Fail> {
+    for (is_wide, len, frames) in [
+        (false, 1300usize, 1usize),
         (false, 512, 1),
-        (true, 512, 1),
         (true, 4096, 1),
         (true, 9000, 3),
+        (false, 20000, 5),
+        (true, 65536, 16),
+        (false, 70000, 16),
     ] {
-        assert!(rt; 512 <= len && len <= 9000);
+        assert!(rt; 512 <= len && len <= 70000);
         let mut desk = desk_with(rt.alloc(), len, is_wide)?;
         let mut state = ImageState::open(rt.alloc(), &mut desk, len as u64)?;
+        assert_eq!(rt; state.frames(), frames);
         let image = state.view(&mut desk);
         assert_eq!(rt; image.len(), len as u64);
         assert_eq!(rt;
             (image.header()[0], image.header()[250], image.header()[511]),
             (0, 250, 9)
         );
-        assert_eq!(rt; count(&desk, Call::Read), reads);
+        assert_eq!(rt; count(&desk, Call::Read), 1);
         assert_eq!(rt; count(&desk, Call::Write), 0);
     }
     Ok(())
@@ -110,14 +114,10 @@ fn put_and_flush(alloc: Global, is_wide: bool, at: u64) -> Result<(u8, u8, u8), 
 {
     let mut desk = desk_with(alloc, 1300, is_wide)?;
     let mut state = ImageState::open(alloc, &mut desk, 1300)?;
-    let mut image = state.view(&mut desk);
-    image.ready(at, 2)?;
-    image.put(at, &[255, 254])?;
-    let shown = image.piece(at, 1)?[0];
+    put(&mut desk, &mut state, at, &[255, 254])?;
+    let shown = byte_in(&mut desk, &mut state, at)?;
     let before = byte_at(desk.image(), at);
-    let mut image = state.view(&mut desk);
-    image.flush()?;
-    image.sync()?;
+    flush(&mut desk, &mut state)?;
     let after = byte_at(desk.image(), at);
     Ok((shown, before, after))
 }
@@ -143,19 +143,32 @@ fn a_put_comes_to_the_disk_with_a_flush(rt: HostRuntime) -> Result<(), Fail> {
 }
 
 /// Puts bytes.
-fn put(desk: &mut MemDesk, state: &mut ImageState, at: u64, bytes: &[u8])
+fn put(desk: &mut MemDesk, state: &mut ImageState, at: u64, bytes: &[u8]) -> Result<(), Bad>
     requires disk_of { IsDiskOf (state_of desk.old) state.old }
     requires first { 512 ≤ at }
     requires inside { at + length bytes.now ≤ state.old.len }
-    ensures { IsDiskOf (state_of desk.new) state.new }
+    ensures disk_of { IsDiskOf (state_of desk.new) state.new }
+    ensures len { state.new.len ≡ state.old.len }
 {
-    let _ = state.view(desk).put(at, bytes);
+    state.view(desk).put(at, bytes)
+}
+
+/// The byte at a place, as the image has it.
+fn byte_in(desk: &mut MemDesk, state: &mut ImageState, at: u64) -> Result<u8, Bad>
+    requires disk_of { IsDiskOf (state_of desk.old) state.old }
+    requires inside { at < state.old.len }
+    ensures disk_of { IsDiskOf (state_of desk.new) state.new }
+    ensures len { state.new.len ≡ state.old.len }
+{
+    let mut image = state.view(desk);
+    read_one(&mut image, at)
 }
 
 /// Writes what is changed.
 fn flush(desk: &mut MemDesk, state: &mut ImageState) -> Result<(), Failed>
     requires { IsDiskOf (state_of desk.old) state.old }
-    ensures { IsDiskOf (state_of desk.new) state.new }
+    ensures disk_of { IsDiskOf (state_of desk.new) state.new }
+    ensures len { state.new.len ≡ state.old.len }
 {
     state.view(desk).flush()
 }
@@ -172,7 +185,7 @@ fn writes_after_put(
 {
     let mut desk = desk_with(alloc, 9000, is_wide)?;
     let mut state = ImageState::open(alloc, &mut desk, 9000)?;
-    put(&mut desk, &mut state, at, bytes);
+    put(&mut desk, &mut state, at, bytes)?;
     flush(&mut desk, &mut state)?;
     let first = count(&desk, Call::Write);
     flush(&mut desk, &mut state)?;
@@ -212,7 +225,7 @@ fn a_flush_writes_each_changed_sector_once(rt: HostRuntime) -> Result<(), Fail> 
 fn bytes_0_to_511_go_out_as_they_are(rt: HostRuntime) -> Result<(), Fail> {
     let mut desk = desk_with(rt.alloc(), 1300, true)?;
     let mut state = ImageState::open(rt.alloc(), &mut desk, 1300)?;
-    put(&mut desk, &mut state, 512, &[255]);
+    put(&mut desk, &mut state, 512, &[255])?;
     flush(&mut desk, &mut state)?;
     assert_eq!(rt; count(&desk, Call::Write), 1);
     let bytes = desk.image();
@@ -235,13 +248,13 @@ fn bytes_0_to_511_go_out_as_they_are(rt: HostRuntime) -> Result<(), Fail> {
 }
 
 #[test]
-fn opening_fails_where_a_read_fails(rt: HostRuntime) -> Result<(), Fail> {
-    for nth in 1..=3u32 {
-        let mut desk = desk_with(rt.alloc(), 1300, false)?;
-        desk.fail(Call::Read, nth);
+fn opening_fails_where_its_read_fails(rt: HostRuntime) -> Result<(), Fail> {
+    for is_wide in [false, true] {
+        let mut desk = desk_with(rt.alloc(), 1300, is_wide)?;
+        desk.fail(Call::Read, 1);
         let fault = ImageState::open(rt.alloc(), &mut desk, 1300).err();
         assert_eq!(rt; fault, Some(ImageFault::Disk));
-        assert_eq!(rt; count(&desk, Call::Read), nth as usize);
+        assert_eq!(rt; count(&desk, Call::Read), 1);
     }
     Ok(())
 }
@@ -251,7 +264,7 @@ fn a_sector_whose_write_failed_is_written_again(rt: HostRuntime) -> Result<(), F
     let mut desk = desk_with(rt.alloc(), 3000, false)?;
     let mut state = ImageState::open(rt.alloc(), &mut desk, 3000)?;
     desk.fail(Call::Write, 2);
-    put(&mut desk, &mut state, 1000, &[255; 600]);
+    put(&mut desk, &mut state, 1000, &[255; 600])?;
     assert!(rt; flush(&mut desk, &mut state).is_err());
     assert_eq!(rt; count(&desk, Call::Write), 2);
     flush(&mut desk, &mut state)?;
@@ -323,7 +336,7 @@ fn reading_calls_write_nothing(rt: HostRuntime) -> Result<(), Fail> {
             let mut desk = desk_with(rt.alloc(), 1300, is_wide)?;
             let mut state = ImageState::open(rt.alloc(), &mut desk, 1300)?;
             desk.fail(Call::Write, 1);
-            put(&mut desk, &mut state, 512, &[255]);
+            put(&mut desk, &mut state, 512, &[255])?;
             assert!(rt; flush(&mut desk, &mut state).is_err());
             assert_eq!(rt; read(&mut desk, &mut state, at)?, want, "at {at}");
             assert_eq!(rt;
@@ -353,7 +366,7 @@ fn a_generic_call_acts_on_an_image(rt: HostRuntime) -> Result<(), Fail> {
 // After a put and a flush the disk has the byte at its place, where it had each byte that was not changed.
 fn store<D: Disk>(image: &mut Image<'_, D>, at: u64, bytes: [u8; 1]) -> Result<(), Bad>
     requires { IsWritable (shown D.state image.old).shape at 1 }
-    ensures { IsTrue (shown D.state image.old).told → Mirrors (D.state image.old.disk.now) image.old.image.now
+    ensures { IsTrue (shown D.state image.old).told
         → OnOk result ((told : Told) → (D.state image.new.disk.now).told ≡ Some told → slice_index (image_now told) at ≡ slice_index bytes 0) }
 {
     match image.put(at, &bytes) {
@@ -375,5 +388,176 @@ fn a_flushed_byte_is_on_the_disk(rt: HostRuntime) -> Result<(), Fail> {
         (byte_at(desk.image(), 1298), byte_at(desk.image(), 1299)),
         (43, 5)
     );
+    Ok(())
+}
+
+// 24 whole pages and a short one.
+const LONG: usize = 100_000;
+
+/// How many of 300 places, so many apart, have another byte than the desk had when it was made.
+fn wrong_bytes(desk: &mut MemDesk, state: &mut ImageState, apart: u64) -> Result<usize, Bad>
+    requires disk_of { IsDiskOf (state_of desk.old) state.old }
+    requires len { state.old.len ≡ 100000 }
+    requires apart { apart ≤ 100000 }
+{
+    let mut wrong: usize = 0;
+    for i in 0..300u64 {
+        let at = i * apart % LONG as u64;
+        if byte_in(desk, state, at)? != (at % 251) as u8 {
+            wrong = wrong.saturating_add(1);
+        }
+    }
+    Ok(wrong)
+}
+
+#[test]
+fn a_long_image_is_read_in_turn_and_at_random(rt: HostRuntime) -> Result<(), Fail> {
+    for is_wide in [false, true] {
+        for apart in [337u64, 40_961, 4096, 99_999] {
+            let mut desk = desk_with(rt.alloc(), LONG, is_wide)?;
+            let mut state = ImageState::open(rt.alloc(), &mut desk, LONG as u64)?;
+            assert_eq!(rt; state.frames(), 16);
+            assert_eq!(rt;
+                wrong_bytes(&mut desk, &mut state, apart)?,
+                0,
+                "apart {apart}"
+            );
+            assert_eq!(rt; desk.image().len(), LONG);
+        }
+    }
+    Ok(())
+}
+
+/// The place that is put to in a page: the sixth byte of its second sector of 512 bytes.
+fn place_in(page: u64) -> u64
+    requires { page < 25 }
+    ensures { result ≡ page * 4096 + 518 }
+{
+    page * 4096 + 518
+}
+
+/// Puts a byte into each of 25 pages, from the first on, and answers how many puts failed. One that failed is made
+/// again.
+fn put_pages(desk: &mut MemDesk, state: &mut ImageState) -> Result<usize, Bad>
+    requires disk_of { IsDiskOf (state_of desk.old) state.old }
+    requires len { state.old.len ≡ 100000 }
+    ensures disk_of { IsDiskOf (state_of desk.new) state.new }
+    ensures len { state.new.len ≡ 100000 }
+{
+    let mut failed: usize = 0;
+    for page in 0..25u64 {
+        if put(desk, state, place_in(page), &[253]).is_err() {
+            failed = failed.saturating_add(1);
+            put(desk, state, place_in(page), &[253])?;
+        }
+    }
+    Ok(failed)
+}
+
+/// How many of the 25 places have the byte that was put, as the image has them.
+fn pages_changed(desk: &mut MemDesk, state: &mut ImageState) -> Result<usize, Bad>
+    requires disk_of { IsDiskOf (state_of desk.old) state.old }
+    requires len { state.old.len ≡ 100000 }
+    ensures disk_of { IsDiskOf (state_of desk.new) state.new }
+{
+    let mut changed: usize = 0;
+    for page in 0..25u64 {
+        if byte_in(desk, state, place_in(page))? == 253 {
+            changed = changed.saturating_add(1);
+        }
+    }
+    Ok(changed)
+}
+
+/// How many of the 25 places have the byte that was put, and how many of those behind them the byte that was there.
+fn pages_put(bytes: &[u8]) -> (usize, usize) {
+    let mut put: usize = 0;
+    let mut kept: usize = 0;
+    for page in 0..25u64 {
+        let at = place_in(page);
+        if byte_at(bytes, at) == 253 {
+            put = put.saturating_add(1);
+        }
+        if byte_at(bytes, at + 1) == ((at + 1) % 251) as u8 {
+            kept = kept.saturating_add(1);
+        }
+    }
+    (put, kept)
+}
+
+#[test]
+fn changed_pages_are_written_when_they_are_given_up(rt: HostRuntime) -> Result<(), Fail> {
+    for is_wide in [false, true] {
+        let mut desk = desk_with(rt.alloc(), LONG, is_wide)?;
+        let mut state = ImageState::open(rt.alloc(), &mut desk, LONG as u64)?;
+        assert_eq!(rt; put_pages(&mut desk, &mut state)?, 0);
+        assert_eq!(rt; pages_put(desk.image()), (9, 25));
+        assert_eq!(rt; pages_changed(&mut desk, &mut state)?, 25);
+        flush(&mut desk, &mut state)?;
+        assert_eq!(rt; pages_put(desk.image()), (25, 25));
+    }
+    Ok(())
+}
+
+#[test]
+fn nothing_is_lost_where_a_call_fails(rt: HostRuntime) -> Result<(), Fail> {
+    for is_wide in [false, true] {
+        for kind in [Call::Read, Call::Write] {
+            for nth in [1u32, 2, 5, 9, 14] {
+                let mut desk = desk_with(rt.alloc(), LONG, is_wide)?;
+                let mut state = ImageState::open(rt.alloc(), &mut desk, LONG as u64)?;
+                desk.fail(kind, if kind == Call::Read { nth + 1 } else { nth });
+                let failed = put_pages(&mut desk, &mut state)?;
+                if flush(&mut desk, &mut state).is_err() {
+                    assert_eq!(rt; failed, 0, "at call {nth}");
+                    flush(&mut desk, &mut state)?;
+                } else {
+                    assert_eq!(rt; failed, 1, "at call {nth}");
+                }
+                assert_eq!(rt; pages_put(desk.image()), (25, 25), "at call {nth}");
+            }
+        }
+    }
+    Ok(())
+}
+
+/// Writes other first 512 bytes.
+fn write_header(
+    desk: &mut MemDesk,
+    state: &mut ImageState,
+    header: &[u8; 512],
+) -> Result<(), Failed>
+    requires { IsDiskOf (state_of desk.old) state.old }
+    ensures { IsDiskOf (state_of desk.new) state.new }
+{
+    state.view(desk).write_header(header)
+}
+
+#[test]
+fn the_first_bytes_are_written_alone(rt: HostRuntime) -> Result<(), Fail> {
+    for (is_wide, is_held, stored) in [
+        (false, false, 10u8),
+        (false, true, 10),
+        (true, false, 10),
+        (true, true, 255),
+    ] {
+        let mut desk = desk_with(rt.alloc(), 9000, is_wide)?;
+        let mut state = ImageState::open(rt.alloc(), &mut desk, 9000)?;
+        if is_held {
+            put(&mut desk, &mut state, 512, &[255])?;
+        }
+        desk.fail(Call::Write, 1);
+        assert!(rt; write_header(&mut desk, &mut state, &[7; 512]).is_err());
+        assert_eq!(rt; state.view(&mut desk).header()[511], 9);
+        write_header(&mut desk, &mut state, &[7; 512])?;
+        assert_eq!(rt; state.view(&mut desk).header()[511], 7);
+        assert_eq!(rt; count(&desk, Call::Write), 2);
+        let bytes = desk.image();
+        assert_eq!(rt;
+            (byte_at(bytes, 0), byte_at(bytes, 511), byte_at(bytes, 512)),
+            (7, 7, stored)
+        );
+        assert_eq!(rt; (byte_at(bytes, 513), byte_at(bytes, 8999)), (11, 214));
+    }
     Ok(())
 }

@@ -1,15 +1,16 @@
 //! Writing an image's changed sectors to its disk.
 
-ghost use Rattle.std.specs.Prelude.{◌≡◌, ◌≢◌, ◌==◌, ℕ, ◌<◌, true, false, length, OnOk, OnErr};
+ghost use Rattle.std.specs.Prelude.{◌≡◌, ◌≢◌, ◌==◌, ◌&&◌, nat_lt, nat_le, ℕ, ◌+◌, ◌*◌, ◌/◌, ◌<◌, ◌≤◌, true, false, Some, length, OnOk, OnErr};
 ghost use Rattle.save_bytes.specs.Spots.{Spot};
 ghost use Rattle.save_disk.specs.State.{GoesOn, HasCause};
 ghost use Rattle.save_disk.specs.Tells.{tells};
 ghost use Rattle.save_disk.specs.Writes.{GrewBy};
 ghost use Rattle.page_image.specs.Images.{is_changed, IsDiskOf};
+ghost use Rattle.page_image.specs.Frames.{KeepsFrames};
 ghost use Rattle.page_image.specs.Spots.{Leaves};
 ghost use Rattle.page_image.specs.WriteOuts.{WritesEach, WritesSome, IsClean};
 
-use crate::state::ImageState;
+use crate::state::{ImageState, PAGE};
 use save_disk::{Disk, Failed};
 
 // Writes each changed sector, which then is not changed.
@@ -17,12 +18,70 @@ pub(crate) fn write_out<D: Disk>(disk: &mut D, image: &mut ImageState) -> Result
     requires { IsDiskOf (D.state disk.old) image.old }
     ensures leaves { (spot : Spot) → Leaves spot (D.state disk.old) image.old (D.state disk.new) image.new }
     ensures clean { OnOk result (IsClean image.new) }
-    ensures written { OnOk result (GoesOn (GrewBy (WritesEach image.old (λ sector. true))) (D.state disk.old) (D.state disk.new)) }
-    ensures failed { OnErr result (GoesOn (GrewBy (WritesSome image.old (λ sector. true))) (D.state disk.old) (D.state disk.new)) }
+    ensures written { OnOk result (GoesOn (GrewBy (WritesEach (D.state disk.old) image.old (λ sector. true))) (D.state disk.old) (D.state disk.new)) }
+    ensures failed { OnErr result (GoesOn (GrewBy (WritesSome (D.state disk.old) image.old (λ sector. true))) (D.state disk.old) (D.state disk.new)) }
     ensures told { OnOk result (tells (D.state disk.new) ≡ tells (D.state disk.old)) }
     ensures cause { HasCause (D.state disk.old).counts.disk (D.state disk.new).counts.disk result }
 {
-    for sector in 0..image.sectors() {
+    let end = image.sectors();
+    write_sectors(disk, image, 0, end)
+}
+
+// Writes each changed sector of a page, if there is one.
+pub(crate) fn write_held<D: Disk>(
+    disk: &mut D,
+    image: &mut ImageState,
+    held: Option<u32>,
+) -> Result<(), Failed>
+    requires { IsDiskOf (D.state disk.old) image.old }
+    ensures leaves { (spot : Spot) → Leaves spot (D.state disk.old) image.old (D.state disk.new) image.new }
+    ensures clean { OnOk result ((page sector : ℕ) → held ≡ Some page → sector * image.old.grain / 4096 ≡ page → is_changed image.new sector ≡ false) }
+    ensures frames { KeepsFrames image.old image.new }
+    ensures told { OnOk result (tells (D.state disk.new) ≡ tells (D.state disk.old)) }
+    ensures cause { HasCause (D.state disk.old).counts.disk (D.state disk.new).counts.disk result }
+{
+    match held {
+        Some(page) => write_page(disk, image, page),
+        None => Ok(()),
+    }
+}
+
+// Writes each changed sector of a page.
+fn write_page<D: Disk>(disk: &mut D, image: &mut ImageState, page: u32) -> Result<(), Failed>
+    requires { IsDiskOf (D.state disk.old) image.old }
+    ensures leaves { (spot : Spot) → Leaves spot (D.state disk.old) image.old (D.state disk.new) image.new }
+    ensures clean { OnOk result ((sector : ℕ) → sector * image.old.grain / 4096 ≡ page → is_changed image.new sector ≡ false) }
+    ensures frames { KeepsFrames image.old image.new }
+    ensures told { OnOk result (tells (D.state disk.new) ≡ tells (D.state disk.old)) }
+    ensures cause { HasCause (D.state disk.old).counts.disk (D.state disk.new).counts.disk result }
+{
+    let count = PAGE / image.grain() as usize;
+    let first = page as usize * count;
+    let end = image.sectors().min(first + count).max(first);
+    write_sectors(disk, image, first, end)
+}
+
+// Writes each changed sector from `first` up to `end`.
+fn write_sectors<D: Disk>(
+    disk: &mut D,
+    image: &mut ImageState,
+    first: usize,
+    end: usize,
+) -> Result<(), Failed>
+    requires disk_of { IsDiskOf (D.state disk.old) image.old }
+    requires ordered { first ≤ end }
+    requires inside { (sector : ℕ) → first ≤ sector → sector < end → sector * image.old.grain < image.old.len }
+    ensures leaves { (spot : Spot) → Leaves spot (D.state disk.old) image.old (D.state disk.new) image.new }
+    ensures clean { OnOk result ((sector : ℕ) → first ≤ sector → sector < end → is_changed image.new sector ≡ false) }
+    ensures frames { KeepsFrames image.old image.new }
+    ensures written { OnOk result (GoesOn (GrewBy (WritesEach (D.state disk.old) image.old (λ sector. nat_le first sector && nat_lt sector end)))
+        (D.state disk.old) (D.state disk.new)) }
+    ensures failed { OnErr result (GoesOn (GrewBy (WritesSome (D.state disk.old) image.old (λ sector. nat_le first sector && nat_lt sector end)))
+        (D.state disk.old) (D.state disk.new)) }
+    ensures told { OnOk result (tells (D.state disk.new) ≡ tells (D.state disk.old)) }
+    ensures cause { HasCause (D.state disk.old).counts.disk (D.state disk.new).counts.disk result }
+{
+    for sector in first..end {
         write_changed(disk, image, sector)?;
     }
     Ok(())
@@ -31,19 +90,23 @@ pub(crate) fn write_out<D: Disk>(disk: &mut D, image: &mut ImageState) -> Result
 // Writes a sector if it is changed; then it is not changed.
 fn write_changed<D: Disk>(disk: &mut D, image: &mut ImageState, sector: usize) -> Result<(), Failed>
     requires disk_of { IsDiskOf (D.state disk.old) image.old }
-    requires inside { sector < length image.old.changed.items }
+    requires inside { sector * image.old.grain < image.old.len }
     ensures leaves { (spot : Spot) → Leaves spot (D.state disk.old) image.old (D.state disk.new) image.new }
     ensures clean { OnOk result (is_changed image.new sector ≡ false) }
     ensures others { (other : ℕ) → other ≢ sector → is_changed image.new other ≡ is_changed image.old other }
-    ensures count { length image.new.changed.items ≡ length image.old.changed.items }
-    ensures written { OnOk result (GoesOn (GrewBy (WritesEach image.old (λ other. sector == other))) (D.state disk.old) (D.state disk.new)) }
-    ensures failed { OnErr result (GoesOn (GrewBy (WritesSome image.old (λ other. sector == other))) (D.state disk.old) (D.state disk.new)) }
+    ensures frames { KeepsFrames image.old image.new }
+    ensures written { OnOk result (GoesOn (GrewBy (WritesEach (D.state disk.old) image.old (λ other. sector == other))) (D.state disk.old) (D.state disk.new)) }
+    ensures failed { OnErr result (GoesOn (GrewBy (WritesSome (D.state disk.old) image.old (λ other. sector == other))) (D.state disk.old) (D.state disk.new)) }
     ensures told { OnOk result (tells (D.state disk.new) ≡ tells (D.state disk.old)) }
     ensures cause { HasCause (D.state disk.old).counts.disk (D.state disk.new).counts.disk result }
 {
-    if image.is_changed(sector) {
-        disk.write(sector as u64, image.sector(sector))?;
-        image.unmark(sector);
+    if !image.is_changed(sector) {
+        return Ok(());
     }
+    let mut bytes = [0; PAGE];
+    let out = &mut bytes[..image.grain() as usize];
+    image.copy_sector(sector, out);
+    disk.write(sector as u64, out)?;
+    image.unmark(sector);
     Ok(())
 }

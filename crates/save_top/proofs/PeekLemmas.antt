@@ -166,14 +166,15 @@ pub no_part : (image : List ℕ) (header : Header) (number block : ℕ) → head
     → peek_reply image header number block ≡ refused (no_part_line header.parts)
 no_part image header number block past = then_false (nat_lt number header.parts) _ _ (le-ltb number header.parts past)
 
-module _ (sign : Signing) (image : List ℕ) (container : Container) (holds : Holds sign image container) where
+module _ (sign : Signing) (image : List ℕ) (disk : disks.State) (container : Container)
+    (holds : Holds sign image disk container) where
   -- the parts are those of the image's table
   parts_read : AreRead (active_table image container.header) container.header container.parts
   parts_read = rw (← holds.opened.table) holds.opened.parts
 
   -- the cells of its store are the image's
-  store_shows : (disk : disks.State) → IsDiskOf disk container.image → AreImageCells image container.header container.parts (store_of disk container).cells
-  store_shows disk disk_of =
+  store_shows : IsDiskOf disk container.image → AreImageCells image container.header container.parts (store_of disk container).cells
+  store_shows disk_of =
       let whole = holds.whole in
       let read = holds.opened.parts in
       store_cells disk container.image image container.header container.table.items disk_of holds.held whole.sound
@@ -193,7 +194,7 @@ module _ (sign : Signing) (image : List ℕ) (container : Container) (holds : Ho
       (omega (arith, of.2.0, of.2.1)) ∙ ap (λ (n : ℕ). refused (no_block_line n)) (sym of.2.0)
   miss_by part block (DamagedMiss p level at) none = absurd none
 
-  module _ (disk : disks.State) (disk_of : IsDiskOf disk container.image) (part block : ℕ) (place : Place) (there : IsPlaceOf container part block place) where
+  module _ (disk_of : IsDiskOf disk container.image) (part block : ℕ) (place : Place) (there : IsPlaceOf container part block place) where
     -- a block whose bytes were read
     pub shown_by : (bytes : List ℕ) → length bytes ≡ place.len
         → AreBytesAt (store_of disk container).cells place.at bytes
@@ -201,7 +202,7 @@ module _ (sign : Signing) (image : List ℕ) (container : Container) (holds : Ho
     shown_by bytes long hold =
         let of = there.in_part in
         good_block image container.header container.parts part of.0 block parts_read of.1 there.part_there of.2.there
-        (store_of disk container).cells (store_shows disk disk_of) bytes (long ∙ of.2.len)
+        (store_of disk container).cells (store_shows disk_of) bytes (long ∙ of.2.len)
         (subst (λ (at : ℕ). AreBytesAt (store_of disk container).cells at bytes) of.2.at hold)
 
     -- a block that is damaged
@@ -211,7 +212,7 @@ module _ (sign : Signing) (image : List ℕ) (container : Container) (holds : Ho
     damaged_by p level at fault =
         let of = there.in_part in
         damaged_block image container.header container.parts part of.0 block parts_read of.1 there.part_there
-        of.2.there (store_of disk container).cells (store_shows disk disk_of) p level at
+        of.2.there (store_of disk container).cells (store_shows disk_of) p level at
         (subst (λ (n : ℕ). IsFirstFault (store_of disk container).cells
         (part_start container.parts part + block * block_size of.0.difi.ivfc4) n p level at) of.2.len
         (subst (λ (n : ℕ). IsFirstFault (store_of disk container).cells n place.len p level at) of.2.at fault))

@@ -93,10 +93,10 @@ module _ (old new : State) (reply : Reply) (result : ℕ) (says : Says reply.sta
   ]
 
 -- what an order answers on an image that opens
-pub opened_reply : (sign : Signing) (image : List ℕ) (container : Container) (order : Order) (act : Act)
-    → Holds sign image container → order.act ≡ act
+pub opened_reply : (sign : Signing) (image : List ℕ) (disk : State) (container : Container) (order : Order) (act : Act)
+    → Holds sign image disk container → order.act ≡ act
     → reply_to sign order image ≡ act_reply act image (Ok container.header)
-opened_reply sign image container order act holds is =
+opened_reply sign image disk container order act holds is =
     ap (λ (o : Option OpenFault). reply_by o order.act image) (no_fault sign image holds.opened.opens)
     ∙ ap (λ (r : Result Fields HeaderFault). act_reply order.act image r) holds.opened.header
     ∙ ap (λ (a : Act). act_reply a image (Ok container.header)) is

@@ -4,6 +4,7 @@ use Rattle.save_bytes.specs.declared.space.Bad.{Bad}
 use Rattle.save_bytes.specs.declared.space.Bad.TheVariants.{Disk as DiskFailed, Damaged as DamagedAt}
 use Rattle.difi.specs.declared.descriptor.Difi.{Difi}
 use Rattle.difi.specs.Places.{block_size, blocks_of}
+use Rattle.save_disk.specs.State as disks
 use Rattle.page_image.specs.WriteOuts.{IsClean}
 use Rattle.container.specs.Signers.{Signing}
 use Rattle.container.specs.declared.open.Container.{Container}
@@ -17,11 +18,11 @@ use Rattle.save_top.specs.declared.peek.Place.{Place}
 use Rattle.save_top.specs.Texts.{no_part_line, no_block_line, damaged_line}
 use Rattle.save_top.specs.Replies.{Reply, refused}
 
--- a container holds this image, as it was opened under a signer, and nothing of it was changed
-pub record Holds (sign : Signing) (image : List ℕ) (container : Container) : Type 0 where
+-- a container over its disk holds this image, as it was opened under a signer, and nothing of it was changed
+pub record Holds (sign : Signing) (image : List ℕ) (disk : disks.State) (container : Container) : Type 0 where
   pub whole : IsWholeContainer container
   pub opened : IsOpenOf sign image container
-  pub held : IsHeld image container.image
+  pub held : IsHeld image disk container.image
   pub clean : IsClean container.image
 
 -- where a part's level four begins in the store

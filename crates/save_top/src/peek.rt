@@ -150,9 +150,9 @@ pub fn show<D: Disk>(
 ) -> Result<Vec<u8>, Miss>
     requires whole { IsWholeContainer container.old }
     requires disk { IsDiskOf (D.state disk.old) container.old.image }
-    ensures shown { (sign : Signing) (image : List ℕ) → IsTrue (tells (D.state disk.old)) → Holds sign image container.old
+    ensures shown { (sign : Signing) (image : List ℕ) → IsTrue (tells (D.state disk.old)) → Holds sign image (D.state disk.old) container.old
         → IfOk result (λ text. peek_reply image container.old.header part block ≡ done text.items) }
-    ensures miss { (sign : Signing) (image : List ℕ) → IsTrue (tells (D.state disk.old)) → Holds sign image container.old
+    ensures miss { (sign : Signing) (image : List ℕ) → IsTrue (tells (D.state disk.old)) → Holds sign image (D.state disk.old) container.old
         → IfErr result (IsMissBy (peek_reply image container.old.header part block)) }
     ensures quiet { IsClean container.old.image → IsQuiet (D.state disk.old) (D.state disk.new) }
     ensures steady { IsSteady (D.state disk.old) (D.state disk.new) }

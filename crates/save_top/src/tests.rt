@@ -370,27 +370,58 @@ fn assert_last(
     Ok(())
 }
 
-// In sectors of 4,096 bytes an image is read by 29 calls: its front, its table, and its 27 sectors.
+// In sectors of 4,096 bytes an image is opened by three reads: its front, its table, and its first bytes. A block is
+// shown by one more for each page that it and its path lie in.
 #[test]
 fn failed_call_is_the_last(rt: HostRuntime) -> Result<(), Fail> {
     let alloc = rt.alloc();
     let image = sample(alloc, Sample::Single)?;
-    for line in ["F info", "F peek 0 0", "F peek 0 1"] {
+    for (line, reads) in [("F info", 3u32), ("F peek 0 0", 9), ("F peek 0 1", 8)] {
         assert_last(&rt, alloc, &image, line, (Call::Len, 1), 0, DISK_FAULT)?;
-        for nth in 1..30 {
+        for nth in 1..=reads {
             let at = nth as usize;
             assert_last(&rt, alloc, &image, line, (Call::Read, nth), at, DISK_FAULT)?;
         }
-        assert_last(&rt, alloc, &image, line, (Call::Say, 1), 30, SINK_FAULT)?;
+        let at = reads as usize + 1;
+        assert_last(&rt, alloc, &image, line, (Call::Say, 1), at, SINK_FAULT)?;
     }
     let words = words_of(alloc, "F peek 0 0")?;
     let mut desk = MemDesk::wide(alloc, &image, &[])?;
     desk.fail(Call::Len, 2);
-    desk.fail(Call::Read, 30);
+    desk.fail(Call::Read, 10);
     desk.fail(Call::Say, 2);
     assert_eq!(rt; run(alloc, &words, &mut desk, &ZeroSigner), DONE);
-    assert_eq!(rt; desk.call(30), Some(Call::Say));
-    assert_eq!(rt; desk.call(31), None);
+    assert_eq!(rt; desk.call(10), Some(Call::Say));
+    assert_eq!(rt; desk.call(11), None);
+    Ok(())
+}
+
+/// An image with so many bytes of zero behind it that it has this length.
+fn lengthened(alloc: Global, image: &[u8], len: usize) -> Result<Vec<u8>, AllocError>
+    requires { length image.now ≤ len }
+{
+    let mut bytes = vec![in alloc; 0u8; len]?;
+    bytes[..image.len()].copy_from_slice(image);
+    Ok(bytes)
+}
+
+// Of 984 sectors of 512 bytes three are read.
+#[test]
+fn info_reads_few_sectors(rt: HostRuntime) -> Result<(), Fail> {
+    let alloc = rt.alloc();
+    let image = sample(alloc, Sample::Single)?;
+    let len: usize = 984 * 512;
+    assert!(rt; image.len() <= len);
+    let long = lengthened(alloc, &image, len)?;
+    let words = words_of(alloc, "F info")?;
+    let mut desk = MemDesk::new(alloc, &long, &[])?;
+    assert_eq!(rt; run(alloc, &words, &mut desk, &ZeroSigner), DONE);
+    assert_eq!(rt; desk.said(), SINGLE.as_bytes());
+    for i in 1..=3 {
+        assert_eq!(rt; desk.call(i), Some(Call::Read));
+    }
+    assert_eq!(rt; desk.call(4), Some(Call::Say));
+    assert_eq!(rt; desk.call(5), None);
     Ok(())
 }
 

@@ -99,7 +99,7 @@ fn peek<D: Desk>(
     requires whole { IsWholeContainer container.old }
     requires disk { IsDiskOf (D.state desk.old) container.old.image }
     requires clean { IsClean container.old.image }
-    ensures says { (sign : Signing) (image : List ℕ) → IsTrue (tells (D.state desk.old)) → Holds sign image container.old
+    ensures says { (sign : Signing) (image : List ℕ) → IsTrue (tells (D.state desk.old)) → Holds sign image (D.state desk.old) container.old
         → let reply = peek_reply image container.old.header part block in
         Says reply.status reply.text (D.state desk.old) (D.state desk.new) result }
     ensures silent { Tells OnlySays (D.state desk.old) (D.state desk.new) }
@@ -116,7 +116,7 @@ fn peek<D: Desk>(
 
 // Opens the image at the desk.
 fn open<D: Desk, G: Signer>(alloc: Global, desk: &mut D, signer: &G) -> Result<Container, Failure>
-    ensures opened { IfOk result (λ container. WhenFresh (λ told. Holds (signing G.tag_of G.is_demanding signer.now) told.start container) (D.state desk.old)) }
+    ensures opened { IfOk result (λ container. WhenFresh (λ told. Holds (signing G.tag_of G.is_demanding signer.now) told.start (D.state desk.new) container) (D.state desk.old)) }
     ensures whole { IfOk result IsWholeContainer }
     ensures disk { IfOk result (λ container. IsDiskOf (D.state desk.new) container.image) }
     ensures clean { IfOk result (λ container. IsClean container.image) }

@@ -1,55 +1,49 @@
-use Rattle.std.proofs.Common.{◌≡◌, ◌≢◌, Result, Ok, Err, OnErr, ◌∙◌, arith, ⊎_elim}
-use Rattle.std.proofs.lemmas.Bool.{cases_eq}
+use Rattle.std.proofs.Common.{◌≡◌, ◌≢◌, ◌*◌, ◌≤◌, ◌<◌, ℕ, Bool, true, false, ◌&&◌, leb, ltb, List, refl, sym, ◌∙◌, ap, arith, ⊎_elim}
+use Rattle.std.proofs.lemmas.Bool.{cases_lt, cases_Bool, lt-ltb, le-ltb, le-leb}
+use Rattle.std.proofs.lemmas.Result.{IfOk-weaker, IfErr-weaker}
 use Rattle.save_bytes.specs.Spots.{Frame}
-use Rattle.save_bytes.proofs.SpaceLemmas.{Rose-later}
-use Rattle.page_image.specs.Laws.{Leaves-join}
-use Rattle.page_image.proofs.CountLemmas.{wrote_each, wrote_some}
-use Rattle.page_image.proofs.WriteLemmas.{kept_disk}
+use Rattle.save_disk.specs.Trace.{Event}
+use Rattle.save_disk.specs.State as disks
+use Rattle.save_disk.specs.Writes.{GrewBy, one_if, writes_to}
+use Rattle.page_image.specs.declared.state.ImageState.{ImageState}
+use Rattle.page_image.specs.Images.{is_changed, is_changed_at}
+use Rattle.page_image.specs.WriteOuts.{WritesEach, WritesSome}
+use Rattle.page_image.proofs.FrameLemmas.{changed_parts, changed_outside}
+use Rattle.page_image.proofs.CountLemmas.{is_from_to, all_written, some_written}
 use Rattle.page_image.proofs.writing.write_out.Goals as goal
 
-on_err : {T E P : Type 0} (r : Result T E) → P → OnErr r P
-on_err (Ok value) p = tt
-on_err (Err e) p = p
+-- a sector that is changed begins inside
+changed_inside : (i : ImageState) (end : ℕ) → ((s : ℕ) → s * i.grain < i.len → s < end) → (m : ℕ) → is_changed i m ≡ true → m < end
+changed_inside i end covers m changed = covers m (changed_parts i (m * i.grain) changed).0
 
-pub write_changed-requires-clause-disk_of : goal.write_changed-requires-clause-disk_of
-write_changed-requires-clause-disk_of g c = kept_disk _ _ _ _ (c.loop-sector.invariant.leaves Frame).0 c.requires
+pub returns-clause-clean : goal.returns-clause-clean
+returns-clause-clean g c =
+    let i = c.args.image.now in
+    let j = c.write_sectors.new.image in
+    let same = (c.write_sectors.ensures.leaves Frame).0 in
+    IfOk-weaker c.write_sectors.result (λ done. (s : ℕ) → 0 ≤ s → s < c.sectors-end.result → is_changed j s ≡ false)
+    (λ done. (s : ℕ) → is_changed j s ≡ false)
+    (λ done clean s.
+    ⊎_elim
+    (λ (inside : s * i.grain < i.len). clean s (omega arith) (c.sectors-end.ensures.covers s inside))
+    (λ (past : i.len ≤ s * i.grain). ap (λ (n : ℕ). is_changed_at j (s * n)) same.grain ∙ changed_outside j (s * i.grain) (omega (arith, same.len)))
+    (cases_lt (s * i.grain) i.len))
+    c.write_sectors.ensures.clean
 
-pub returns-in_err-write_changed-clause-leaves : goal.returns-in_err-write_changed-clause-leaves
-returns-in_err-write_changed-clause-leaves g c = λ spot.
-    Leaves-join _ (g.D.Disk.state c.loop-sector.disk) _ _ c.loop-sector.image _ spot
-    (c.loop-sector.invariant.leaves spot) (c.write_changed.ensures.leaves spot)
-
-pub returns-in_err-write_changed-clause-failed : goal.returns-in_err-write_changed-clause-failed
-returns-in_err-write_changed-clause-failed g c =
+pub returns-clause-written : goal.returns-clause-written
+returns-clause-written g c =
     let state = g.D.Disk.state in
-    let before = c.loop-sector.invariant in
-    on_err c.from_residual.result
-    (wrote_some (state c.args.disk.now) (state c.loop-sector.disk) (state c.write_changed.new.disk) c.args.image.now c.loop-sector.image
-    c.loop-sector.sector before.leaves before.clean before.behind before.written c.in_err-write_changed.ensures.failed)
+    let d = state c.args.disk.now in
+    let e = state c.write_sectors.new.disk in
+    let i = c.args.image.now in
+    IfOk-weaker c.write_sectors.result (λ done. disks.GoesOn (GrewBy (WritesEach d i (is_from_to 0 c.sectors-end.result))) d e) _
+    (λ done. all_written d i c.sectors-end.result (changed_inside i c.sectors-end.result c.sectors-end.ensures.covers) e) c.write_sectors.ensures.written
 
-pub returns-in_err-write_changed-clause-cause : goal.returns-in_err-write_changed-clause-cause
-returns-in_err-write_changed-clause-cause g c =
-    let rose = Rose-later _ (g.D.Disk.state c.loop-sector.disk).counts.disk _ (c.loop-sector.invariant.leaves Frame).0.steady.disk in
-    on_err c.from_residual.result (rose c.in_err-write_changed.ensures.cause)
-
-pub loop-sector-preserved : goal.loop-sector-preserved
-loop-sector-preserved g c =
-    let old = g.D.Disk.state c.args.disk.now in
-    let mid = g.D.Disk.state c.loop-sector.disk in
-    let new = g.D.Disk.state c.write_changed.new.disk in
-    let j = c.loop-sector.image in
-    let before = c.loop-sector.invariant in
-    let step = c.in_ok-write_changed.ensures in
-    let s = c.loop-sector.sector in
-    record {
-      leaves = λ spot. Leaves-join _ mid _ _ j _ spot (before.leaves spot) (step.leaves spot);
-      clean = λ sector below.
-          ⊎_elim
-          (λ (here : sector ≡ s). rw here step.clean)
-          (λ (apart : sector ≢ s). step.others sector apart ∙ before.clean sector (omega arith))
-          (cases_eq sector s);
-      behind = λ sector from. step.others sector (omega arith) ∙ before.behind sector (omega arith);
-      count = step.count ∙ before.count;
-      written = wrote_each old mid new c.args.image.now j s before.leaves before.clean before.behind before.written step.written;
-      told = step.told ∙ before.told;
-    }
+pub returns-clause-failed : goal.returns-clause-failed
+returns-clause-failed g c =
+    let state = g.D.Disk.state in
+    let d = state c.args.disk.now in
+    let e = state c.write_sectors.new.disk in
+    let i = c.args.image.now in
+    IfErr-weaker c.write_sectors.result (λ failed. disks.GoesOn (GrewBy (WritesSome d i (is_from_to 0 c.sectors-end.result))) d e) _
+    (λ failed. some_written d i c.sectors-end.result (changed_inside i c.sectors-end.result c.sectors-end.ensures.covers) e) c.write_sectors.ensures.failed

@@ -20,7 +20,7 @@ returns g c =
       (refl, λ _. tt, before.reads),
       record {
         piece = held_piece (shown states store) (states new.disk.now) container.image c.args.at c.args.most c.in-Ok.run'.0 c.in-Ok.run'.1
-            c.held.result told before.found c.held.ensures;
+            c.held.result told before.found (c.held.ensures (states new.disk.now));
         after = tt;
       },
     )

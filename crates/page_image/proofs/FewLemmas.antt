@@ -1,0 +1,32 @@
+-- In how many pages an image differs from its disk.
+use Rattle.std.proofs.Common.{◌≡◌, ◌≢◌, ℕ, ◌<◌, ◌≤◌, ◌/◌, true, false, IsTrue, List, length, get_or, map, Option, Some, None, refl, sym, ◌∙◌, ap, arith, ⊎_elim}
+use Rattle.std.proofs.lemmas.List.{length-map, get_or-map}
+use Rattle.std.proofs.lemmas.Bool.{cases_Bool}
+use Rattle.save_disk.specs.State as disks
+use Rattle.save_disk.specs.Tells.{tells, image_told}
+use Rattle.page_image.specs.declared.state.ImageState.{ImageState}
+use Rattle.page_image.specs.Images.{frame_of, is_held, byte_of, is_changed, IsDiskOf, DiffersWithin}
+use Rattle.page_image.proofs.SectorLemmas.{sector_page}
+use Rattle.page_image.proofs.FrameLemmas.{held_in, held_frame, clean_unheld}
+use Rattle.page_image.proofs.DiskLemmas.{clean_told}
+
+-- the page of a frame, 0 where it has none
+abbrev number : Option ℕ → ℕ
+number None = 0
+number (Some page) = page
+
+number-at : (pages : List (Option ℕ)) (frame page : ℕ) → frame < length pages → get_or pages frame None ≡ Some page → get_or (map number pages) frame 0 ≡ page
+number-at pages frame page below is = get_or-map number pages frame None 0 below ∙ ap number is
+
+pub few_pages : (d : disks.State) (i : ImageState) → disks.IsSound d → IsDiskOf d i → tells d ≡ true → DiffersWithin (length i.pages.items) d i
+few_pages d i sound disk_of told = (
+  map number i.pages.items,
+  omega (arith, length-map i.pages.items number),
+  λ x behind inside differs.
+      ⊎_elim
+      (λ (held : is_held i (x / 4096) ≡ true).
+      let below = held_frame i (x / 4096) held in
+      (frame_of i (x / 4096), omega (arith, length-map i.pages.items number), number-at i.pages.items (frame_of i (x / 4096)) (x / 4096) below (held_in i (x / 4096) held)))
+      (λ (none : is_held i (x / 4096) ≡ false). absurd (differs (clean_told d i x sound disk_of told behind inside (clean_unheld i x none))))
+      (cases_Bool (is_held i (x / 4096))),
+)
