@@ -3,17 +3,17 @@ use Rattle.std.proofs.Common.{◌≡◌, ◌≢◌, ℕ, ◌+◌, ◌<◌, ◌�
 use Rattle.std.specs.List.{All, Contains}
 use Rattle.std.proofs.lemmas.List.{append-nil}
 use Rattle.std.proofs.lemmas.List.Elements.{All-nil, All-push, All-contains}
-use Rattle.name_buckets.specs.declared.table.EntryKind.{EntryKind}
-use Rattle.name_buckets.specs.Hash.{bucket_number}
-use Rattle.name_buckets.specs.Tables.{Table}
-use Rattle.name_buckets.specs.Links.{LeadsTo}
-use Rattle.name_buckets.specs.Rules.{StandsIn, IsBucketList, HasBucketLists, IsBrokenBucket}
+use Rattle.entry_tables.specs.declared.table.EntryKind.{EntryKind}
+use Rattle.entry_tables.specs.Hash.{bucket_number}
+use Rattle.entry_tables.specs.Tables.{Table}
+use Rattle.entry_tables.specs.Links.{LeadsTo}
+use Rattle.entry_tables.specs.Rules.{StandsIn, IsBucketList, HasBucketLists, IsBrokenBucket}
 use Rattle.name_buckets.specs.Replies.{IsEntryOf}
 use Rattle.name_buckets.specs.declared.find.Look.{Look}
 use Rattle.name_buckets.specs.declared.find.Look.TheVariants.{Found, Other}
 use Rattle.name_buckets.specs.Looks.{Matches, IsLook}
-use Rattle.name_buckets.proofs.StayLemmas.{SameEntry}
-use Rattle.name_buckets.proofs.LinkLemmas.{LeadsTo-push, reached, whole_list, whole_front, few_between}
+use Rattle.entry_tables.proofs.StayLemmas.{SameEntry}
+use Rattle.entry_tables.proofs.LinkLemmas.{LeadsTo-push, reached, whole_list, whole_front, few_between}
 
 -- so many entries were passed, none of which matches
 pub record HasPassed (kind : EntryKind) (t : Table) (parent : ℕ) (name : List ℕ) (bucket steps e : ℕ) : Type 0 where

@@ -7,16 +7,16 @@ use Rattle.std.proofs.lemmas.Bool.{false≢true}
 use Rattle.std.proofs.lemmas.Bool.Decides.{Decides-eqb}
 use Rattle.std.proofs.lemmas.List.Elements.{All-nil, All-push, All-contains, Contains-append_left}
 use Rattle.std.proofs.lemmas.Map.Made.{is_member-Decides}
-use Rattle.name_buckets.specs.declared.table.EntryKind.{EntryKind}
-use Rattle.name_buckets.specs.declared.table.TableInfo.{TableInfo}
-use Rattle.name_buckets.specs.Kinds.{link_offset}
-use Rattle.name_buckets.specs.Tables.{Table, entry_place}
-use Rattle.name_buckets.specs.Links.{LeadsTo, LeadsToEnd, last_of}
-use Rattle.name_buckets.specs.Rules.{CanBeFreed, HasFreedList, NamesWrongly}
-use Rattle.name_buckets.specs.Layout.{LiesWithin, IsNeeded, OfZero, OfFreed}
+use Rattle.entry_tables.specs.declared.table.EntryKind.{EntryKind}
+use Rattle.entry_tables.specs.declared.table.TableInfo.{TableInfo}
+use Rattle.entry_tables.specs.Kinds.{link_offset}
+use Rattle.entry_tables.specs.Tables.{Table, entry_place}
+use Rattle.entry_tables.specs.Links.{LeadsTo, LeadsToEnd, last_of}
+use Rattle.entry_tables.specs.Rules.{CanBeFreed, HasFreedList, NamesWrongly}
+use Rattle.entry_tables.specs.Layout.{LiesWithin, IsNeeded, OfZero, OfFreed}
 use Rattle.name_buckets.specs.Replies.{IsRoom}
-use Rattle.name_buckets.proofs.EntryLemmas.{link_last, least_some}
-use Rattle.name_buckets.proofs.LinkLemmas.{LeadsTo-push, last_of-push, Contains-head, Contains-tail, whole_list, LeadsTo-distinct, few_between}
+use Rattle.entry_tables.proofs.EntryLemmas.{link_last, least_some}
+use Rattle.entry_tables.proofs.LinkLemmas.{LeadsTo-push, last_of-push, Contains-head, Contains-tail, whole_list, LeadsTo-distinct, few_between}
 
 -- so many freed entries were passed, up to one
 pub record HasFollowed (kind : EntryKind) (t : Table) (steps from : ℕ) : Type 0 where

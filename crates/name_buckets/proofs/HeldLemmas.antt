@@ -4,11 +4,11 @@ use Rattle.save_bytes.specs.declared.space.Bad.{Bad}
 use Rattle.save_bytes.specs.State.{Shape, State}
 use Rattle.save_bytes.specs.Spots.{Spot}
 use Rattle.save_bytes.specs.Reads.{Reads}
-use Rattle.name_buckets.specs.declared.table.EntryKind.{EntryKind}
+use Rattle.entry_tables.specs.declared.table.EntryKind.{EntryKind}
 use Rattle.name_buckets.specs.declared.view.Entries.{Entries}
-use Rattle.name_buckets.specs.Layout.{HasCounts, HasEntryTables}
+use Rattle.entry_tables.specs.Layout.{HasCounts, HasEntryTables}
 use Rattle.name_buckets.specs.Held.{tables_of, place_of, HoldsTables, TellsTableOf, ReadsEntries}
-use Rattle.name_buckets.proofs.StayLemmas.{SameEntry, count_stays, entry_stays, tells_later}
+use Rattle.entry_tables.proofs.StayLemmas.{SameEntry, count_stays, entry_stays, tells_later}
 
 module _ {S : Type 0} (states : S → State) (keeps : Spot → S → S → Type 0) (lands : S → ℕ → Spot → Type 0) (old new : Entries S)
     (tables : HoldsTables states old) where

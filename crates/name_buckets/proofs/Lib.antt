@@ -1,10 +1,5 @@
-pub mod ByteLemmas
-pub mod EntryLemmas
-pub mod LinkLemmas
-pub mod StayLemmas
-pub mod CauseLemmas
-pub mod FindLemmas
 pub mod LookLemmas
+pub mod FindLemmas
 pub mod FreeLemmas
 pub mod HeldLemmas
 pub mod ChildLemmas

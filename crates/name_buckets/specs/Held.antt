@@ -5,11 +5,11 @@ use Rattle.save_bytes.specs.declared.space.Bad.{Bad}
 use Rattle.save_bytes.specs.State.{State}
 use Rattle.save_bytes.specs.Spots.{Spot}
 use Rattle.save_bytes.specs.Reads.{Reads}
-use Rattle.name_buckets.specs.declared.table.EntryKind.{EntryKind}
-use Rattle.name_buckets.specs.declared.table.TableInfo.{TableInfo}
+use Rattle.entry_tables.specs.declared.table.EntryKind.{EntryKind}
+use Rattle.entry_tables.specs.declared.table.TableInfo.{TableInfo}
 use Rattle.name_buckets.specs.declared.view.Entries.{Entries}
-use Rattle.name_buckets.specs.Tables.{Tables, tables_in, info_of}
-use Rattle.name_buckets.specs.Layout.{HasEntryTables, TellsEntryTable}
+use Rattle.entry_tables.specs.Tables.{Tables, tables_in, info_of}
+use Rattle.entry_tables.specs.Layout.{HasEntryTables, TellsEntryTable}
 
 -- what a contract sees of the space, its tables, and where one stands
 abbrev pub space_of : {S : Type 0} → (S → State) → Entries S → State

@@ -1,11 +1,11 @@
 -- One entry of a bucket's list, looked at for a parent and a name.
 use Rattle.std.specs.Prelude.{◌≡◌, ℕ, List, take, drop}
 use Rattle.save_bytes.specs.Fields.{number_at}
-use Rattle.name_buckets.specs.declared.table.EntryKind.{EntryKind}
+use Rattle.entry_tables.specs.declared.table.EntryKind.{EntryKind}
 use Rattle.name_buckets.specs.declared.find.Look.{Look}
 use Rattle.name_buckets.specs.declared.find.Look.TheVariants.{Found, Other}
-use Rattle.name_buckets.specs.Kinds.{IsRoot}
-use Rattle.name_buckets.specs.Tables.{Table}
+use Rattle.entry_tables.specs.Kinds.{IsRoot}
+use Rattle.entry_tables.specs.Tables.{Table}
 
 -- an entry's bytes have this parent and name
 pub record HasKey (entry : List ℕ) (parent : ℕ) (name : List ℕ) : Type 0 where

@@ -4,17 +4,16 @@ ghost use Rattle.std.specs.Prelude.{◌≡◌, ◌↔◌, ◌+◌, ◌*◌, ◌<
 ghost use Rattle.std.specs.Result.{result_err};
 ghost use Rattle.save_bytes.specs.Refusals.{IfDamaged, NeverDamaged};
 ghost use Rattle.save_bytes.specs.Reads.{Reads};
-ghost use Rattle.name_buckets.specs.Kinds.{entry_size, bucket_table};
-ghost use Rattle.name_buckets.specs.Hash.{bucket_number};
-ghost use Rattle.name_buckets.specs.Tables.{table_in, entry_place};
-ghost use Rattle.name_buckets.specs.Rules.{HasBucketLists, IsBrokenBucket};
-ghost use Rattle.name_buckets.specs.Layout.{HasEntryTable, TellsEntryTable, BlamesRead};
-ghost use Rattle.name_buckets.specs.Replies.{bad_of, HasEntryCause, IsFoundEntry};
+ghost use Rattle.entry_tables.specs.Kinds.{entry_size, bucket_table};
+ghost use Rattle.entry_tables.specs.Hash.{bucket_number};
+ghost use Rattle.entry_tables.specs.Tables.{table_in, entry_place};
+ghost use Rattle.entry_tables.specs.Rules.{HasBucketLists, IsBrokenBucket};
+ghost use Rattle.entry_tables.specs.Layout.{HasEntryTable, TellsEntryTable, BlamesRead};
+ghost use Rattle.entry_tables.specs.Causes.{bad_of, HasEntryCause};
+ghost use Rattle.name_buckets.specs.Replies.{IsFoundEntry};
 ghost use Rattle.name_buckets.specs.Looks.{HasKey, IsLook};
 
-use crate::hash::bucket;
-use crate::reads::{entry_bytes, read_counts};
-use crate::table::{EntryFault, EntryKind, TableInfo};
+use entry_tables::{EntryFault, EntryKind, TableInfo, bucket, entry_bytes, read_counts};
 use save_bytes::{Bad, Name, Space, space_u32, u32_at};
 
 /// What stands at one place of a bucket's list.

@@ -2,14 +2,14 @@
 
 ghost use Rattle.std.specs.Prelude.{◌≡◌, IsTrue, IfOk};
 ghost use Rattle.save_bytes.specs.Reads.{Reads};
-ghost use Rattle.name_buckets.specs.Kinds.{table_number};
-ghost use Rattle.name_buckets.specs.Tables.{table_in};
-ghost use Rattle.name_buckets.specs.Rules.{HasFreedList, NamesWrongly};
-ghost use Rattle.name_buckets.specs.Layout.{HasEntryTable, TellsEntryTable};
-ghost use Rattle.name_buckets.specs.Replies.{bad_of, HasEntryCause, IsRoom};
+ghost use Rattle.entry_tables.specs.Kinds.{table_number};
+ghost use Rattle.entry_tables.specs.Tables.{table_in};
+ghost use Rattle.entry_tables.specs.Rules.{HasFreedList, NamesWrongly};
+ghost use Rattle.entry_tables.specs.Layout.{HasEntryTable, TellsEntryTable};
+ghost use Rattle.entry_tables.specs.Causes.{bad_of, HasEntryCause};
+ghost use Rattle.name_buckets.specs.Replies.{IsRoom};
 
-use crate::reads::{entry_word, read_counts};
-use crate::table::{EntryFault, EntryKind, TableInfo};
+use entry_tables::{EntryFault, EntryKind, TableInfo, entry_word, read_counts};
 use save_bytes::Space;
 
 /// How many entries can be added to a table: those that were never used, and the freed ones, which are counted along

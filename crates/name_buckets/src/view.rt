@@ -1,20 +1,20 @@
 //! The entries of the tables in a space.
 
 ghost use Rattle.std.specs.Prelude.{◌≡◌, ◌<◌, IfOk};
-ghost use Rattle.name_buckets.specs.declared.table.EntryKind.TheVariants.{Dir, File};
-ghost use Rattle.name_buckets.specs.Kinds.{table_number, bucket_table};
-ghost use Rattle.name_buckets.specs.Hash.{bucket_number};
-ghost use Rattle.name_buckets.specs.Tables.{info_of};
-ghost use Rattle.name_buckets.specs.Used.{used_entries};
-ghost use Rattle.name_buckets.specs.Rules.{HasFreedList, HasBucketLists, NamesWrongly, IsBrokenBucket};
-ghost use Rattle.name_buckets.specs.Layout.{HasEntryTables};
-ghost use Rattle.name_buckets.specs.Replies.{bad_of, HasEntryCause, IsFoundEntry, IsRoom, IsFirstChild, IsNextChild};
+ghost use Rattle.entry_tables.specs.declared.table.EntryKind.TheVariants.{Dir, File};
+ghost use Rattle.entry_tables.specs.Kinds.{table_number, bucket_table};
+ghost use Rattle.entry_tables.specs.Hash.{bucket_number};
+ghost use Rattle.entry_tables.specs.Tables.{info_of};
+ghost use Rattle.entry_tables.specs.Used.{used_entries};
+ghost use Rattle.entry_tables.specs.Rules.{HasFreedList, HasBucketLists, NamesWrongly, IsBrokenBucket};
+ghost use Rattle.entry_tables.specs.Layout.{HasEntryTables};
+ghost use Rattle.entry_tables.specs.Causes.{bad_of, HasEntryCause};
+ghost use Rattle.name_buckets.specs.Replies.{IsFoundEntry, IsRoom, IsFirstChild, IsNextChild};
 ghost use Rattle.name_buckets.specs.Held.{space_of, tables_of, place_of, HoldsTables, TellsTableOf, IsEntriesIn, ReadsEntries};
 
-use crate::fields::{fields_in, name_in, word_in};
 use crate::find::find_in;
 use crate::free::free_in;
-use crate::table::{EntryFault, EntryKind, FileFields, TableInfo};
+use entry_tables::{EntryFault, EntryKind, FileFields, TableInfo, fields_in, name_in, word_in};
 use save_bytes::{Name, Space};
 
 /// The entries of the two tables in a space, with their buckets.

@@ -1,13 +1,13 @@
 use Rattle.std.proofs.Common.{◌≡◌, ◌+◌, ◌*◌, ◌<◌, ◌≤◌, Some, refl, sym, ◌∙◌, arith}
 use Rattle.save_bytes.proofs.SpaceLemmas.{IfDamaged-map}
-use Rattle.name_buckets.specs.Hash.{bucket_number}
-use Rattle.name_buckets.specs.Kinds.{entry_size}
-use Rattle.name_buckets.specs.Tables.{table_in, entry_place, bucket_place}
-use Rattle.name_buckets.specs.Layout.{OfBucket, OfUsed}
-use Rattle.name_buckets.proofs.EntryLemmas.{least_some}
+use Rattle.entry_tables.specs.Hash.{bucket_number}
+use Rattle.entry_tables.specs.Kinds.{entry_size}
+use Rattle.entry_tables.specs.Tables.{table_in, entry_place, bucket_place}
+use Rattle.entry_tables.specs.Layout.{OfBucket, OfUsed}
+use Rattle.entry_tables.proofs.EntryLemmas.{least_some}
 use Rattle.save_bytes.proofs.CallLemmas.{reads_then}
-use Rattle.name_buckets.proofs.StayLemmas.{head_stays, HasEntryTable-stays, entry_fits, needed_read, fault_read}
-use Rattle.name_buckets.proofs.CauseLemmas.{passed_on, bad_cause, broken_cause, plain_stays}
+use Rattle.entry_tables.proofs.StayLemmas.{head_stays, HasEntryTable-stays, entry_fits, needed_read, fault_read}
+use Rattle.entry_tables.proofs.CauseLemmas.{passed_on, bad_cause, broken_cause, plain_stays}
 use Rattle.name_buckets.proofs.FindLemmas.{HasPassed-none, HasPassed-more, passed_stands, match_found, none_found, broken_past, broken_long}
 use Rattle.name_buckets.proofs.LookLemmas.{look_stays}
 use Rattle.name_buckets.proofs.find.find_in.Given.{Over}

@@ -1,8 +1,8 @@
 use Rattle.std.proofs.Common.{None}
 use Rattle.save_bytes.specs.Reads.{Reads}
-use Rattle.name_buckets.specs.Tables.{table_in}
-use Rattle.name_buckets.specs.Layout.{TellsEntryTable}
-use Rattle.name_buckets.specs.Hash.{bucket_number}
+use Rattle.entry_tables.specs.Tables.{table_in}
+use Rattle.entry_tables.specs.Layout.{TellsEntryTable}
+use Rattle.entry_tables.specs.Hash.{bucket_number}
 use Rattle.name_buckets.proofs.FindLemmas.{HasPassed}
 use Rattle.name_buckets.proofs.find.find_in.Given as goal
 

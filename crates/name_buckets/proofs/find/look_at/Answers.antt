@@ -1,10 +1,11 @@
 use Rattle.std.proofs.Common.{◌≡◌, sym, ◌∙◌, length, arith}
 use Rattle.std.proofs.lemmas.Bool.{false≢true}
 use Rattle.std.proofs.lemmas.List.{places}
-use Rattle.name_buckets.specs.Kinds.{entry_size}
+use Rattle.entry_tables.specs.Kinds.{entry_size}
 use Rattle.name_buckets.specs.Looks.{Matches}
-use Rattle.name_buckets.specs.Tables.{table_in}
-use Rattle.name_buckets.proofs.EntryLemmas.{link_read, matches_read, key_read}
+use Rattle.entry_tables.specs.Tables.{table_in}
+use Rattle.entry_tables.proofs.EntryLemmas.{link_read}
+use Rattle.name_buckets.proofs.LookLemmas.{matches_read, key_read}
 use Rattle.name_buckets.proofs.find.look_at.Goals.{else-not-is_root-via-then-not-is_root+else-has_key, else-not-is_root-via-else-not-is_root}
 use Rattle.name_buckets.proofs.find.look_at.Goals as goal
 

@@ -1,16 +1,16 @@
 use Rattle.std.proofs.Common.{◌+◌, ◌≤◌, Some, refl, sym, ◌∙◌, arith}
 use Rattle.save_bytes.specs.State.{State}
 use Rattle.save_bytes.proofs.SpaceLemmas.{IfDamaged-map}
-use Rattle.name_buckets.specs.declared.table.EntryKind.{EntryKind}
-use Rattle.name_buckets.specs.declared.table.TableInfo.{TableInfo}
-use Rattle.name_buckets.specs.Kinds.{table_number, link_offset}
-use Rattle.name_buckets.specs.Tables.{table_in, entry_place}
-use Rattle.name_buckets.specs.Layout.{HasCounts, TellsEntryTable}
-use Rattle.name_buckets.specs.Rules.{CanBeFreed}
-use Rattle.name_buckets.proofs.EntryLemmas.{least_some, link_last}
+use Rattle.entry_tables.specs.declared.table.EntryKind.{EntryKind}
+use Rattle.entry_tables.specs.declared.table.TableInfo.{TableInfo}
+use Rattle.entry_tables.specs.Kinds.{table_number, link_offset}
+use Rattle.entry_tables.specs.Tables.{table_in, entry_place}
+use Rattle.entry_tables.specs.Layout.{HasCounts, TellsEntryTable}
+use Rattle.entry_tables.specs.Rules.{CanBeFreed}
+use Rattle.entry_tables.proofs.EntryLemmas.{least_some, link_last}
 use Rattle.save_bytes.proofs.CallLemmas.{reads_then}
-use Rattle.name_buckets.proofs.StayLemmas.{HasEntryTable-stays, entry_fits, needed_read}
-use Rattle.name_buckets.proofs.CauseLemmas.{passed_on, bad_cause, broken_cause, plain_stays}
+use Rattle.entry_tables.proofs.StayLemmas.{HasEntryTable-stays, entry_fits, needed_read}
+use Rattle.entry_tables.proofs.CauseLemmas.{passed_on, bad_cause, broken_cause, plain_stays}
 use Rattle.name_buckets.proofs.LookLemmas.{link_stays}
 use Rattle.name_buckets.proofs.FreeLemmas.{HasFollowed-more, followed_below, followed_needed, room_counted, wrong_number, named_before}
 use Rattle.name_buckets.proofs.free.free_in.Goals.{then-next-least_freed-via-then-next-least_freed}

@@ -1,7 +1,7 @@
 use Rattle.std.proofs.Common.{None}
 use Rattle.save_bytes.specs.Reads.{Reads}
-use Rattle.name_buckets.specs.Layout.{TellsEntryTable}
-use Rattle.name_buckets.specs.Tables.{table_in}
+use Rattle.entry_tables.specs.Layout.{TellsEntryTable}
+use Rattle.entry_tables.specs.Tables.{table_in}
 use Rattle.name_buckets.proofs.FreeLemmas.{HasFollowed}
 use Rattle.name_buckets.proofs.free.free_in.Given as goal
 

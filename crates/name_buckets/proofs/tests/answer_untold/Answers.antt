@@ -1,5 +1,5 @@
 use Rattle.std.proofs.Common.{refl, lit≤}
-use Rattle.name_buckets.specs.declared.table.EntryKind.TheVariants.{Dir, File}
+use Rattle.entry_tables.specs.declared.table.EntryKind.TheVariants.{Dir, File}
 use Rattle.name_buckets.proofs.tests.answer_untold.Goals as goal
 
 pub new-entries-requires : goal.new-entries-requires

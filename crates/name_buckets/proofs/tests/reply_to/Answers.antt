@@ -1,5 +1,5 @@
 use Rattle.std.proofs.Common.{◌≤◌, length, ap, lit≤, arith}
-use Rattle.name_buckets.specs.declared.table.EntryKind.TheVariants.{Dir, File}
+use Rattle.entry_tables.specs.declared.table.EntryKind.TheVariants.{Dir, File}
 use Rattle.name_buckets.proofs.tests.reply_to.Goals as goal
 
 pub new-entries-requires : goal.new-entries-requires

@@ -1,5 +1,5 @@
 use Rattle.std.proofs.Common.{refl}
-use Rattle.name_buckets.specs.declared.table.EntryKind.TheVariants.{Dir}
+use Rattle.entry_tables.specs.declared.table.EntryKind.TheVariants.{Dir}
 use Rattle.name_buckets.proofs.HeldLemmas.{entries_read}
 use Rattle.name_buckets.proofs.view.Entries.first.Goals as goal
 

@@ -1,0 +1,57 @@
+-- Why calls on entries are refused.
+use Rattle.std.proofs.Common.{◌≡◌, ℕ, ◌+◌, ◌≤◌, IsTrue, Result, Ok, Err, Some, ap, subst, sym, arith}
+use Rattle.std.specs.Result.{IsErrAnd}
+use Rattle.save_bytes.specs.declared.space.Bad.{Bad}
+use Rattle.save_bytes.specs.State.{Shape, State}
+use Rattle.save_bytes.specs.Refusals.{IfDamaged, NeverDamaged}
+use Rattle.entry_tables.specs.declared.table.EntryKind.{EntryKind}
+use Rattle.entry_tables.specs.declared.table.TableInfo.{TableInfo}
+use Rattle.entry_tables.specs.declared.table.EntryFault.{EntryFault}
+use Rattle.entry_tables.specs.declared.table.EntryFault.TheVariants as fault
+use Rattle.entry_tables.specs.Kinds.{entry_size}
+use Rattle.entry_tables.specs.Tables.{table_in, entry_place}
+use Rattle.entry_tables.specs.Used.{used_entries}
+use Rattle.entry_tables.specs.Layout.{TellsEntryTable, IsNeeded, OfZero, OfUsed, BlamesNeeded, IsReadAt, AtZero, AtPlace, BlamesRead}
+use Rattle.entry_tables.specs.Causes.{HasEntryCause}
+use Rattle.save_bytes.proofs.SpaceLemmas.{IfDamaged-map}
+
+-- a refusal of the space is passed on
+pub passed_on : {A : Type 0} (result : Result A EntryFault) (bad : Bad) → IsErrAnd result (λ found. found ≡ fault.Bad bad) → result ≡ Err (fault.Bad bad)
+passed_on (Ok value) bad h = absurd h
+passed_on (Err found) bad h = ap Err h
+
+module _ {A : Type 0} (s : State) (kind : EntryKind) (info : TableInfo) (Rule : Type 0) (Fails : ℕ → ℕ → Type 0) where
+  pub bad_cause : (bad : Bad) → (TellsEntryTable s kind info → Rule → IfDamaged (Some bad) (BlamesNeeded kind info s.cells))
+      → (IsTrue s.shape.plain → NeverDamaged (Some bad)) → HasEntryCause {A = A} s kind info Rule Fails (Err (fault.Bad bad))
+  bad_cause bad damaged plain = record { damaged = damaged; plain = plain; broken = λ tells. tt; never_full = tt }
+
+  pub broken_cause : (table entry : ℕ) → (TellsEntryTable s kind info → Fails table entry)
+      → HasEntryCause {A = A} s kind info Rule Fails (Err (fault.Broken table entry))
+  broken_cause table entry fails = record { damaged = λ tells rule. tt; plain = λ plain. tt; broken = fails; never_full = tt }
+
+-- what is plain stays plain
+pub plain_stays : (old new : Shape) → new ≡ old → IsTrue old.plain → IsTrue new.plain
+plain_stays old new same plain = subst (λ (shape : Shape). IsTrue shape.plain) (sym same) plain
+
+-- the bytes of a used entry are needed
+module _ (s : State) (kind : EntryKind) (info : TableInfo) (entry offset n : ℕ) (fits : offset + n ≤ entry_size kind)
+    (used : used_entries (table_in s.cells kind info) entry) where
+  needed_place : (x : ℕ) → IsReadAt kind info (entry_place kind info entry + offset) n x → IsNeeded kind info (table_in s.cells kind info) x
+  needed_place x (AtZero within) = OfZero within
+  needed_place x (AtPlace within) = OfUsed entry used (record { from = omega (arith, within.from); before = omega (arith, within.before, fits) })
+
+  needed_entry : (part level block : ℕ)
+      → BlamesRead kind info (entry_place kind info entry + offset) n s.cells part level block
+      → BlamesNeeded kind info s.cells part level block
+  needed_entry part level block h = record { place = h.place; needed = needed_place h.place h.read; blames = h.blames }
+
+pub entry_cause : {A : Type 0} (s : State) (kind : EntryKind) (info : TableInfo) (entry offset n : ℕ) (result : Result A EntryFault)
+    (bad : Bad) → offset + n ≤ entry_size kind → IsErrAnd result (λ found. found ≡ fault.Bad bad)
+    → (IsTrue s.told → IfDamaged (Some bad) (BlamesRead kind info (entry_place kind info entry + offset) n s.cells))
+    → (IsTrue s.shape.plain → NeverDamaged (Some bad))
+    → HasEntryCause s kind info (used_entries (table_in s.cells kind info) entry) (λ table place. ⊥) result
+entry_cause s kind info entry offset n result bad fits is damaged plain =
+    rw (passed_on result bad is)
+    (bad_cause s kind info (used_entries (table_in s.cells kind info) entry) (λ table place. ⊥) bad
+    (λ tells used. IfDamaged-map (Some bad) (needed_entry s kind info entry offset n fits used) (damaged tells.told))
+    plain)

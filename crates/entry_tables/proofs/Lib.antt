@@ -1,0 +1,5 @@
+pub mod ByteLemmas
+pub mod EntryLemmas
+pub mod LinkLemmas
+pub mod StayLemmas
+pub mod CauseLemmas

@@ -1,0 +1,15 @@
+//! The tables of directories and files and their buckets: what they hold, the rules of both, and reading them.
+#![tactic(auto)]
+
+mod fields;
+mod hash;
+mod reads;
+mod table;
+
+pub use fields::{fields_in, name_in, word_in};
+pub use hash::bucket;
+pub use reads::{Counts, entry_bytes, entry_word, read_counts};
+pub use table::{EntryFault, EntryKind, FileFields, TableInfo};
+
+#[cfg(test)]
+mod tests;
