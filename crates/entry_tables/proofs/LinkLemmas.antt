@@ -132,6 +132,15 @@ LeadsTo-distinct next from (x ∷ xs) e leads apart =
     (λ i h. ne_eqb x (get_or xs i 0) (once (get_or xs i 0) (Contains-get_or xs i 0 h)))))
     (LeadsTo-distinct next (next x) xs e leads.2 apart_tail)
 
+-- so are those of a list that ends
+linked_apart : (next : ℕ → ℕ) (from : ℕ) (list : List ℕ) → LeadsToEnd next from list → ¬ Contains list 0
+linked_apart next from [] linked (k, h, is) = omega (arith, h)
+linked_apart next from (x ∷ xs) linked (zero, h, is) = linked.1 (sym linked.0 ∙ linked.0 ∙ is)
+linked_apart next from (x ∷ xs) linked (suc k, h, is) = linked_apart next (next x) xs linked.2 (k, omega (arith, h), is)
+
+pub linked_distinct : (next : ℕ → ℕ) (from : ℕ) (list : List ℕ) → LeadsToEnd next from list → IsDistinct nat_eq list
+linked_distinct next from list linked = LeadsTo-distinct next from list 0 linked (linked_apart next from list linked)
+
 -- distinct numbers from 1 below n are fewer than n
 pub few_between : (xs : List ℕ) (n : ℕ) → 1 ≤ n → IsDistinct nat_eq xs → ((e : ℕ) → Contains xs e → (1 ≤ e) × (e < n)) → length xs < n
 few_between xs n some distinct between =

@@ -1,5 +1,7 @@
 -- A table stays where the cells of its space do.
-use Rattle.std.proofs.Common.{◌≡◌, ℕ, ◌+◌, ◌<◌, ◌≤◌, List, IsTrue, None, sym, ◌∙◌, ap, subst, arith}
+use Rattle.std.proofs.Common.{◌≡◌, ℕ, ◌+◌, ◌<◌, ◌≤◌, Bool, true, false, nat_lt, if◌then◌else◌, List, [], IsTrue, Option, None, refl, sym, ap, subst, arith}
+use Rattle.std.proofs.Math.Path.{fun_ext}
+use Rattle.std.proofs.lemmas.Bool.{ltb-true, and_parts}
 use Rattle.save_bytes.specs.Fields.{number_at}
 use Rattle.save_bytes.specs.Cells.{Cell, Blames}
 use Rattle.save_bytes.specs.CellNumbers.{bytes_in, number_in}
@@ -9,17 +11,17 @@ use Rattle.save_bytes.specs.Stays.{Stays}
 use Rattle.entry_tables.specs.declared.table.EntryKind.{EntryKind}
 use Rattle.entry_tables.specs.declared.table.TableInfo.{TableInfo}
 use Rattle.entry_tables.specs.Kinds.{entry_size, link_offset}
-use Rattle.entry_tables.specs.Tables.{Table, table_in, entry_place, bucket_place}
+use Rattle.entry_tables.specs.Tables.{table_in, most_in, is_entry, entry_place, bucket_place}
 use Rattle.entry_tables.specs.Layout.{LiesWithin, HasCounts, HasEntryTable, TellsEntryTable, IsNeeded, OfZero, BlamesNeeded, IsReadAt, AtZero}
 use Rattle.entry_tables.specs.Layout.{AtPlace, BlamesRead}
 use Rattle.save_bytes.proofs.CellLemmas.{bytes_in-same}
 use Rattle.entry_tables.proofs.EntryLemmas.{link_last, entry_long}
 
--- two tables have the same entry
-pub record SameEntry (old new : Table) (e : ℕ) : Type 0 where
-  pub parent : new.parent e ≡ old.parent e
-  pub name : new.name e ≡ old.name e
-  pub link : new.link e ≡ old.link e
+-- a field that stands in cells that stay
+field_same : {A : Type 0} (here : Bool) (none new old : A) → (here ≡ true → new ≡ old)
+    → (if here then new else none) ≡ (if here then old else none)
+field_same true none new old same = same refl
+field_same false none new old same = refl
 
 module _ (old new : State) (stays : Stays old new None) where
   same_size : new.shape.size ≡ old.shape.size
@@ -40,7 +42,7 @@ module _ (old new : State) (stays : Stays old new None) where
     pub count_stays : IsTrue old.told → (table_in new.cells kind info).count ≡ (table_in old.cells kind info).count
     count_stays told = number_stays 4 info.table_at told (omega (arith, table.zero, entry_long kind))
 
-    most_stays : IsTrue old.told → (table_in new.cells kind info).most ≡ (table_in old.cells kind info).most
+    most_stays : IsTrue old.told → most_in new.cells info ≡ most_in old.cells info
     most_stays told = number_stays 4 (info.table_at + 4) told (omega (arith, table.zero, entry_long kind))
 
     -- the table still lies in the space
@@ -60,28 +62,62 @@ module _ (old new : State) (stays : Stays old new None) where
       most = λ known. omega (arith, count_stays tells.told, most_stays tells.told, tells.most (had_counts tells.told known));
     }
 
-    module _ (tells : TellsEntryTable old kind info) (known : HasCounts old.cells info) (e : ℕ)
-        (below : e < (table_in old.cells kind info).count) where
-      -- an entry lies in the space, and is as it was
-      pub entry_fits : entry_place kind info e + entry_size kind ≤ old.shape.size
-      entry_fits = tells.entries known e (omega (arith, below, tells.most known))
+    module _ (tells : TellsEntryTable old kind info) (known : HasCounts old.cells info) where
+      -- an entry lies in the space
+      pub entry_fits : (e : ℕ) → e < most_in old.cells info → entry_place kind info e + entry_size kind ≤ old.shape.size
+      entry_fits e below = tells.entries known e below
 
-      pub entry_stays : SameEntry (table_in old.cells kind info) (table_in new.cells kind info) e
-      entry_stays = record {
-        parent = number_stays 4 (entry_place kind info e) tells.told (omega (arith, entry_fits, entry_long kind));
-        name = bytes_stay 16 (entry_place kind info e + 4) tells.told (omega (arith, entry_fits, entry_long kind));
-        link = number_stays 4 (entry_place kind info e + link_offset kind) tells.told (omega (arith, entry_fits, link_last kind));
+      entry_field : {A : Type 0} (e : ℕ) (none new_value old_value : A) → (e < most_in old.cells info → new_value ≡ old_value)
+          → (if is_entry (most_in new.cells info) e then new_value else none) ≡ (if is_entry (most_in old.cells info) e then old_value else none)
+      entry_field e none new_value old_value same =
+          rw (most_stays tells.told)
+          (field_same (is_entry (most_in old.cells info) e) none new_value old_value
+          (λ here. same (ltb-true e (most_in old.cells info) (and_parts (nat_lt 0 e) (nat_lt e (most_in old.cells info)) here).1)))
+
+      entry_number : (e offset : ℕ) → offset + 4 ≤ entry_size kind → e < most_in old.cells info
+          → number_in 4 new.cells (entry_place kind info e + offset) ≡ number_in 4 old.cells (entry_place kind info e + offset)
+      entry_number e offset inside below =
+          number_stays 4 (entry_place kind info e + offset) tells.told (omega (arith, inside, entry_fits e below))
+
+      -- each field is as it was
+      pub table_stays : table_in new.cells kind info ≡ table_in old.cells kind info
+      table_stays = λ i. record {
+        count = count_stays tells.told i;
+        most = most_stays tells.told i;
+        buckets = info.buckets;
+        head = fun_ext heads i;
+        parent = fun_ext parents i;
+        name = fun_ext names i;
+        sibling = fun_ext siblings i;
+        link = fun_ext links i;
       }
+        where
+          heads : (b : ℕ) → (table_in new.cells kind info).head b ≡ (table_in old.cells kind info).head b
+          heads b =
+              field_same (nat_lt b info.buckets) 0 (number_in 4 new.cells (bucket_place info b)) (number_in 4 old.cells (bucket_place info b))
+              (λ here. number_stays 4 (bucket_place info b) tells.told (omega (arith, ltb-true b info.buckets here, table.buckets)))
 
-      -- a last word that was read is the entry's
-      pub last_word : (word offset : ℕ) → offset ≡ link_offset kind → word ≡ number_in 4 new.cells (entry_place kind info e + offset)
-          → word ≡ (table_in old.cells kind info).link e
-      last_word word offset there is = is ∙ rw there entry_stays.link
+          parents : (e : ℕ) → (table_in new.cells kind info).parent e ≡ (table_in old.cells kind info).parent e
+          parents e =
+              entry_field e 0 (number_in 4 new.cells (entry_place kind info e)) (number_in 4 old.cells (entry_place kind info e))
+              (λ below. number_stays 4 (entry_place kind info e) tells.told (omega (arith, entry_fits e below, entry_long kind)))
 
-    -- a bucket's head is as it was
-    pub head_stays : (bucket : ℕ) → IsTrue old.told → bucket < info.buckets
-        → (table_in new.cells kind info).head bucket ≡ (table_in old.cells kind info).head bucket
-    head_stays bucket told below = number_stays 4 (bucket_place info bucket) told (omega (arith, below, table.buckets))
+          names : (e : ℕ) → (table_in new.cells kind info).name e ≡ (table_in old.cells kind info).name e
+          names e =
+              entry_field e [] (bytes_in new.cells (entry_place kind info e + 4) 16) (bytes_in old.cells (entry_place kind info e + 4) 16)
+              (λ below. bytes_stay 16 (entry_place kind info e + 4) tells.told (omega (arith, entry_fits e below, entry_long kind)))
+
+          siblings : (e : ℕ) → (table_in new.cells kind info).sibling e ≡ (table_in old.cells kind info).sibling e
+          siblings e =
+              entry_field e 0 (number_in 4 new.cells (entry_place kind info e + 0x14)) (number_in 4 old.cells (entry_place kind info e + 0x14))
+              (entry_number e 0x14 (omega (arith, entry_long kind)))
+
+          links : (e : ℕ) → (table_in new.cells kind info).link e ≡ (table_in old.cells kind info).link e
+          links e =
+              rw (most_stays tells.told)
+              (field_same (nat_lt e (most_in old.cells info)) 0 (number_in 4 new.cells (entry_place kind info e + link_offset kind))
+              (number_in 4 old.cells (entry_place kind info e + link_offset kind))
+              (λ here. entry_number e (link_offset kind) (omega (arith, link_last kind)) (ltb-true e (most_in old.cells info) here)))
 
     -- a cell that was read and is no byte is one that is needed
     pub needed_read : IsTrue old.told → (from n part level block : ℕ) → from + n ≤ old.shape.size

@@ -1,6 +1,5 @@
 -- The rules of tables and buckets, on whole lists and sets.
-use Rattle.std.specs.Prelude.{◌≡◌, ◌≢◌, ℕ, ◌<◌, ◌≤◌, List, length, replicate, nat_eq, All, Contains}
-use Rattle.std.specs.List.{IsDistinct}
+use Rattle.std.specs.Prelude.{◌≡◌, ◌≢◌, ℕ, ◌<◌, ◌≤◌, List, length, replicate, All, Contains}
 use Rattle.entry_tables.specs.declared.table.EntryKind.{EntryKind}
 use Rattle.entry_tables.specs.declared.table.EntryKind.TheVariants.{Dir}
 use Rattle.entry_tables.specs.Kinds.{least_freed, IsRoot}
@@ -13,11 +12,10 @@ use Rattle.entry_tables.specs.Used.{freed_entries, used_entries, named_entries, 
 abbrev pub CanBeFreed : EntryKind → Table → ℕ → Type 0
 CanBeFreed kind t e = (least_freed kind ≤ e) × (e < t.count)
 
--- the freed entries are numbers that freed entries can have, none twice
+-- the freed entries are numbers that freed entries can have; none stands twice, since the list ends
 pub record IsFreedList (kind : EntryKind) (t : Table) (list : List ℕ) : Type 0 where
   pub leads : freed_entries t list
   pub inside : All (CanBeFreed kind t) list
-  pub once : IsDistinct nat_eq list
 
 abbrev pub HasFreedList : EntryKind → Table → Type 0
 HasFreedList kind t = (list : List ℕ) × IsFreedList kind t list
@@ -26,12 +24,11 @@ HasFreedList kind t = (list : List ℕ) × IsFreedList kind t list
 pub record IsPlacedEntry (t : Tables) (kind : EntryKind) (e : ℕ) : Type 0 where
   pub parent : used_entries (t.table Dir) ((t.table kind).parent e)
   pub named : (t.table kind).name e ≢ replicate 16 0
-  pub path : (names : List (List ℕ)) × path_of t kind e names × (length names ≤ 64)
+  pub path : (names : List (List ℕ)) × path_of (t.table Dir) (t.table kind) e names × (length names ≤ 64)
 
--- a directory's list, through next siblings, has exactly its entries of a kind, each once
+-- a directory's list, through next siblings, has exactly its entries of a kind; each stands there once, since the list ends
 pub record IsChildList (t : Tables) (kind : EntryKind) (dir : ℕ) (list : List ℕ) : Type 0 where
   pub leads : LeadsToEnd (t.table kind).sibling (t.first kind dir) list
-  pub once : IsDistinct nat_eq list
   pub children : (e : ℕ) → Contains list e → children_of t kind dir e
   pub all : (e : ℕ) → children_of t kind dir e → Contains list e
 
@@ -49,10 +46,9 @@ pub record StandsIn (kind : EntryKind) (t : Table) (bucket e : ℕ) : Type 0 whe
   pub own : ¬ IsRoot kind e → bucket_of t e ≡ bucket
   pub root : IsRoot kind e → bucket_number 0 (replicate 16 0) t.buckets ≡ bucket
 
--- a bucket's list has exactly the entries whose bucket it is, each once, and perhaps the root
+-- a bucket's list has exactly the entries whose bucket it is, and perhaps the root; each once, since the list ends
 pub record IsBucketList (kind : EntryKind) (t : Table) (bucket : ℕ) (list : List ℕ) : Type 0 where
   pub leads : LeadsToEnd t.link (t.head bucket) list
-  pub once : IsDistinct nat_eq list
   pub entries : (e : ℕ) → Contains list e → StandsIn kind t bucket e
   pub all : (e : ℕ) → named_entries kind t e → bucket_of t e ≡ bucket → Contains list e
 

@@ -1,7 +1,6 @@
 -- Which entries there are: sets of numbers, by parent. No list of siblings or of a bucket is followed to find them.
 use Rattle.std.specs.Prelude.{◌≡◌, ℕ, ◌<◌, ◌≤◌, List, [], ◌∷◌, ◌++◌, Contains, map, reverse}
 use Rattle.entry_tables.specs.declared.table.EntryKind.{EntryKind}
-use Rattle.entry_tables.specs.declared.table.EntryKind.TheVariants.{Dir}
 use Rattle.entry_tables.specs.Kinds.{IsRoot}
 use Rattle.entry_tables.specs.Tables.{Table, Tables}
 use Rattle.entry_tables.specs.Links.{LeadsTo, LeadsToEnd}
@@ -27,14 +26,14 @@ pub record children_of (t : Tables) (kind : EntryKind) (dir e : ℕ) : Type 0 wh
   pub parent : (t.table kind).parent e ≡ dir
 
 -- the path of a directory: the names from the root's children down to it, by parents
-pub record dir_path (t : Tables) (dir : ℕ) (path : List (List ℕ)) : Type 0 where
+pub record dir_path (dirs : Table) (dir : ℕ) (path : List (List ℕ)) : Type 0 where
   pub rising : List ℕ
-  pub leads : LeadsTo (t.table Dir).parent dir rising 1
+  pub leads : LeadsTo dirs.parent dir rising 1
   pub below_root : ¬ Contains rising 1
-  pub names : path ≡ reverse (map (t.table Dir).name rising)
+  pub names : path ≡ reverse (map dirs.name rising)
 
--- the path of an entry other than the root: that of its parent, and its name
-pub record path_of (t : Tables) (kind : EntryKind) (e : ℕ) (path : List (List ℕ)) : Type 0 where
+-- the path of an entry other than the root, in a table beside that of the directories: that of its parent, and its name
+pub record path_of (dirs t : Table) (e : ℕ) (path : List (List ℕ)) : Type 0 where
   pub parents_path : List (List ℕ)
-  pub parent : dir_path t ((t.table kind).parent e) parents_path
-  pub names : path ≡ parents_path ++ (t.table kind).name e ∷ []
+  pub parent : dir_path dirs (t.parent e) parents_path
+  pub names : path ≡ parents_path ++ t.name e ∷ []

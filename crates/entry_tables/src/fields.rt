@@ -4,7 +4,7 @@ ghost use Rattle.std.specs.Prelude.{◌≡◌, ◌+◌, ◌<◌, ◌≤◌, IsTr
 ghost use Rattle.save_bytes.specs.CellNumbers.{number_in};
 ghost use Rattle.save_bytes.specs.Reads.{Reads};
 ghost use Rattle.entry_tables.specs.Kinds.{entry_size};
-ghost use Rattle.entry_tables.specs.Tables.{table_in, entry_place};
+ghost use Rattle.entry_tables.specs.Tables.{HasEntry, table_in, most_in, entry_place};
 ghost use Rattle.entry_tables.specs.Used.{used_entries};
 ghost use Rattle.entry_tables.specs.Layout.{HasEntryTable, TellsEntryTable};
 ghost use Rattle.entry_tables.specs.Causes.{bad_of, HasEntryCause};
@@ -24,7 +24,7 @@ pub fn word_in<S: Space>(
 ) -> Result<u32, EntryFault>
     requires table { HasEntryTable (S.state space.old).shape kind info }
     requires inside { offset + 4 ≤ entry_size kind }
-    ensures word { TellsEntryTable (S.state space.old) kind info → entry < (table_in (S.state space.old).cells kind info).count
+    ensures word { TellsEntryTable (S.state space.old) kind info → entry < most_in (S.state space.old).cells info
         → IfOk result (λ word. word ≡ number_in 4 (S.state space.old).cells (entry_place kind info entry + offset)) }
     ensures cause { HasEntryCause (S.state space.old) kind info (used_entries (table_in (S.state space.old).cells kind info) entry)
         (λ _ _. ⊥) result }
@@ -42,7 +42,7 @@ pub fn name_in<S: Space>(
     entry: u32,
 ) -> Result<Name, EntryFault>
     requires { HasEntryTable (S.state space.old).shape kind info }
-    ensures name { TellsEntryTable (S.state space.old) kind info → entry < (table_in (S.state space.old).cells kind info).count
+    ensures name { TellsEntryTable (S.state space.old) kind info → HasEntry (table_in (S.state space.old).cells kind info) entry
         → IfOk result (λ name. name.0 ≡ (table_in (S.state space.old).cells kind info).name entry) }
     ensures cause { HasEntryCause (S.state space.old) kind info (used_entries (table_in (S.state space.old).cells kind info) entry)
         (λ _ _. ⊥) result }
@@ -60,9 +60,9 @@ pub fn fields_in<S: Space>(
     entry: u32,
 ) -> Result<FileFields, EntryFault>
     requires { HasEntryTable (S.state space.old).shape File info }
-    ensures start { TellsEntryTable (S.state space.old) File info → entry < (table_in (S.state space.old).cells File info).count
+    ensures start { TellsEntryTable (S.state space.old) File info → entry < most_in (S.state space.old).cells info
         → IfOk result (λ fields. fields.start ≡ number_in 4 (S.state space.old).cells (entry_place File info entry + 0x1C)) }
-    ensures wide { TellsEntryTable (S.state space.old) File info → entry < (table_in (S.state space.old).cells File info).count
+    ensures wide { TellsEntryTable (S.state space.old) File info → entry < most_in (S.state space.old).cells info
         → IfOk result (λ fields. fields.wide ≡ number_in 8 (S.state space.old).cells (entry_place File info entry + 0x20)) }
     ensures cause { HasEntryCause (S.state space.old) File info (used_entries (table_in (S.state space.old).cells File info) entry)
         (λ _ _. ⊥) result }

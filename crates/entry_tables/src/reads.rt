@@ -8,7 +8,7 @@ ghost use Rattle.save_bytes.specs.Refusals.{IfDamaged, NeverDamaged};
 ghost use Rattle.save_bytes.specs.Answers.{IsRead};
 ghost use Rattle.save_bytes.specs.Reads.{Reads};
 ghost use Rattle.entry_tables.specs.Kinds.{entry_size};
-ghost use Rattle.entry_tables.specs.Tables.{table_in, entry_place};
+ghost use Rattle.entry_tables.specs.Tables.{table_in, most_in, entry_place};
 ghost use Rattle.entry_tables.specs.Layout.{HasCounts, HasEntryTable, TellsEntryTable, BlamesRead};
 
 use crate::table::{EntryKind, TableInfo};
@@ -57,7 +57,7 @@ fn entry_at(len: u64, kind: EntryKind, info: TableInfo, entry: u32) -> Option<u6
 }
 
 /// Copies bytes of an entry, from `offset` in it on, into `out`. Where the entry does not lie in the space, as each
-/// entry below the count does, `out` stays as it is.
+/// entry below the most does, `out` stays as it is.
 pub fn entry_bytes<S: Space>(
     space: &mut S,
     kind: EntryKind,
@@ -68,7 +68,7 @@ pub fn entry_bytes<S: Space>(
 ) -> Result<(), Bad>
     requires table { HasEntryTable (S.state space.old).shape kind info }
     requires inside { offset + length out.old ≤ entry_size kind }
-    ensures bytes { TellsEntryTable (S.state space.old) kind info → entry < (table_in (S.state space.old).cells kind info).count
+    ensures bytes { TellsEntryTable (S.state space.old) kind info → entry < most_in (S.state space.old).cells info
         → OnOk result (AreBytesAt (S.state space.old).cells (entry_place kind info entry + offset) out.new) }
     ensures damaged { IsTrue (S.state space.old).told → IfDamaged (result_err result)
         (BlamesRead kind info (entry_place kind info entry + offset) (length out.old) (S.state space.old).cells) }
@@ -94,7 +94,7 @@ pub fn entry_word<S: Space>(
 ) -> Result<u32, Bad>
     requires table { HasEntryTable (S.state space.old).shape kind info }
     requires inside { offset + 4 ≤ entry_size kind }
-    ensures word { TellsEntryTable (S.state space.old) kind info → entry < (table_in (S.state space.old).cells kind info).count
+    ensures word { TellsEntryTable (S.state space.old) kind info → entry < most_in (S.state space.old).cells info
         → IfOk result (λ word. word ≡ number_in 4 (S.state space.old).cells (entry_place kind info entry + offset)) }
     ensures damaged { IsTrue (S.state space.old).told → IfDamaged (result_err result)
         (BlamesRead kind info (entry_place kind info entry + offset) 4 (S.state space.old).cells) }

@@ -9,11 +9,8 @@ use Rattle.entry_tables.specs.Tables.{Table}
 use Rattle.entry_tables.specs.Links.{LeadsTo}
 use Rattle.entry_tables.specs.Rules.{StandsIn, IsBucketList, HasBucketLists, IsBrokenBucket}
 use Rattle.name_buckets.specs.Replies.{IsEntryOf}
-use Rattle.name_buckets.specs.declared.find.Look.{Look}
-use Rattle.name_buckets.specs.declared.find.Look.TheVariants.{Found, Other}
-use Rattle.name_buckets.specs.Looks.{Matches, IsLook}
-use Rattle.entry_tables.proofs.StayLemmas.{SameEntry}
-use Rattle.entry_tables.proofs.LinkLemmas.{LeadsTo-push, reached, whole_list, whole_front, few_between}
+use Rattle.name_buckets.specs.Looks.{Matches}
+use Rattle.entry_tables.proofs.LinkLemmas.{LeadsTo-push, linked_distinct, reached, whole_list, whole_front, few_between}
 
 -- so many entries were passed, none of which matches
 pub record HasPassed (kind : EntryKind) (t : Table) (parent : ℕ) (name : List ℕ) (bucket steps e : ℕ) : Type 0 where
@@ -21,17 +18,6 @@ pub record HasPassed (kind : EntryKind) (t : Table) (parent : ℕ) (name : List 
   pub leads : LeadsTo t.link (t.head bucket) list e
   pub many : length list ≡ steps
   pub missed : All (λ x. ¬ Matches kind t parent name x) list
-
--- what is seen of an entry is seen of the same one
-pub look_before : (kind : EntryKind) (old new : Table) (parent : ℕ) (name : List ℕ) (e : ℕ) (look : Look) → SameEntry old new e
-    → IsLook kind new parent name e look → IsLook kind old parent name e look
-look_before kind old new parent name e Found same h =
-    record { other = h.other; parent_is = sym same.parent ∙ h.parent_is; name_is = sym same.name ∙ h.name_is }
-look_before kind old new parent name e (Other next) same h = (
-  (λ matches. h.0
-      (record { other = matches.other; parent_is = same.parent ∙ matches.parent_is; name_is = same.name ∙ matches.name_is })),
-  h.1 ∙ same.link,
-)
 
 module _ {kind : EntryKind} {t : Table} {parent : ℕ} {name : List ℕ} {bucket : ℕ} where
   pub HasPassed-none : (e : ℕ) → e ≡ t.head bucket → HasPassed kind t parent name bucket 0 e
@@ -76,7 +62,7 @@ module _ {kind : EntryKind} {t : Table} {parent : ℕ} {name : List ℕ} {bucket
       below = below;
       none = λ list is.
           (let whole = whole_list t.link (t.head bucket) h.list e list h.leads is.leads in
-          let few : length list < t.count = few_between list t.count some is.once
+          let few : length list < t.count = few_between list t.count some (linked_distinct t.link (t.head bucket) list is.leads)
           (λ x within. ((is.entries x within).used.some, (is.entries x within).used.below)) in
           let longer : length list ≡ length h.list + length whole.0 = ap length whole.1 ∙ length-append h.list whole.0 in
           omega (arith, few, longer, h.many, long));

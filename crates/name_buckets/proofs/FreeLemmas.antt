@@ -85,7 +85,6 @@ module _ {kind : EntryKind} {t : Table} {steps from : ℕ} (h : HasFollowed kind
     list = record {
       leads = subst (λ (e : ℕ). LeadsTo t.link (t.link 0) h.front e) ends h.leads;
       inside = h.inside;
-      once = freed_once (λ within. (let can = some_freed kind t h.front (t.link from) h.inside within in omega (arith, can.0, ends)));
     };
     is = rw h.many is;
   }

@@ -1,5 +1,5 @@
 -- What reading calls leave of entries.
-use Rattle.std.proofs.Common.{◌≡◌, ℕ, ◌<◌, Option, None, sym, subst}
+use Rattle.std.proofs.Common.{◌≡◌, ℕ, Option, None, sym, subst}
 use Rattle.save_bytes.specs.declared.space.Bad.{Bad}
 use Rattle.save_bytes.specs.State.{Shape, State}
 use Rattle.save_bytes.specs.Spots.{Spot}
@@ -8,7 +8,7 @@ use Rattle.entry_tables.specs.declared.table.EntryKind.{EntryKind}
 use Rattle.name_buckets.specs.declared.view.Entries.{Entries}
 use Rattle.entry_tables.specs.Layout.{HasCounts, HasEntryTables}
 use Rattle.name_buckets.specs.Held.{tables_of, place_of, HoldsTables, TellsTableOf, ReadsEntries}
-use Rattle.entry_tables.proofs.StayLemmas.{SameEntry, count_stays, entry_stays, tells_later}
+use Rattle.entry_tables.proofs.StayLemmas.{table_stays, tells_later}
 
 module _ {S : Type 0} (states : S → State) (keeps : Spot → S → S → Type 0) (lands : S → ℕ → Spot → Type 0) (old new : Entries S)
     (tables : HoldsTables states old) where
@@ -23,19 +23,13 @@ module _ {S : Type 0} (states : S → State) (keeps : Spot → S → S → Type 
         (subst (λ (shape : Shape). HasEntryTables shape old.dirs old.files) (sym reads.stays.space.shape) tables);
   }
 
-  -- for callers: what a call that only reads leaves of an entry
+  -- for callers: what a call that only reads leaves of a table
   module _ (read : ReadsEntries states keeps lands old new None) (kind : EntryKind) (tells : TellsTableOf states old kind) where
     pub still_tells : TellsTableOf states new kind
     still_tells = rw (read.same.same_dirs, read.same.same_files)
         (tells_later (states old.space.now) (states new.space.now) read.reads.stays kind (place_of old kind) (tables kind) tells)
 
-    pub same_count : ((tables_of states new).table kind).count ≡ ((tables_of states old).table kind).count
-    same_count = rw (read.same.same_dirs, read.same.same_files)
-        (count_stays (states old.space.now) (states new.space.now) read.reads.stays kind (place_of old kind) (tables kind) tells.told)
-
-    pub same_entry : HasCounts (states old.space.now).cells (place_of old kind) → (e : ℕ)
-        → e < ((tables_of states old).table kind).count
-        → SameEntry ((tables_of states old).table kind) ((tables_of states new).table kind) e
-    same_entry known e below = rw (read.same.same_dirs, read.same.same_files)
-        (entry_stays (states old.space.now) (states new.space.now) read.reads.stays kind (place_of old kind) (tables kind)
-        tells known e below)
+    pub same_table : HasCounts (states old.space.now).cells (place_of old kind)
+        → (tables_of states new).table kind ≡ (tables_of states old).table kind
+    same_table known = rw (read.same.same_dirs, read.same.same_files)
+        (table_stays (states old.space.now) (states new.space.now) read.reads.stays kind (place_of old kind) (tables kind) tells known)

@@ -1,5 +1,5 @@
 -- What was read of an entry later, as what it held before.
-use Rattle.std.proofs.Common.{◌≡◌, ℕ, ◌+◌, ◌<◌, List, None, length, sym, ◌∙◌, arith}
+use Rattle.std.proofs.Common.{◌≡◌, ℕ, ◌+◌, ◌<◌, List, None, length, sym, ◌∙◌, ap, subst}
 use Rattle.save_bytes.specs.Cells.{Cell, AreBytesAt}
 use Rattle.save_bytes.specs.CellNumbers.{number_in}
 use Rattle.save_bytes.specs.State.{State}
@@ -8,44 +8,52 @@ use Rattle.entry_tables.specs.declared.table.EntryKind.{EntryKind}
 use Rattle.entry_tables.specs.declared.table.TableInfo.{TableInfo}
 use Rattle.name_buckets.specs.declared.find.Look.{Look}
 use Rattle.entry_tables.specs.Kinds.{entry_size, link_offset, IsRoot}
-use Rattle.entry_tables.specs.Tables.{table_in, entry_place}
+use Rattle.entry_tables.specs.Tables.{Table, HasEntry, table_in, most_in, entry_place, bucket_place}
 use Rattle.entry_tables.specs.Layout.{HasCounts, HasEntryTable, TellsEntryTable}
 use Rattle.name_buckets.specs.Looks.{HasKey, Matches, IsLook}
-use Rattle.entry_tables.proofs.StayLemmas.{count_stays, tells_later, entry_stays, last_word}
-use Rattle.entry_tables.proofs.EntryLemmas.{parent_read, name_read}
-use Rattle.name_buckets.proofs.FindLemmas.{look_before}
+use Rattle.entry_tables.proofs.StayLemmas.{tells_later, table_stays}
+use Rattle.entry_tables.proofs.EntryLemmas.{parent_read, name_read, link_there, head_there}
 
 -- the parent and name of an entry are those that its bytes have
 module _ (cells : ℕ → Cell) (kind : EntryKind) (info : TableInfo) (e : ℕ) (bytes : List ℕ)
-    (long : length bytes ≡ entry_size kind) (are : AreBytesAt cells (entry_place kind info e + 0) bytes) where
+    (long : length bytes ≡ entry_size kind) (are : AreBytesAt cells (entry_place kind info e + 0) bytes)
+    (has : HasEntry (table_in cells kind info) e) where
   pub matches_read : (parent : ℕ) (name : List ℕ) → ¬ IsRoot kind e → HasKey bytes parent name → Matches kind (table_in cells kind info) parent name e
   matches_read parent name other key = record {
     other = other;
-    parent_is = sym (parent_read cells kind info e bytes long are) ∙ key.parent_is;
-    name_is = sym (name_read cells kind info e bytes long are) ∙ key.name_is;
+    parent_is = sym (parent_read cells kind info e bytes long are has) ∙ key.parent_is;
+    name_is = sym (name_read cells kind info e bytes long are has) ∙ key.name_is;
   }
 
   pub key_read : (parent : ℕ) (name : List ℕ) → Matches kind (table_in cells kind info) parent name e → HasKey bytes parent name
   key_read parent name matches = record {
-    parent_is = parent_read cells kind info e bytes long are ∙ matches.parent_is;
-    name_is = name_read cells kind info e bytes long are ∙ matches.name_is;
+    parent_is = parent_read cells kind info e bytes long are has ∙ matches.parent_is;
+    name_is = name_read cells kind info e bytes long are has ∙ matches.name_is;
   }
 
 module _ (old mid : State) (stays : Stays old mid None) (kind : EntryKind) (info : TableInfo) (table : HasEntryTable old.shape kind info)
-    (tells : TellsEntryTable old kind info) (known : HasCounts old.cells info) (e : ℕ) (below : e < (table_in old.cells kind info).count) where
-  still_below : e < (table_in mid.cells kind info).count
-  still_below = omega (arith, below, count_stays old mid stays kind info table tells.told)
+    (tells : TellsEntryTable old kind info) (known : HasCounts old.cells info) where
+  same_table : table_in mid.cells kind info ≡ table_in old.cells kind info
+  same_table = table_stays old mid stays kind info table tells known
 
   -- a look at it
-  pub look_stays : (parent : ℕ) (name : List ℕ) (look : Look) → (TellsEntryTable mid kind info → e < (table_in mid.cells kind info).count
+  pub look_stays : (e parent : ℕ) (name : List ℕ) (look : Look) → HasEntry (table_in old.cells kind info) e
+      → (TellsEntryTable mid kind info → HasEntry (table_in mid.cells kind info) e
       → IsLook kind (table_in mid.cells kind info) parent name e look) → IsLook kind (table_in old.cells kind info) parent name e look
-  look_stays parent name look seen =
-      look_before kind (table_in old.cells kind info) (table_in mid.cells kind info) parent name e look
-      (entry_stays old mid stays kind info table tells known e below) (seen (tells_later old mid stays kind info table tells) still_below)
+  look_stays e parent name look has seen =
+      subst (λ (t : Table). IsLook kind t parent name e look) same_table
+      (seen (tells_later old mid stays kind info table tells) (subst (λ (t : Table). HasEntry t e) (sym same_table) has))
 
   -- its last word
-  pub link_stays : (word offset : ℕ) → offset ≡ link_offset kind → (TellsEntryTable mid kind info → e < (table_in mid.cells kind info).count
+  pub link_stays : (e word offset : ℕ) → offset ≡ link_offset kind → e < most_in old.cells info
+      → (TellsEntryTable mid kind info → e < most_in mid.cells info
       → word ≡ number_in 4 mid.cells (entry_place kind info e + offset)) → word ≡ (table_in old.cells kind info).link e
-  link_stays word offset there read =
-      last_word old mid stays kind info table tells known e below word offset there
-      (read (tells_later old mid stays kind info table tells) still_below)
+  link_stays e word offset there below read =
+      let still : e < most_in mid.cells info = subst (λ (t : Table). e < t.most) (sym same_table) below in
+      read (tells_later old mid stays kind info table tells) still ∙ rw there (link_there mid.cells kind info e still)
+      ∙ ap (λ (t : Table). t.link e) same_table
+
+  -- and a bucket's head
+  pub head_stays : (bucket : ℕ) → bucket < info.buckets
+      → number_in 4 mid.cells (bucket_place info bucket) ≡ (table_in old.cells kind info).head bucket
+  head_stays bucket below = head_there mid.cells kind info bucket below ∙ ap (λ (t : Table). t.head bucket) same_table

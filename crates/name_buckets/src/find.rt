@@ -6,7 +6,7 @@ ghost use Rattle.save_bytes.specs.Refusals.{IfDamaged, NeverDamaged};
 ghost use Rattle.save_bytes.specs.Reads.{Reads};
 ghost use Rattle.entry_tables.specs.Kinds.{entry_size, bucket_table};
 ghost use Rattle.entry_tables.specs.Hash.{bucket_number};
-ghost use Rattle.entry_tables.specs.Tables.{table_in, entry_place};
+ghost use Rattle.entry_tables.specs.Tables.{HasEntry, table_in, entry_place};
 ghost use Rattle.entry_tables.specs.Rules.{HasBucketLists, IsBrokenBucket};
 ghost use Rattle.entry_tables.specs.Layout.{HasEntryTable, TellsEntryTable, BlamesRead};
 ghost use Rattle.entry_tables.specs.Causes.{bad_of, HasEntryCause};
@@ -43,7 +43,7 @@ fn look_at<S: Space>(
     name: &Name,
 ) -> Result<Look, Bad>
     requires { HasEntryTable (S.state space.old).shape kind info }
-    ensures look { TellsEntryTable (S.state space.old) kind info → entry < (table_in (S.state space.old).cells kind info).count
+    ensures look { TellsEntryTable (S.state space.old) kind info → HasEntry (table_in (S.state space.old).cells kind info) entry
         → IfOk result (IsLook kind (table_in (S.state space.old).cells kind info) parent name.now.0 entry) }
     ensures damaged { IsTrue (S.state space.old).told → IfDamaged (result_err result)
         (BlamesRead kind info (entry_place kind info entry) (entry_size kind) (S.state space.old).cells) }

@@ -4,7 +4,7 @@ ghost use Rattle.std.specs.Prelude.{◌≡◌, ◌<◌, IfOk};
 ghost use Rattle.entry_tables.specs.declared.table.EntryKind.TheVariants.{Dir, File};
 ghost use Rattle.entry_tables.specs.Kinds.{table_number, bucket_table};
 ghost use Rattle.entry_tables.specs.Hash.{bucket_number};
-ghost use Rattle.entry_tables.specs.Tables.{info_of};
+ghost use Rattle.entry_tables.specs.Tables.{HasEntry, info_of};
 ghost use Rattle.entry_tables.specs.Used.{used_entries};
 ghost use Rattle.entry_tables.specs.Rules.{HasFreedList, HasBucketLists, NamesWrongly, IsBrokenBucket};
 ghost use Rattle.entry_tables.specs.Layout.{HasEntryTables};
@@ -24,8 +24,8 @@ use save_bytes::{Name, Space};
 /// only where a rule fails at the entry, or the bucket, that it names. Over a space that tells nothing each call is
 /// safe, and returns.
 ///
-/// What is said of an entry's fields is said of entries below the count of their table. Another number is read as if
-/// it were an entry where it lies in the space, and as zeros where it does not.
+/// What is said of an entry's fields is said of entries from 1 below the most of their table. Another number is read as
+/// if it were an entry where it lies in the space, and as zeros where it does not.
 #[derive(Drop)]
 pub struct Entries<'a, S: Space> {
     space: &'a mut S,
@@ -68,9 +68,9 @@ impl<'a, S: Space> Entries<'a, S> {
     /// A directory's first entry of a kind, and 0 where it has none. The list of its entries begins there.
     pub fn first(&mut self, kind: EntryKind, dir: u32) -> Result<u32, EntryFault>
         requires { HoldsTables S.state self.old }
-        ensures word { TellsTableOf S.state self.old Dir → dir < ((tables_of S.state self.old).table Dir).count
+        ensures word { TellsTableOf S.state self.old Dir → HasEntry ((tables_of S.state self.old).table Dir) dir
             → IfOk result (λ first. first ≡ (tables_of S.state self.old).first kind dir) }
-        ensures child { TellsTableOf S.state self.old Dir → dir < ((tables_of S.state self.old).table Dir).count
+        ensures child { TellsTableOf S.state self.old Dir → HasEntry ((tables_of S.state self.old).table Dir) dir
             → IfOk result (IsFirstChild (tables_of S.state self.old) kind dir) }
         ensures cause { HasEntryCause (space_of S.state self.old) Dir (place_of self.old Dir)
             (used_entries ((tables_of S.state self.old).table Dir) dir) (λ _ _. ⊥) result }
@@ -84,9 +84,9 @@ impl<'a, S: Space> Entries<'a, S> {
     /// The entry behind this one in the list of its directory, and 0 behind the last.
     pub fn next(&mut self, kind: EntryKind, entry: u32) -> Result<u32, EntryFault>
         requires { HoldsTables S.state self.old }
-        ensures word { TellsTableOf S.state self.old kind → entry < ((tables_of S.state self.old).table kind).count
+        ensures word { TellsTableOf S.state self.old kind → HasEntry ((tables_of S.state self.old).table kind) entry
             → IfOk result (λ next. next ≡ ((tables_of S.state self.old).table kind).sibling entry) }
-        ensures child { TellsTableOf S.state self.old kind → entry < ((tables_of S.state self.old).table kind).count
+        ensures child { TellsTableOf S.state self.old kind → HasEntry ((tables_of S.state self.old).table kind) entry
             → IfOk result (IsNextChild (tables_of S.state self.old) kind entry) }
         ensures cause { HasEntryCause (space_of S.state self.old) kind (place_of self.old kind)
             (used_entries ((tables_of S.state self.old).table kind) entry) (λ _ _. ⊥) result }
@@ -100,7 +100,7 @@ impl<'a, S: Space> Entries<'a, S> {
     /// The name of an entry.
     pub fn name(&mut self, kind: EntryKind, entry: u32) -> Result<Name, EntryFault>
         requires { HoldsTables S.state self.old }
-        ensures name { TellsTableOf S.state self.old kind → entry < ((tables_of S.state self.old).table kind).count
+        ensures name { TellsTableOf S.state self.old kind → HasEntry ((tables_of S.state self.old).table kind) entry
             → IfOk result (λ name. name.0 ≡ ((tables_of S.state self.old).table kind).name entry) }
         ensures cause { HasEntryCause (space_of S.state self.old) kind (place_of self.old kind)
             (used_entries ((tables_of S.state self.old).table kind) entry) (λ _ _. ⊥) result }
@@ -114,9 +114,9 @@ impl<'a, S: Space> Entries<'a, S> {
     /// What a file's entry says of its contents.
     pub fn fields(&mut self, entry: u32) -> Result<FileFields, EntryFault>
         requires { HoldsTables S.state self.old }
-        ensures start { TellsTableOf S.state self.old File → entry < ((tables_of S.state self.old).table File).count
+        ensures start { TellsTableOf S.state self.old File → HasEntry ((tables_of S.state self.old).table File) entry
             → IfOk result (λ fields. fields.start ≡ (tables_of S.state self.old).start entry) }
-        ensures wide { TellsTableOf S.state self.old File → entry < ((tables_of S.state self.old).table File).count
+        ensures wide { TellsTableOf S.state self.old File → HasEntry ((tables_of S.state self.old).table File) entry
             → IfOk result (λ fields. fields.wide ≡ (tables_of S.state self.old).wide entry) }
         ensures cause { HasEntryCause (space_of S.state self.old) File (place_of self.old File)
             (used_entries ((tables_of S.state self.old).table File) entry) (λ _ _. ⊥) result }

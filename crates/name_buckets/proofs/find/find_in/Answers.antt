@@ -4,12 +4,12 @@ use Rattle.entry_tables.specs.Hash.{bucket_number}
 use Rattle.entry_tables.specs.Kinds.{entry_size}
 use Rattle.entry_tables.specs.Tables.{table_in, entry_place, bucket_place}
 use Rattle.entry_tables.specs.Layout.{OfBucket, OfUsed}
-use Rattle.entry_tables.proofs.EntryLemmas.{least_some}
+use Rattle.entry_tables.proofs.EntryLemmas.{least_some, counted_entry}
 use Rattle.save_bytes.proofs.CallLemmas.{reads_then}
-use Rattle.entry_tables.proofs.StayLemmas.{head_stays, HasEntryTable-stays, entry_fits, needed_read, fault_read}
+use Rattle.entry_tables.proofs.StayLemmas.{HasEntryTable-stays, entry_fits, needed_read, fault_read}
 use Rattle.entry_tables.proofs.CauseLemmas.{passed_on, bad_cause, broken_cause, plain_stays}
 use Rattle.name_buckets.proofs.FindLemmas.{HasPassed-none, HasPassed-more, passed_stands, match_found, none_found, broken_past, broken_long}
-use Rattle.name_buckets.proofs.LookLemmas.{look_stays}
+use Rattle.name_buckets.proofs.LookLemmas.{look_stays, head_stays}
 use Rattle.name_buckets.proofs.find.find_in.Given.{Over}
 use Rattle.name_buckets.proofs.find.find_in.Goals.{After-bucket-number}
 use Rattle.name_buckets.proofs.find.find_in.Goals as goal
@@ -59,7 +59,7 @@ loop-step-init g c =
     record {
       reads = reads_then g.met.S.Space.keeps_join c.in_ok-count.ensures.reads c.in_ok-entry.ensures.reads;
       passed = λ tells. HasPassed-none c.in_ok-entry.entry ((rw there at c.in_ok-entry.ensures.number (stays.space.told tells.told))
-          ∙ head_stays old mid stays c.args.kind info c.requires own tells.told below);
+          ∙ head_stays old mid stays c.args.kind info c.requires tells (c.in_ok-count.ensures.known tells.told) own below);
     }
 
 pub returns-then-entry-eq0-clause-found : goal.returns-then-entry-eq0-clause-found
@@ -101,7 +101,8 @@ returns-in_err-look_at-clause-cause g c =
     (λ tells rule.
     let list = rule own below in
     let used = (passed_stands (c.loop-step.invariant.passed tells) list.0 c.if-entry-eq0.false list.1).used in
-    let fits = entry_fits old mid stays kind info c.requires tells (c.in_ok-count.ensures.known tells.told) e used.below in
+    let known = c.in_ok-count.ensures.known tells.told in
+    let fits = entry_fits old mid stays kind info c.requires tells known e (omega (arith, used.below, tells.most known)) in
     IfDamaged-map (Some bad)
     (λ part level block. needed_read old mid stays kind info c.requires tells.told (entry_place kind info e) (entry_size kind) part
     level block fits (λ x within. OfUsed e used within)) (c.in_err-look_at.ensures.damaged (stays.space.told tells.told)))
@@ -119,9 +120,11 @@ returns-in-Found-clause-found g c = λ tells lists.
     let mid = g.S.Space.state c.loop-step.space in
     let counts = c.in_ok-count.ensures in
     let below = own_below g (goal.at.returns-in-Found-clause-found g c).After-bucket-number in
+    let known = counts.known tells.told in
+    let has = counted_entry old c.args.kind c.args.info tells known c.loop-step.entry c.if-entry-eq0.false
+    (omega (arith, c.if-entry-count.false, counts.count tells.told)) in
     let look = rw c.in-Found.is at (look_stays old mid c.loop-step.invariant.reads.stays c.args.kind c.args.info c.requires tells
-    (counts.known tells.told) c.loop-step.entry (omega (arith, c.if-entry-count.false, counts.count tells.told)) c.args.parent
-    c.args.name.now.0 _ c.in_ok-look_at.ensures.look) in
+    known c.loop-step.entry c.args.parent c.args.name.now.0 _ has c.in_ok-look_at.ensures.look) in
     match_found (c.loop-step.invariant.passed tells) c.if-entry-eq0.false below look lists
 
 pub returns-in-Found-clause-reads : goal.returns-in-Found-clause-reads
@@ -138,9 +141,11 @@ loop-step-preserved g c =
     record {
       reads = reads_then g.met.S.Space.keeps_join before.reads c.in_ok-look_at.ensures.reads;
       passed = λ tells.
-          (let look = rw c.in-Other.is at (look_stays old mid before.reads.stays c.args.kind c.args.info c.requires tells
-          (counts.known tells.told) c.loop-step.entry (omega (arith, c.if-entry-count.false, counts.count tells.told)) c.args.parent
-          c.args.name.now.0 _ c.in_ok-look_at.ensures.look) in
+          (let known = counts.known tells.told in
+          let has = counted_entry old c.args.kind c.args.info tells known c.loop-step.entry c.if-entry-eq0.false
+          (omega (arith, c.if-entry-count.false, counts.count tells.told)) in
+          let look = rw c.in-Other.is at (look_stays old mid before.reads.stays c.args.kind c.args.info c.requires tells
+          known c.loop-step.entry c.args.parent c.args.name.now.0 _ has c.in_ok-look_at.ensures.look) in
           HasPassed-more (before.passed tells) c.in-Other.next c.if-entry-eq0.false look.0 look.1);
     }
 

@@ -1,10 +1,10 @@
-use Rattle.std.proofs.Common.{◌+◌, ◌≤◌, Some, refl, sym, ◌∙◌, arith}
+use Rattle.std.proofs.Common.{ℕ, ◌+◌, ◌<◌, ◌≤◌, Some, refl, sym, ◌∙◌, arith}
 use Rattle.save_bytes.specs.State.{State}
 use Rattle.save_bytes.proofs.SpaceLemmas.{IfDamaged-map}
 use Rattle.entry_tables.specs.declared.table.EntryKind.{EntryKind}
 use Rattle.entry_tables.specs.declared.table.TableInfo.{TableInfo}
 use Rattle.entry_tables.specs.Kinds.{table_number, link_offset}
-use Rattle.entry_tables.specs.Tables.{table_in, entry_place}
+use Rattle.entry_tables.specs.Tables.{table_in, most_in, entry_place}
 use Rattle.entry_tables.specs.Layout.{HasCounts, TellsEntryTable}
 use Rattle.entry_tables.specs.Rules.{CanBeFreed}
 use Rattle.entry_tables.proofs.EntryLemmas.{least_some, link_last}
@@ -12,10 +12,17 @@ use Rattle.save_bytes.proofs.CallLemmas.{reads_then}
 use Rattle.entry_tables.proofs.StayLemmas.{HasEntryTable-stays, entry_fits, needed_read}
 use Rattle.entry_tables.proofs.CauseLemmas.{passed_on, bad_cause, broken_cause, plain_stays}
 use Rattle.name_buckets.proofs.LookLemmas.{link_stays}
-use Rattle.name_buckets.proofs.FreeLemmas.{HasFollowed-more, followed_below, followed_needed, room_counted, wrong_number, named_before}
+use Rattle.name_buckets.proofs.FreeLemmas.{HasFollowed, HasFollowed-more, followed_below, followed_needed, room_counted, wrong_number, named_before}
 use Rattle.name_buckets.proofs.free.free_in.Goals.{then-next-least_freed-via-then-next-least_freed}
 use Rattle.name_buckets.proofs.free.free_in.Goals.{then-next-least_freed-via-else-next-least_freed+then-next-counts}
 use Rattle.name_buckets.proofs.free.free_in.Goals as goal
+
+-- the last freed entry that was passed is below the most
+passed_below : (s : State) (kind : EntryKind) (info : TableInfo) (steps from : ℕ) → TellsEntryTable s kind info → HasCounts s.cells info
+    → HasFollowed kind (table_in s.cells kind info) steps from → from < most_in s.cells info
+passed_below s kind info steps from tells known followed =
+    let some : 1 ≤ (table_in s.cells kind info).count = omega (arith, least_some kind, tells.least known) in
+    omega (arith, followed_below followed some, tells.most known)
 
 some_counted : (s : State) (kind : EntryKind) (info : TableInfo) → TellsEntryTable s kind info → HasCounts s.cells info
     → 1 ≤ (table_in s.cells kind info).count
@@ -40,7 +47,7 @@ returns-in_err-next-clause-cause g c =
     (λ tells rule.
     let known = c.in_ok-counts.ensures.known tells.told in
     let followed = c.loop-freed.invariant.followed tells in
-    let below = followed_below followed (some_counted old kind info tells known) in
+    let below = passed_below old kind info _ from tells known followed in
     let fits = entry_fits old mid stays kind info c.requires tells known from below in
     IfDamaged-map (Some bad)
     (λ part level block. needed_read old mid stays kind info c.requires tells.told (entry_place kind info from + link_offset kind) 4
@@ -61,8 +68,8 @@ returns-then-next-eq0-clause-free g c = λ tells.
     let known = counts.known tells.told in
     let followed = c.loop-freed.invariant.followed tells in
     let next = link_stays old (g.S.Space.state c.loop-freed.space) c.loop-freed.invariant.reads.stays c.args.kind c.args.info c.requires
-    tells known c.loop-freed.from (followed_below followed (some_counted old c.args.kind c.args.info tells known)) c.in_ok-next.next
-    c.link_offset.result c.link_offset.ensures c.in_ok-next.ensures.word in
+    tells known c.loop-freed.from c.in_ok-next.next c.link_offset.result c.link_offset.ensures
+    (passed_below old c.args.kind c.args.info _ c.loop-freed.from tells known followed) c.in_ok-next.ensures.word in
     room_counted followed (c.saturating_sub.result + c.loop-freed.freed) (sym next ∙ c.if-next-eq0.true)
     (rw (c.saturating_sub.ensures, counts.count tells.told, counts.most tells.told) refl)
 
@@ -88,8 +95,8 @@ returns-then-next-least_freed-clause-cause g c =
           let known = counts.known tells.told in
           let followed = c.loop-freed.invariant.followed tells in
           let next = link_stays old (g.S.Space.state c.loop-freed.space) c.loop-freed.invariant.reads.stays kind c.args.info c.requires
-          tells known c.loop-freed.from (followed_below followed (some_counted old kind c.args.info tells known)) c.in_ok-next.next
-          c.link_offset.result c.link_offset.ensures c.in_ok-next.ensures.word in
+          tells known c.loop-freed.from c.in_ok-next.next c.link_offset.result c.link_offset.ensures
+          (passed_below old kind c.args.info _ c.loop-freed.from tells known followed) c.in_ok-next.ensures.word in
           let counted = counts.count tells.told in
           let cannot : ¬ CanBeFreed kind t c.in_ok-next.next = λ can.
           elim c.then-next-least_freed.branch [
@@ -112,8 +119,8 @@ loop-freed-preserved g c =
           let known = counts.known tells.told in
           let followed = before.followed tells in
           let next = link_stays old (space.state c.loop-freed.space) before.reads.stays c.args.kind c.args.info c.requires tells known
-          c.loop-freed.from (followed_below followed (some_counted old c.args.kind c.args.info tells known)) c.in_ok-next.next
-          c.link_offset.result c.link_offset.ensures c.in_ok-next.ensures.word in
+          c.loop-freed.from c.in_ok-next.next c.link_offset.result c.link_offset.ensures
+          (passed_below old c.args.kind c.args.info _ c.loop-freed.from tells known followed) c.in_ok-next.ensures.word in
           HasFollowed-more followed c.in_ok-next.next next c.if-next-eq0.false (
             omega (arith, c.if-next-least_freed.false, c.least_freed.ensures),
             omega (arith, c.if-next-counts.false, counts.count tells.told),
