@@ -1,24 +1,36 @@
 -- Why calls on entries are refused.
-use Rattle.std.proofs.Common.{◌≡◌, ℕ, ◌+◌, ◌≤◌, IsTrue, Result, Ok, Err, Some, ap, subst, sym, arith}
+use Rattle.std.proofs.Common.{◌≡◌, ℕ, ◌+◌, ◌<◌, ◌≤◌, IsTrue, Result, Ok, Err, Some, ap, subst, sym, arith}
+use Rattle.std.specs.Prelude.{⊤}
 use Rattle.std.specs.Result.{IsErrAnd}
 use Rattle.save_bytes.specs.declared.space.Bad.{Bad}
 use Rattle.save_bytes.specs.State.{Shape, State}
+use Rattle.save_bytes.specs.Answers.{IsFirstFault, IsRead}
 use Rattle.save_bytes.specs.Refusals.{IfDamaged, NeverDamaged}
 use Rattle.entry_tables.specs.declared.table.EntryKind.{EntryKind}
 use Rattle.entry_tables.specs.declared.table.TableInfo.{TableInfo}
 use Rattle.entry_tables.specs.declared.table.EntryFault.{EntryFault}
 use Rattle.entry_tables.specs.declared.table.EntryFault.TheVariants as fault
-use Rattle.entry_tables.specs.Kinds.{entry_size}
-use Rattle.entry_tables.specs.Tables.{table_in, entry_place}
+use Rattle.entry_tables.specs.Kinds.{entry_size, link_offset}
+use Rattle.entry_tables.specs.Tables.{table_in, entry_place, bucket_place}
 use Rattle.entry_tables.specs.Used.{used_entries}
-use Rattle.entry_tables.specs.Layout.{TellsEntryTable, IsNeeded, OfZero, OfUsed, BlamesNeeded, IsReadAt, AtZero, AtPlace, BlamesRead}
-use Rattle.entry_tables.specs.Causes.{HasEntryCause}
+use Rattle.entry_tables.specs.Layout.{TellsEntryTable, IsNeeded, OfZero, OfBucket, OfUsed, OfFreed, HasLink, LinksFreed, LinksBucket, LinksNext}
+use Rattle.entry_tables.specs.Layout.{BlamesNeeded, IsReadAt, AtZero, AtPlace, BlamesRead}
+use Rattle.entry_tables.specs.Causes.{IfRuleBroken, HasEntryCause}
+use Rattle.entry_tables.proofs.EntryLemmas.{link_last, entry_long}
 use Rattle.save_bytes.proofs.SpaceLemmas.{IfDamaged-map}
 
 -- a refusal of the space is passed on
 pub passed_on : {A : Type 0} (result : Result A EntryFault) (bad : Bad) → IsErrAnd result (λ found. found ≡ fault.Bad bad) → result ≡ Err (fault.Bad bad)
 passed_on (Ok value) bad h = absurd h
 passed_on (Err found) bad h = ap Err h
+
+-- what holds where a rule is said to fail follows there
+pub IfRuleBroken-map : {A : Type 0} {P Q : ℕ → ℕ → Type 0} (result : Result A EntryFault)
+    → ((table entry : ℕ) → P table entry → Q table entry) → IfRuleBroken result P → IfRuleBroken result Q
+IfRuleBroken-map (Ok value) f h = tt
+IfRuleBroken-map (Err (fault.Bad bad)) f h = tt
+IfRuleBroken-map (Err (fault.Broken table entry)) f h = f table entry h
+IfRuleBroken-map (Err (fault.NoEntry most)) f h = tt
 
 module _ {A : Type 0} (s : State) (kind : EntryKind) (info : TableInfo) (Rule : Type 0) (Fails : ℕ → ℕ → Type 0) where
   pub bad_cause : (bad : Bad) → (TellsEntryTable s kind info → Rule → IfDamaged (Some bad) (BlamesNeeded kind info s.cells))
@@ -55,3 +67,60 @@ entry_cause s kind info entry offset n result bad fits is damaged plain =
     (bad_cause s kind info (used_entries (table_in s.cells kind info) entry) (λ table place. ⊥) bad
     (λ tells used. IfDamaged-map (Some bad) (needed_entry s kind info entry offset n fits used) (damaged tells.told))
     plain)
+
+-- entry 0 is needed
+pub zero_cause : {A : Type 0} (s : State) (kind : EntryKind) (info : TableInfo) (result : Result A EntryFault) (bad : Bad)
+    → IsErrAnd result (λ found. found ≡ fault.Bad bad) → IsRead s info.table_at 8 (Some bad)
+    → HasEntryCause s kind info ⊤ (λ table place. ⊥) result
+zero_cause s kind info result bad is read =
+    rw (passed_on result bad is)
+    (bad_cause s kind info ⊤ (λ table place. ⊥) bad
+    (λ tells rule. IfDamaged-map (Some bad) blamed (read.damaged tells.told)) read.plain)
+  where
+    blamed : (part level block : ℕ) → IsFirstFault s.cells info.table_at 8 part level block
+        → BlamesNeeded kind info s.cells part level block
+    blamed part level block first = record {
+      place = info.table_at + first.k;
+      needed = OfZero (record { from = omega arith; before = omega (arith, first.within, entry_long kind) });
+      blames = first.fault;
+    }
+
+-- and so is a bucket
+pub bucket_cause : {A : Type 0} (s : State) (kind : EntryKind) (info : TableInfo) (bucket : ℕ) (result : Result A EntryFault) (bad : Bad)
+    → bucket < info.buckets → IsErrAnd result (λ found. found ≡ fault.Bad bad) → IsRead s (bucket_place info bucket) 4 (Some bad)
+    → HasEntryCause s kind info ⊤ (λ table place. ⊥) result
+bucket_cause s kind info bucket result bad below is read =
+    rw (passed_on result bad is)
+    (bad_cause s kind info ⊤ (λ table place. ⊥) bad
+    (λ tells rule. IfDamaged-map (Some bad) blamed (read.damaged tells.told)) read.plain)
+  where
+    blamed : (part level block : ℕ) → IsFirstFault s.cells (bucket_place info bucket) 4 part level block
+        → BlamesNeeded kind info s.cells part level block
+    blamed part level block first = record {
+      place = bucket_place info bucket + first.k;
+      needed = OfBucket bucket below (record { from = omega arith; before = omega (arith, first.within) });
+      blames = first.fault;
+    }
+
+-- and the last word of an entry that has one
+module _ (s : State) (kind : EntryKind) (info : TableInfo) (entry : ℕ) where
+  link_place : (x : ℕ) → HasLink (table_in s.cells kind info) entry → IsReadAt kind info (entry_place kind info entry + link_offset kind) 4 x
+      → IsNeeded kind info (table_in s.cells kind info) x
+  link_place x has (AtZero within) = OfZero within
+  link_place x (LinksFreed none) (AtPlace within) =
+      let there : entry_place kind info entry ≡ info.table_at = rw none (omega arith) in
+      OfZero (record { from = omega (arith, within.from, there); before = omega (arith, within.before, there, link_last kind) })
+  link_place x (LinksBucket used) (AtPlace within) =
+      OfUsed entry used (record { from = omega (arith, within.from); before = omega (arith, within.before, link_last kind) })
+  link_place x (LinksNext list freed contained) (AtPlace within) = OfFreed entry list freed contained within
+
+  pub link_cause : {A : Type 0} (result : Result A EntryFault) (bad : Bad) → IsErrAnd result (λ found. found ≡ fault.Bad bad)
+      → (IsTrue s.told → IfDamaged (Some bad) (BlamesRead kind info (entry_place kind info entry + link_offset kind) 4 s.cells))
+      → (IsTrue s.shape.plain → NeverDamaged (Some bad))
+      → HasEntryCause s kind info (HasLink (table_in s.cells kind info) entry) (λ table place. ⊥) result
+  link_cause result bad is damaged plain =
+      rw (passed_on result bad is)
+      (bad_cause s kind info (HasLink (table_in s.cells kind info) entry) (λ table place. ⊥) bad
+      (λ tells has. IfDamaged-map (Some bad)
+      (λ part level block h. record { place = h.place; needed = link_place h.place has h.read; blames = h.blames })
+      (damaged tells.told)) plain)

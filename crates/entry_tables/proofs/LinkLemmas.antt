@@ -1,5 +1,5 @@
 -- Lists of entries in which each one names the next.
-use Rattle.std.proofs.Common.{◌≡◌, ◌≢◌, ℕ, zero, suc, ◌<◌, ◌≤◌, true, false, List, [], ◌∷◌, ◌++◌, length, get_or, nat_eq, refl, sym, ◌∙◌, ap, subst, arith}
+use Rattle.std.proofs.Common.{◌≡◌, ◌≢◌, ℕ, zero, suc, ◌+◌, ◌<◌, ◌≤◌, true, false, List, [], ◌∷◌, ◌++◌, length, get_or, nat_eq, refl, sym, ◌∙◌, ap, subst, arith, length-append}
 use Rattle.std.specs.List.{Contains, IsDistinct, list_any}
 use Rattle.std.proofs.lemmas.Bool.{ne_eqb}
 use Rattle.std.proofs.lemmas.Bool.Decides.{Decides-eqb}
@@ -140,6 +140,34 @@ linked_apart next from (x ∷ xs) linked (suc k, h, is) = linked_apart next (nex
 
 pub linked_distinct : (next : ℕ → ℕ) (from : ℕ) (list : List ℕ) → LeadsToEnd next from list → IsDistinct nat_eq list
 linked_distinct next from list linked = LeadsTo-distinct next from list 0 linked (linked_apart next from list linked)
+
+-- from an entry of such a list no way leads back to it
+ends_once : (next : ℕ → ℕ) (e : ℕ) (rest loop : List ℕ) → e ≢ 0 → LeadsToEnd next e rest → ¬ LeadsTo next (next e) loop e
+ends_once next e [] loop some linked leads = some linked
+ends_once next e (x ∷ xs) loop some linked leads =
+    let tail : LeadsToEnd next (next e) xs = subst (λ (n : ℕ). LeadsToEnd next (next n) xs) (sym linked.0) linked.2 in
+    let whole = whole_list next (next e) loop e xs leads tail in
+    let same : length (x ∷ xs) ≡ length whole.0 =
+    one_way next e (x ∷ xs) whole.0 0 linked whole.2 (linked_apart next e (x ∷ xs) linked) (linked_apart next e whole.0 whole.2) in
+    let long : length xs ≡ length loop + length whole.0 = ap length whole.1 ∙ length-append loop whole.0 in
+    omega (arith, same, long)
+
+-- an entry to which a front of such a list leads is not in the front
+pub never_again : (next : ℕ → ℕ) (from : ℕ) (xs : List ℕ) (e : ℕ) (list : List ℕ) → LeadsTo next from xs e → e ≢ 0
+    → LeadsToEnd next from list → ¬ Contains xs e
+never_again next from xs e list leads some linked within =
+    let whole = whole_list next from xs e list leads linked in
+    let loop = behind next from xs e e within.0 leads within.1 within.2 in
+    ends_once next e whole.0 loop.rest some whole.2 loop.leads
+
+-- an entry of a list has entries before it
+pub linked_front : (next : ℕ → ℕ) (from : ℕ) (list : List ℕ) (e : ℕ) → LeadsToEnd next from list → Contains list e
+    → (front : List ℕ) × ((e ≢ 0) × LeadsTo next from front e)
+linked_front next from [] e linked (k, h, is) = absurd (omega (arith, h))
+linked_front next from (x ∷ xs) e linked (zero, h, is) = ([], (subst (λ (n : ℕ). n ≢ 0) is linked.1, linked.0 ∙ is))
+linked_front next from (x ∷ xs) e linked (suc k, h, is) =
+    let later = linked_front next (next x) xs e linked.2 (k, omega (arith, h), is) in
+    (x ∷ later.0, (later.1.0, (linked.0, linked.1, later.1.1)))
 
 -- distinct numbers from 1 below n are fewer than n
 pub few_between : (xs : List ℕ) (n : ℕ) → 1 ≤ n → IsDistinct nat_eq xs → ((e : ℕ) → Contains xs e → (1 ≤ e) × (e < n)) → length xs < n

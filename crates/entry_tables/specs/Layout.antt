@@ -1,5 +1,5 @@
 -- Where tables and buckets must lie in a space, and which of its bytes they need.
-use Rattle.std.specs.Prelude.{ℕ, ◌+◌, ◌*◌, ◌<◌, ◌≤◌, IsTrue, List, Contains}
+use Rattle.std.specs.Prelude.{◌≡◌, ℕ, ◌+◌, ◌*◌, ◌<◌, ◌≤◌, IsTrue, List, Contains}
 use Rattle.save_bytes.specs.Cells.{Cell, IsByte, Blames}
 use Rattle.save_bytes.specs.State.{Shape, State}
 use Rattle.entry_tables.specs.declared.table.EntryKind.{EntryKind}
@@ -43,6 +43,12 @@ pub data IsNeeded (kind : EntryKind) (info : TableInfo) (t : Table) (x : ℕ) : 
   OfUsed : (e : ℕ) → used_entries t e → LiesWithin (entry_place kind info e) (entry_size kind) x → IsNeeded kind info t x
   OfFreed : (e : ℕ) (list : List ℕ) → freed_entries t list → Contains list e
       → LiesWithin (entry_place kind info e + link_offset kind) 4 x → IsNeeded kind info t x
+
+-- the entries whose last word is needed: entry 0, the used ones, and the freed ones
+pub data HasLink (t : Table) (e : ℕ) : Type 0 where
+  LinksFreed : e ≡ 0 → HasLink t e
+  LinksBucket : used_entries t e → HasLink t e
+  LinksNext : (list : List ℕ) → freed_entries t list → Contains list e → HasLink t e
 
 -- a needed cell is no byte, and names this block
 pub record BlamesNeeded (kind : EntryKind) (info : TableInfo) (cells : ℕ → Cell) (part level block : ℕ) : Type 0 where

@@ -4,5 +4,6 @@ pub mod Tables
 pub mod Links
 pub mod Used
 pub mod Rules
+pub mod Fails
 pub mod Layout
 pub mod Causes

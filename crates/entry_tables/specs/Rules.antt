@@ -5,7 +5,7 @@ use Rattle.entry_tables.specs.declared.table.EntryKind.TheVariants.{Dir}
 use Rattle.entry_tables.specs.Kinds.{least_freed, IsRoot}
 use Rattle.entry_tables.specs.Hash.{bucket_number}
 use Rattle.entry_tables.specs.Tables.{Table, Tables}
-use Rattle.entry_tables.specs.Links.{LeadsTo, LeadsToEnd, last_of}
+use Rattle.entry_tables.specs.Links.{LeadsToEnd}
 use Rattle.entry_tables.specs.Used.{freed_entries, used_entries, named_entries, children_of, path_of}
 
 -- a number that a freed entry can have
@@ -62,18 +62,3 @@ pub record IsOrderly (t : Tables) : Type 0 where
   pub listed : (kind : EntryKind) (dir : ℕ) → used_entries (t.table Dir) dir → (list : List ℕ) × IsChildList t kind dir list
   pub names_apart : (kind : EntryKind) → HasApartNames kind (t.table kind)
   pub buckets : (kind : EntryKind) → HasBucketLists kind (t.table kind)
-
--- The rule on freed entries fails at an entry, 0 included, to which their list leads: its last word names a number that
--- no freed entry can have, or one that was named before.
-pub record NamesWrongly (kind : EntryKind) (t : Table) (e : ℕ) : Type 0 where
-  pub front : List ℕ
-  pub leads : LeadsTo t.link (t.link 0) front (t.link e)
-  pub last : last_of 0 front ≡ e
-  pub inside : All (CanBeFreed kind t) front
-  pub named : t.link e ≢ 0
-  pub wrong : CanBeFreed kind t (t.link e) → Contains front (t.link e)
-
--- the rule on buckets fails at one of them: no list is as said
-pub record IsBrokenBucket (kind : EntryKind) (t : Table) (bucket : ℕ) : Type 0 where
-  pub below : bucket < t.buckets
-  pub none : (list : List ℕ) → ¬ IsBucketList kind t bucket list

@@ -6,7 +6,7 @@ mod hash;
 mod reads;
 mod table;
 
-pub use fields::{fields_in, name_in, word_in};
+pub use fields::{counts_in, fields_in, head_in, link_in, name_in, word_in};
 pub use hash::bucket;
 pub use reads::{Counts, entry_bytes, entry_word, read_counts};
 pub use table::{EntryFault, EntryKind, FileFields, TableInfo};

@@ -15,7 +15,7 @@ use crate::table::{EntryKind, TableInfo};
 use save_bytes::{Bad, Space, space_copy, u32_at};
 
 /// How many entries of a table were ever used, and how many there can be, entry 0 included.
-#[derive(Clone, Copy)]
+#[derive(Clone, Copy, Debug, PartialEq, Eq)]
 pub struct Counts {
     pub count: u32,
     pub most: u32,

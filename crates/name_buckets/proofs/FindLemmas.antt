@@ -7,7 +7,8 @@ use Rattle.entry_tables.specs.declared.table.EntryKind.{EntryKind}
 use Rattle.entry_tables.specs.Hash.{bucket_number}
 use Rattle.entry_tables.specs.Tables.{Table}
 use Rattle.entry_tables.specs.Links.{LeadsTo}
-use Rattle.entry_tables.specs.Rules.{StandsIn, IsBucketList, HasBucketLists, IsBrokenBucket}
+use Rattle.entry_tables.specs.Rules.{StandsIn, IsBucketList, HasBucketLists}
+use Rattle.entry_tables.specs.Fails.{IsBrokenBucket}
 use Rattle.name_buckets.specs.Replies.{IsEntryOf}
 use Rattle.name_buckets.specs.Looks.{Matches}
 use Rattle.entry_tables.proofs.LinkLemmas.{LeadsTo-push, linked_distinct, reached, whole_list, whole_front, few_between}

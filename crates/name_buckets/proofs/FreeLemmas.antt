@@ -12,7 +12,8 @@ use Rattle.entry_tables.specs.declared.table.TableInfo.{TableInfo}
 use Rattle.entry_tables.specs.Kinds.{link_offset}
 use Rattle.entry_tables.specs.Tables.{Table, entry_place}
 use Rattle.entry_tables.specs.Links.{LeadsTo, LeadsToEnd, last_of}
-use Rattle.entry_tables.specs.Rules.{CanBeFreed, HasFreedList, NamesWrongly}
+use Rattle.entry_tables.specs.Rules.{CanBeFreed, HasFreedList}
+use Rattle.entry_tables.specs.Fails.{NamesWrongly}
 use Rattle.entry_tables.specs.Layout.{LiesWithin, IsNeeded, OfZero, OfFreed}
 use Rattle.name_buckets.specs.Replies.{IsRoom}
 use Rattle.entry_tables.proofs.EntryLemmas.{link_last, least_some}

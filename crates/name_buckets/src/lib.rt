@@ -5,7 +5,7 @@ mod find;
 mod free;
 mod view;
 
-pub use entry_tables::{EntryFault, EntryKind, FileFields, TableInfo, bucket};
+pub use entry_tables::{Counts, EntryFault, EntryKind, FileFields, TableInfo, bucket};
 pub use view::Entries;
 
 #[cfg(test)]

@@ -4,6 +4,8 @@ ghost use Rattle.std.proofs.lemmas.Bool.{false≢true};
 ghost use Rattle.name_buckets.specs.Untold.{untold_state};
 ghost use Rattle.entry_tables.specs.Rules.{IsOrderly};
 ghost use Rattle.entry_tables.specs.Layout.{HasCounts};
+ghost use Rattle.entry_tables.specs.Causes.{IfRuleBroken};
+ghost use Rattle.entry_tables.specs.declared.table.EntryKind.{EntryKind};
 ghost use Rattle.name_buckets.specs.Held.{space_of, tables_of, place_of, HoldsTables, TellsTableOf};
 
 use super::*;
@@ -37,6 +39,10 @@ enum Call {
     Fields(u32),
     Free(EntryKind),
     FindName(EntryKind, u32, Name),
+    Counts(EntryKind),
+    Head(EntryKind, u32),
+    Parent(EntryKind, u32),
+    Link(EntryKind, u32),
 }
 
 #[derive(Clone, Copy, Debug, PartialEq)]
@@ -45,6 +51,7 @@ enum Reply {
     Number(Result<u32, EntryFault>),
     Named(Result<Name, EntryFault>),
     Fields(Result<FileFields, EntryFault>),
+    Counts(Result<Counts, EntryFault>),
 }
 
 /// What a call on the tables in these bytes answers.
@@ -78,8 +85,17 @@ fn found_name<S: Space>(
     }
 }
 
-fn answer<S: Space>(entries: &mut Entries<S>, call: Call) -> Reply
+// How many entries can be added; of orderly tables no rule is said to fail.
+fn free_of_orderly<S: Space>(entries: &mut Entries<S>, kind: EntryKind) -> Result<u32, EntryFault>
     requires { HoldsTables S.state entries.old }
+    ensures { TellsTableOf S.state entries.old kind → IsOrderly (tables_of S.state entries.old) → IfRuleBroken result (λ _ _. ⊥) }
+{
+    entries.free(kind)
+}
+
+fn answer<S: Space>(entries: &mut Entries<S>, call: Call) -> Reply
+    requires tables { HoldsTables S.state entries.old }
+    requires buckets { (kind : EntryKind) → (place_of entries.old kind).buckets ≡ 9 }
 {
     match call {
         Call::Find(kind, parent, name) => Reply::Found(entries.find(kind, parent, &name)),
@@ -87,12 +103,16 @@ fn answer<S: Space>(entries: &mut Entries<S>, call: Call) -> Reply
         Call::Next(kind, entry) => Reply::Number(entries.next(kind, entry)),
         Call::Name(kind, entry) => Reply::Named(entries.name(kind, entry)),
         Call::Fields(entry) => Reply::Fields(entries.fields(entry)),
-        Call::Free(kind) => Reply::Number(entries.free(kind)),
+        Call::Free(kind) => Reply::Number(free_of_orderly(entries, kind)),
         Call::FindName(kind, parent, name) => match found_name(entries, kind, parent, &name) {
             Ok(Some(its)) => Reply::Named(Ok(its)),
             Ok(None) => Reply::Found(Ok(None)),
             Err(fault) => Reply::Named(Err(fault)),
         },
+        Call::Counts(kind) => Reply::Counts(entries.counts(kind)),
+        Call::Head(kind, bucket) => Reply::Number(entries.head(kind, bucket % 9)),
+        Call::Parent(kind, entry) => Reply::Number(entries.parent(kind, entry)),
+        Call::Link(kind, entry) => Reply::Number(entries.link(kind, entry)),
     }
 }
 
@@ -154,6 +174,33 @@ fn the_entries_of_a_tree_are_read(rt: HostRuntime) {
         ),
     ] {
         assert_eq!(rt; reply_to(&mut bytes, call), want);
+    }
+}
+
+#[test]
+fn the_words_of_tables_and_buckets_are_read(rt: HostRuntime) {
+    let mut bytes = freed_tree();
+    for (call, want) in [
+        (Call::Counts(EntryKind::Dir), Counts { count: 3, most: 10 }),
+        (Call::Counts(EntryKind::File), Counts { count: 5, most: 9 }),
+    ] {
+        assert_eq!(rt; reply_to(&mut bytes, call), Reply::Counts(Ok(want)));
+    }
+    for (call, word) in [
+        (Call::Head(EntryKind::Dir, 0), 1),
+        (Call::Head(EntryKind::Dir, 6), 2),
+        (Call::Head(EntryKind::Dir, 5), 0),
+        (Call::Head(EntryKind::File, 5), 1),
+        (Call::Head(EntryKind::File, 8), 0),
+        (Call::Parent(EntryKind::Dir, 2), 1),
+        (Call::Parent(EntryKind::File, 1), 2),
+        (Call::Link(EntryKind::Dir, 0), 0),
+        (Call::Link(EntryKind::File, 0), 4),
+        (Call::Link(EntryKind::File, 4), 2),
+        (Call::Link(EntryKind::File, 2), 3),
+        (Call::Link(EntryKind::File, 3), 0),
+    ] {
+        assert_eq!(rt; reply_to(&mut bytes, call), Reply::Number(Ok(word)));
     }
 }
 

@@ -1,20 +1,24 @@
 //! The entries of the tables in a space.
 
-ghost use Rattle.std.specs.Prelude.{◌≡◌, ◌<◌, IfOk};
+ghost use Rattle.std.specs.Prelude.{◌≡◌, ◌<◌, IsTrue, IfOk, OnOk, ⊤};
 ghost use Rattle.entry_tables.specs.declared.table.EntryKind.TheVariants.{Dir, File};
 ghost use Rattle.entry_tables.specs.Kinds.{table_number, bucket_table};
 ghost use Rattle.entry_tables.specs.Hash.{bucket_number};
 ghost use Rattle.entry_tables.specs.Tables.{HasEntry, info_of};
 ghost use Rattle.entry_tables.specs.Used.{used_entries};
-ghost use Rattle.entry_tables.specs.Rules.{HasFreedList, HasBucketLists, NamesWrongly, IsBrokenBucket};
-ghost use Rattle.entry_tables.specs.Layout.{HasEntryTables};
+ghost use Rattle.entry_tables.specs.Rules.{HasFreedList, HasBucketLists};
+ghost use Rattle.entry_tables.specs.Fails.{NamesWrongly, IsBrokenBucket};
+ghost use Rattle.entry_tables.specs.Layout.{HasCounts, HasEntryTables, HasLink};
 ghost use Rattle.entry_tables.specs.Causes.{bad_of, HasEntryCause};
 ghost use Rattle.name_buckets.specs.Replies.{IsFoundEntry, IsRoom, IsFirstChild, IsNextChild};
 ghost use Rattle.name_buckets.specs.Held.{space_of, tables_of, place_of, HoldsTables, TellsTableOf, IsEntriesIn, ReadsEntries};
 
 use crate::find::find_in;
 use crate::free::free_in;
-use entry_tables::{EntryFault, EntryKind, FileFields, TableInfo, fields_in, name_in, word_in};
+use entry_tables::{
+    Counts, EntryFault, EntryKind, FileFields, TableInfo, counts_in, fields_in, head_in, link_in,
+    name_in, word_in,
+};
 use save_bytes::{Name, Space};
 
 /// The entries of the two tables in a space, with their buckets.
@@ -63,6 +67,67 @@ impl<'a, S: Space> Entries<'a, S> {
         let info = self.info(kind);
         let space = &mut *self.space;
         find_in(space, kind, info, parent, name)
+    }
+
+    /// How many entries of a kind were ever used, and how many there can be, entry 0 included. From an Ok on it is known
+    /// that both are bytes, and so where the entries lie.
+    pub fn counts(&mut self, kind: EntryKind) -> Result<Counts, EntryFault>
+        requires { HoldsTables S.state self.old }
+        ensures count { IsTrue (space_of S.state self.old).told
+            → IfOk result (λ counts. counts.count ≡ ((tables_of S.state self.old).table kind).count) }
+        ensures most { IsTrue (space_of S.state self.old).told
+            → IfOk result (λ counts. counts.most ≡ ((tables_of S.state self.old).table kind).most) }
+        ensures known { IsTrue (space_of S.state self.old).told
+            → OnOk result (HasCounts (space_of S.state self.old).cells (place_of self.old kind)) }
+        ensures cause { HasEntryCause (space_of S.state self.old) kind (place_of self.old kind) ⊤ (λ _ _. ⊥) result }
+        ensures reads { ReadsEntries S.state S.keeps S.lands self.old self.new (bad_of result) }
+    {
+        let info = self.info(kind);
+        let space = &mut *self.space;
+        counts_in(space, kind, info)
+    }
+
+    /// The first entry of a bucket's list, and 0 where it has none.
+    pub fn head(&mut self, kind: EntryKind, bucket: u32) -> Result<u32, EntryFault>
+        requires tables { HoldsTables S.state self.old }
+        requires below { bucket < ((tables_of S.state self.old).table kind).buckets }
+        ensures word { IsTrue (space_of S.state self.old).told
+            → IfOk result (λ head. head ≡ ((tables_of S.state self.old).table kind).head bucket) }
+        ensures cause { HasEntryCause (space_of S.state self.old) kind (place_of self.old kind) ⊤ (λ _ _. ⊥) result }
+        ensures reads { ReadsEntries S.state S.keeps S.lands self.old self.new (bad_of result) }
+    {
+        let info = self.info(kind);
+        let space = &mut *self.space;
+        head_in(space, kind, info, bucket)
+    }
+
+    /// The parent of an entry.
+    pub fn parent(&mut self, kind: EntryKind, entry: u32) -> Result<u32, EntryFault>
+        requires { HoldsTables S.state self.old }
+        ensures word { TellsTableOf S.state self.old kind → HasEntry ((tables_of S.state self.old).table kind) entry
+            → IfOk result (λ parent. parent ≡ ((tables_of S.state self.old).table kind).parent entry) }
+        ensures cause { HasEntryCause (space_of S.state self.old) kind (place_of self.old kind)
+            (used_entries ((tables_of S.state self.old).table kind) entry) (λ _ _. ⊥) result }
+        ensures reads { ReadsEntries S.state S.keeps S.lands self.old self.new (bad_of result) }
+    {
+        let info = self.info(kind);
+        let space = &mut *self.space;
+        word_in(space, kind, info, entry, 0)
+    }
+
+    /// The last word of an entry: of a used one the next in its bucket's list, of entry 0 the first freed one, of that
+    /// the next, and 0 for none. Where the freed entries have a list it is needed of each of them.
+    pub fn link(&mut self, kind: EntryKind, entry: u32) -> Result<u32, EntryFault>
+        requires { HoldsTables S.state self.old }
+        ensures word { TellsTableOf S.state self.old kind → entry < ((tables_of S.state self.old).table kind).most
+            → IfOk result (λ link. link ≡ ((tables_of S.state self.old).table kind).link entry) }
+        ensures cause { HasEntryCause (space_of S.state self.old) kind (place_of self.old kind)
+            (HasLink ((tables_of S.state self.old).table kind) entry) (λ _ _. ⊥) result }
+        ensures reads { ReadsEntries S.state S.keeps S.lands self.old self.new (bad_of result) }
+    {
+        let info = self.info(kind);
+        let space = &mut *self.space;
+        link_in(space, kind, info, entry)
     }
 
     /// A directory's first entry of a kind, and 0 where it has none. The list of its entries begins there.
