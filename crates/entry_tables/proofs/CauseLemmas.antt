@@ -19,10 +19,14 @@ use Rattle.entry_tables.specs.Causes.{IfRuleBroken, HasEntryCause}
 use Rattle.entry_tables.proofs.EntryLemmas.{link_last, entry_long}
 use Rattle.save_bytes.proofs.SpaceLemmas.{IfDamaged-map}
 
--- a refusal of the space is passed on
+-- an error is passed on as it is
+pub passed_error : {A E : Type 0} (result : Result A E) (error : E) → IsErrAnd result (λ found. found ≡ error) → result ≡ Err error
+passed_error (Ok value) error h = absurd h
+passed_error (Err found) error h = ap Err h
+
+-- and a refusal of the space within another
 pub passed_on : {A : Type 0} (result : Result A EntryFault) (bad : Bad) → IsErrAnd result (λ found. found ≡ fault.Bad bad) → result ≡ Err (fault.Bad bad)
-passed_on (Ok value) bad h = absurd h
-passed_on (Err found) bad h = ap Err h
+passed_on result bad h = passed_error result (fault.Bad bad) h
 
 -- what holds where a rule is said to fail follows there
 pub IfRuleBroken-map : {A : Type 0} {P Q : ℕ → ℕ → Type 0} (result : Result A EntryFault)

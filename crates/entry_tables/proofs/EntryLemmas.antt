@@ -36,6 +36,11 @@ pub head_there : (cells : ℕ → Cell) (kind : EntryKind) (info : TableInfo) (b
 head_there cells kind info bucket below =
     sym (cond-true (nat_lt bucket info.buckets) (number_in 4 cells (bucket_place info bucket)) 0 (lt-ltb bucket info.buckets below))
 
+-- entry 0 is counted
+pub some_counted : (s : State) (kind : EntryKind) (info : TableInfo) → TellsEntryTable s kind info → HasCounts s.cells info
+    → 1 ≤ (table_in s.cells kind info).count
+some_counted s kind info tells known = omega (arith, least_some kind, tells.least known)
+
 -- a number from 1 below the count is that of an entry
 pub counted_entry : (s : State) (kind : EntryKind) (info : TableInfo) → TellsEntryTable s kind info → HasCounts s.cells info → (e : ℕ)
     → e ≢ 0 → e < (table_in s.cells kind info).count → HasEntry (table_in s.cells kind info) e

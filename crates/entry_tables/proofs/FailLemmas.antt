@@ -11,8 +11,8 @@ use Rattle.entry_tables.proofs.LinkLemmas.{linked_front, reached, never_again}
 -- the number that an entry of the freed list names is in the list
 freed_rightly : (kind : EntryKind) (t : Table) (list : List ℕ) (e : ℕ) → IsFreedList kind t list → ¬ NamesWrongly kind t e
 freed_rightly kind t list e is wrong =
-    let there = reached t.link (t.link 0) wrong.front (t.link e) list wrong.leads wrong.named is.leads in
-    never_again t.link (t.link 0) wrong.front (t.link e) list wrong.leads wrong.named is.leads
+    let there = reached t.link (t.link 0) wrong.front (t.link e) list wrong.begins.leads wrong.named is.leads in
+    never_again t.link (t.link 0) wrong.front (t.link e) list wrong.begins.leads wrong.named is.leads
     (wrong.wrong (All-contains (CanBeFreed kind t) list (t.link e) is.inside there))
 
 listed_rightly : (t : Tables) (kind : EntryKind) (e : ℕ) → IsOrderly t → ¬ IsMislisted t kind e

@@ -3,8 +3,8 @@ use Rattle.std.proofs.Common.{◌≡◌, ◌≢◌, ℕ, zero, suc, ◌+◌, ◌
 use Rattle.std.specs.List.{Contains, IsDistinct, list_any}
 use Rattle.std.proofs.lemmas.Bool.{ne_eqb}
 use Rattle.std.proofs.lemmas.Bool.Decides.{Decides-eqb}
-use Rattle.std.proofs.lemmas.List.Elements.{recursion_from_All, All-from_get_or, Contains-get_or, Contains-append_right}
-use Rattle.std.proofs.lemmas.Map.Keys.{IsDistinct-cons}
+use Rattle.std.proofs.lemmas.List.Elements.{recursion_from_All, All-from_recursion, All-nil, All-push, All-from_get_or, Contains-get_or, Contains-append_right}
+use Rattle.std.proofs.lemmas.Map.Keys.{IsDistinct-cons, IsDistinct-head, IsDistinct-tail}
 use Rattle.std.proofs.lemmas.Map.Made.{is_member-Decides}
 use Rattle.std.proofs.lemmas.Map.Steps.{length-le_from_distinct_below}
 use Rattle.entry_tables.specs.Links.{LeadsTo, LeadsToEnd, last_of}
@@ -168,6 +168,35 @@ linked_front next from (x ∷ xs) e linked (zero, h, is) = ([], (subst (λ (n : 
 linked_front next from (x ∷ xs) e linked (suc k, h, is) =
     let later = linked_front next (next x) xs e linked.2 (k, omega (arith, h), is) in
     (x ∷ later.0, (later.1.0, (linked.0, linked.1, later.1.1)))
+
+-- of two fronts the longer one has the entry to which the shorter leads
+pub front_within : (next : ℕ → ℕ) (from : ℕ) (xs ys : List ℕ) (e end : ℕ) → LeadsTo next from xs e → LeadsTo next from ys end
+    → length xs < length ys → Contains ys e
+front_within next from xs [] e end leads longer h = absurd (omega (arith, h))
+front_within next from [] (y ∷ ys) e end leads longer h =
+    subst (λ (n : ℕ). Contains (y ∷ ys) n) (sym longer.0 ∙ leads) (Contains-head y ys)
+front_within next from (x ∷ xs) (y ∷ ys) e end leads longer h =
+    let same : y ≡ x = sym longer.0 ∙ leads.0 in
+    Contains-tail y ys e (front_within next (next x) xs ys e end leads.2
+    (subst (λ (n : ℕ). LeadsTo next (next n) ys end) same longer.2) (omega (arith, h)))
+
+-- each entry of a front is named by the one before it
+pub front_next : (next : ℕ → ℕ) (start from : ℕ) (xs : List ℕ) (e k : ℕ) → LeadsTo next from xs e → next start ≡ from → k < length xs
+    → next (get_or (start ∷ xs) k 0) ≡ get_or xs k 0
+front_next next start from [] e k leads named h = absurd (omega (arith, h))
+front_next next start from (x ∷ xs) e zero leads named h = named ∙ leads.0
+front_next next start from (x ∷ xs) e (suc k) leads named h = front_next next x (next x) xs e k leads.2 refl (omega (arith, h))
+
+-- one number more that was not there
+pub IsDistinct-push : (xs : List ℕ) (e : ℕ) → IsDistinct nat_eq xs → ¬ Contains xs e → IsDistinct nat_eq (xs ++ e ∷ [])
+IsDistinct-push [] e once apart = IsDistinct-cons nat_eq e [] (recursion_from_All (λ y. nat_eq e y ≡ false) [] (All-nil (λ y. nat_eq e y ≡ false))) once
+IsDistinct-push (x ∷ xs) e once apart =
+    let differs : nat_eq x e ≡ false = ne_eqb x e (λ same. apart (subst (λ (n : ℕ). Contains (x ∷ xs) n) same (Contains-head x xs))) in
+    IsDistinct-cons nat_eq x (xs ++ e ∷ [])
+    (recursion_from_All (λ y. nat_eq x y ≡ false) (xs ++ e ∷ [])
+    (All-push (λ y. nat_eq x y ≡ false) xs e
+    (All-from_recursion (λ y. nat_eq x y ≡ false) xs (IsDistinct-head nat_eq x xs once)) differs))
+    (IsDistinct-push xs e (IsDistinct-tail nat_eq x xs once) (λ within. apart (Contains-tail x xs e within)))
 
 -- distinct numbers from 1 below n are fewer than n
 pub few_between : (xs : List ℕ) (n : ℕ) → 1 ≤ n → IsDistinct nat_eq xs → ((e : ℕ) → Contains xs e → (1 ≤ e) × (e < n)) → length xs < n

@@ -39,6 +39,10 @@ module _ (old new : State) (stays : Stays old new None) where
     had_counts told known k h =
         rw (sym (stays.cells told (info.table_at + k) (omega (arith, h, table.zero, entry_long kind)))) (known k h)
 
+    pub known_later : IsTrue old.told → HasCounts old.cells info → HasCounts new.cells info
+    known_later told known k h =
+        rw (stays.cells told (info.table_at + k) (omega (arith, h, table.zero, entry_long kind))) (known k h)
+
     pub count_stays : IsTrue old.told → (table_in new.cells kind info).count ≡ (table_in old.cells kind info).count
     count_stays told = number_stays 4 info.table_at told (omega (arith, table.zero, entry_long kind))
 

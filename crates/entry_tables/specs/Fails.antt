@@ -1,5 +1,6 @@
 -- Where a rule of tables and buckets fails.
-use Rattle.std.specs.Prelude.{◌≡◌, ◌≢◌, ℕ, ◌<◌, List, All, Contains}
+use Rattle.std.specs.Prelude.{◌≡◌, ◌≢◌, ℕ, ◌<◌, List, nat_eq, All, Contains}
+use Rattle.std.specs.List.{IsDistinct}
 use Rattle.entry_tables.specs.declared.table.EntryKind.{EntryKind}
 use Rattle.entry_tables.specs.declared.table.EntryKind.TheVariants.{Dir}
 use Rattle.entry_tables.specs.Kinds.{table_number, bucket_table}
@@ -8,13 +9,18 @@ use Rattle.entry_tables.specs.Links.{LeadsTo, last_of}
 use Rattle.entry_tables.specs.Used.{used_entries, named_entries, children_of}
 use Rattle.entry_tables.specs.Rules.{CanBeFreed, IsPlacedEntry, IsChildList, IsBucketList}
 
--- The rule on freed entries fails at an entry, 0 included, to which their list leads: its last word names a number that
--- no freed entry can have, or one that was named before.
-pub record NamesWrongly (kind : EntryKind) (t : Table) (e : ℕ) : Type 0 where
-  pub front : List ℕ
+-- the list of freed entries begins with these, the last of them this one, each a number that a freed entry can have
+pub record IsFreedFront (kind : EntryKind) (t : Table) (front : List ℕ) (e : ℕ) : Type 0 where
   pub leads : LeadsTo t.link (t.link 0) front (t.link e)
   pub last : last_of 0 front ≡ e
   pub inside : All (CanBeFreed kind t) front
+
+-- The rule on freed entries fails at an entry, 0 included, to which their list leads, past none of them twice: its last
+-- word names a number that no freed entry can have, or one that was named before. There is one such entry at most.
+pub record NamesWrongly (kind : EntryKind) (t : Table) (e : ℕ) : Type 0 where
+  pub front : List ℕ
+  pub begins : IsFreedFront kind t front e
+  pub once : IsDistinct nat_eq front
   pub named : t.link e ≢ 0
   pub wrong : CanBeFreed kind t (t.link e) → Contains front (t.link e)
 

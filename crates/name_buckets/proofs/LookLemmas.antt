@@ -1,5 +1,5 @@
 -- What was read of an entry later, as what it held before.
-use Rattle.std.proofs.Common.{◌≡◌, ℕ, ◌+◌, ◌<◌, List, None, length, sym, ◌∙◌, ap, subst}
+use Rattle.std.proofs.Common.{◌≡◌, ℕ, ◌+◌, ◌<◌, List, None, length, sym, ◌∙◌, ap, subst, arith}
 use Rattle.save_bytes.specs.Cells.{Cell, AreBytesAt}
 use Rattle.save_bytes.specs.CellNumbers.{number_in}
 use Rattle.save_bytes.specs.State.{State}
@@ -9,9 +9,10 @@ use Rattle.entry_tables.specs.declared.table.TableInfo.{TableInfo}
 use Rattle.name_buckets.specs.declared.find.Look.{Look}
 use Rattle.entry_tables.specs.Kinds.{entry_size, link_offset, IsRoot}
 use Rattle.entry_tables.specs.Tables.{Table, HasEntry, table_in, most_in, entry_place, bucket_place}
+use Rattle.entry_tables.specs.Fails.{IsFreedFront}
 use Rattle.entry_tables.specs.Layout.{HasCounts, HasEntryTable, TellsEntryTable}
 use Rattle.name_buckets.specs.Looks.{HasKey, Matches, IsLook}
-use Rattle.entry_tables.proofs.StayLemmas.{tells_later, table_stays}
+use Rattle.entry_tables.proofs.StayLemmas.{tells_later, known_later, table_stays}
 use Rattle.entry_tables.proofs.EntryLemmas.{parent_read, name_read, link_there, head_there}
 
 -- the parent and name of an entry are those that its bytes have
@@ -33,7 +34,7 @@ module _ (cells : ℕ → Cell) (kind : EntryKind) (info : TableInfo) (e : ℕ) 
 
 module _ (old mid : State) (stays : Stays old mid None) (kind : EntryKind) (info : TableInfo) (table : HasEntryTable old.shape kind info)
     (tells : TellsEntryTable old kind info) (known : HasCounts old.cells info) where
-  same_table : table_in mid.cells kind info ≡ table_in old.cells kind info
+  pub same_table : table_in mid.cells kind info ≡ table_in old.cells kind info
   same_table = table_stays old mid stays kind info table tells known
 
   -- a look at it
@@ -45,11 +46,12 @@ module _ (old mid : State) (stays : Stays old mid None) (kind : EntryKind) (info
       (seen (tells_later old mid stays kind info table tells) (subst (λ (t : Table). HasEntry t e) (sym same_table) has))
 
   -- its last word
-  pub link_stays : (e word offset : ℕ) → offset ≡ link_offset kind → e < most_in old.cells info
+  pub link_stays : (e word offset : ℕ) → offset ≡ link_offset kind → e < (table_in old.cells kind info).count
       → (TellsEntryTable mid kind info → e < most_in mid.cells info
       → word ≡ number_in 4 mid.cells (entry_place kind info e + offset)) → word ≡ (table_in old.cells kind info).link e
   link_stays e word offset there below read =
-      let still : e < most_in mid.cells info = subst (λ (t : Table). e < t.most) (sym same_table) below in
+      let here : e < most_in old.cells info = omega (arith, below, tells.most known) in
+      let still : e < most_in mid.cells info = subst (λ (t : Table). e < t.most) (sym same_table) here in
       read (tells_later old mid stays kind info table tells) still ∙ rw there (link_there mid.cells kind info e still)
       ∙ ap (λ (t : Table). t.link e) same_table
 
@@ -57,3 +59,10 @@ module _ (old mid : State) (stays : Stays old mid None) (kind : EntryKind) (info
   pub head_stays : (bucket : ℕ) → bucket < info.buckets
       → number_in 4 mid.cells (bucket_place info bucket) ≡ (table_in old.cells kind info).head bucket
   head_stays bucket below = head_there mid.cells kind info bucket below ∙ ap (λ (t : Table). t.head bucket) same_table
+
+  -- whether a number is among freed entries
+  pub among_stays : (front : List ℕ) (last : ℕ) (Q : Type 0) → IsFreedFront kind (table_in old.cells kind info) front last
+      → (TellsEntryTable mid kind info → HasCounts mid.cells info → IsFreedFront kind (table_in mid.cells kind info) front last → Q) → Q
+  among_stays front last Q begins seen =
+      seen (tells_later old mid stays kind info table tells) (known_later old mid stays kind info table tells.told known)
+      (subst (λ (t : Table). IsFreedFront kind t front last) (sym same_table) begins)

@@ -310,18 +310,18 @@ fn a_freed_entry_that_names_a_wrong_number_is_named(rt: HostRuntime) {
     }
 }
 
+// Of freed entries 4, 2 and 3 one names itself or one before it.
 #[test]
-fn freed_entries_that_name_each_other_in_a_circle_are_named(rt: HostRuntime) {
-    let mut bytes = freed_tree();
-    set_u32(&mut bytes, 1724, 4);
-    let Reply::Number(Err(EntryFault::Broken { table, entry })) = reply_to(
-        &mut bytes,
-        Call::Free(EntryKind::File),
-    ) else {
-        panic!(&rt; "no rule failed");
-    };
-    assert_eq!(rt; table, 3);
-    assert!(rt; entry == 2 || entry == 3 || entry == 4);
+fn a_freed_entry_that_names_an_earlier_one_is_named(rt: HostRuntime) {
+    for (at, number, entry) in [(1724, 4, 3), (1724, 2, 3), (1676, 4, 2), (1772, 4, 4)] {
+        let mut bytes = freed_tree();
+        set_u32(&mut bytes, at, number);
+        let room = reply_to(&mut bytes, Call::Free(EntryKind::File));
+        assert_eq!(rt;
+            room,
+            Reply::Number(Err(EntryFault::Broken { table: 3, entry }))
+        );
+    }
 }
 
 #[test]

@@ -193,7 +193,8 @@ impl<'a, S: Space> Entries<'a, S> {
     }
 
     /// How many entries of a kind can still be added. It is answered only where the freed entries of this kind have the
-    /// list that they should.
+    /// list that they should. Else the one entry is named at which the rule fails; where the list comes back to itself, it
+    /// is found in about half as many steps as the square of how many are freed.
     pub fn free(&mut self, kind: EntryKind) -> Result<u32, EntryFault>
         requires { HoldsTables S.state self.old }
         ensures room { TellsTableOf S.state self.old kind → IfOk result (IsRoom kind ((tables_of S.state self.old).table kind)) }

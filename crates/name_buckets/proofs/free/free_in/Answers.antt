@@ -1,32 +1,18 @@
-use Rattle.std.proofs.Common.{ℕ, ◌+◌, ◌<◌, ◌≤◌, Some, refl, sym, ◌∙◌, arith}
-use Rattle.save_bytes.specs.State.{State}
+use Rattle.std.proofs.Common.{◌≡◌, ◌+◌, Some, length, refl, sym, ◌∙◌, ap, subst, arith}
 use Rattle.save_bytes.proofs.SpaceLemmas.{IfDamaged-map}
-use Rattle.entry_tables.specs.declared.table.EntryKind.{EntryKind}
-use Rattle.entry_tables.specs.declared.table.TableInfo.{TableInfo}
 use Rattle.entry_tables.specs.Kinds.{table_number, link_offset}
-use Rattle.entry_tables.specs.Tables.{table_in, most_in, entry_place}
-use Rattle.entry_tables.specs.Layout.{HasCounts, TellsEntryTable}
+use Rattle.entry_tables.specs.Tables.{Table, table_in, entry_place}
 use Rattle.entry_tables.specs.Rules.{CanBeFreed}
-use Rattle.entry_tables.proofs.EntryLemmas.{least_some, link_last}
+use Rattle.entry_tables.specs.Fails.{NamesWrongly}
+use Rattle.entry_tables.proofs.EntryLemmas.{some_counted, link_last}
 use Rattle.save_bytes.proofs.CallLemmas.{reads_then}
 use Rattle.entry_tables.proofs.StayLemmas.{HasEntryTable-stays, entry_fits, needed_read}
 use Rattle.entry_tables.proofs.CauseLemmas.{passed_on, bad_cause, broken_cause, plain_stays}
-use Rattle.name_buckets.proofs.LookLemmas.{link_stays}
-use Rattle.name_buckets.proofs.FreeLemmas.{HasFollowed, HasFollowed-more, followed_below, followed_needed, room_counted, wrong_number, named_before}
+use Rattle.name_buckets.proofs.LookLemmas.{same_table, link_stays, among_stays}
+use Rattle.name_buckets.proofs.FreeLemmas.{HasFollowed-more, followed_below, followed_needed, room_counted, wrong_number, not_long}
 use Rattle.name_buckets.proofs.free.free_in.Goals.{then-next-least_freed-via-then-next-least_freed}
 use Rattle.name_buckets.proofs.free.free_in.Goals.{then-next-least_freed-via-else-next-least_freed+then-next-counts}
 use Rattle.name_buckets.proofs.free.free_in.Goals as goal
-
--- the last freed entry that was passed is below the most
-passed_below : (s : State) (kind : EntryKind) (info : TableInfo) (steps from : ℕ) → TellsEntryTable s kind info → HasCounts s.cells info
-    → HasFollowed kind (table_in s.cells kind info) steps from → from < most_in s.cells info
-passed_below s kind info steps from tells known followed =
-    let some : 1 ≤ (table_in s.cells kind info).count = omega (arith, least_some kind, tells.least known) in
-    omega (arith, followed_below followed some, tells.most known)
-
-some_counted : (s : State) (kind : EntryKind) (info : TableInfo) → TellsEntryTable s kind info → HasCounts s.cells info
-    → 1 ≤ (table_in s.cells kind info).count
-some_counted s kind info tells known = omega (arith, least_some kind, tells.least known)
 
 pub entry_word-requires-clause-table : goal.entry_word-requires-clause-table
 entry_word-requires-clause-table g c =
@@ -47,8 +33,8 @@ returns-in_err-next-clause-cause g c =
     (λ tells rule.
     let known = c.in_ok-counts.ensures.known tells.told in
     let followed = c.loop-freed.invariant.followed tells in
-    let below = passed_below old kind info _ from tells known followed in
-    let fits = entry_fits old mid stays kind info c.requires tells known from below in
+    let below = followed_below followed (some_counted old kind info tells known) in
+    let fits = entry_fits old mid stays kind info c.requires tells known from (omega (arith, below, tells.most known)) in
     IfDamaged-map (Some bad)
     (λ part level block. needed_read old mid stays kind info c.requires tells.told (entry_place kind info from + link_offset kind) 4
     part level block (omega (arith, fits, link_last kind)) (λ x within. followed_needed followed info x rule within))
@@ -69,7 +55,7 @@ returns-then-next-eq0-clause-free g c = λ tells.
     let followed = c.loop-freed.invariant.followed tells in
     let next = link_stays old (g.S.Space.state c.loop-freed.space) c.loop-freed.invariant.reads.stays c.args.kind c.args.info c.requires
     tells known c.loop-freed.from c.in_ok-next.next c.link_offset.result c.link_offset.ensures
-    (passed_below old c.args.kind c.args.info _ c.loop-freed.from tells known followed) c.in_ok-next.ensures.word in
+    (followed_below followed (some_counted old c.args.kind c.args.info tells known)) c.in_ok-next.ensures.word in
     room_counted followed (c.saturating_sub.result + c.loop-freed.freed) (sym next ∙ c.if-next-eq0.true)
     (rw (c.saturating_sub.ensures, counts.count tells.told, counts.most tells.told) refl)
 
@@ -96,7 +82,7 @@ returns-then-next-least_freed-clause-cause g c =
           let followed = c.loop-freed.invariant.followed tells in
           let next = link_stays old (g.S.Space.state c.loop-freed.space) c.loop-freed.invariant.reads.stays kind c.args.info c.requires
           tells known c.loop-freed.from c.in_ok-next.next c.link_offset.result c.link_offset.ensures
-          (passed_below old kind c.args.info _ c.loop-freed.from tells known followed) c.in_ok-next.ensures.word in
+          (followed_below followed (some_counted old kind c.args.info tells known)) c.in_ok-next.ensures.word in
           let counted = counts.count tells.told in
           let cannot : ¬ CanBeFreed kind t c.in_ok-next.next = λ can.
           elim c.then-next-least_freed.branch [
@@ -120,22 +106,64 @@ loop-freed-preserved g c =
           let followed = before.followed tells in
           let next = link_stays old (space.state c.loop-freed.space) before.reads.stays c.args.kind c.args.info c.requires tells known
           c.loop-freed.from c.in_ok-next.next c.link_offset.result c.link_offset.ensures
-          (passed_below old c.args.kind c.args.info _ c.loop-freed.from tells known followed) c.in_ok-next.ensures.word in
+          (followed_below followed (some_counted old c.args.kind c.args.info tells known)) c.in_ok-next.ensures.word in
           HasFollowed-more followed c.in_ok-next.next next c.if-next-eq0.false (
             omega (arith, c.if-next-least_freed.false, c.least_freed.ensures),
             omega (arith, c.if-next-counts.false, counts.count tells.told),
           ));
     }
 
+pub circle_end-requires : goal.circle_end-requires
+circle_end-requires g c =
+    HasEntryTable-stays (g.S.Space.state c.args.space.now) (g.S.Space.state c.loop-freed.space) c.loop-freed.invariant.reads.stays
+    c.args.kind c.args.info c.requires
+
+pub returns-in_err-end-clause-cause : goal.returns-in_err-end-clause-cause
+returns-in_err-end-clause-cause g c =
+    let old = g.S.Space.state c.args.space.now in
+    let mid = g.S.Space.state c.loop-freed.space in
+    let kind = c.args.kind in
+    let bad = c.in_err-end.field-0.0 in
+    rw (passed_on _ bad c.from_residual-in_err-end.ensures.1)
+    (bad_cause old kind c.args.info _ _ bad
+    (λ tells rule.
+    let counts = c.in_ok-counts.ensures in
+    absurd (not_long (c.loop-freed.invariant.followed tells) (omega (arith, c.loop-freed-test.false, counts.count tells.told))
+    (some_counted old kind c.args.info tells (counts.known tells.told)) rule))
+    (λ plain. c.in_err-end.ensures.plain (plain_stays old.shape mid.shape c.loop-freed.invariant.reads.stays.space.shape plain)))
+
+pub returns-in_err-end-clause-reads : goal.returns-in_err-end-clause-reads
+returns-in_err-end-clause-reads g c =
+    let bad = c.in_err-end.field-0.0 in
+    rw (passed_on _ bad c.from_residual-in_err-end.ensures.1)
+    (reads_then g.met.S.Space.keeps_join c.loop-freed.invariant.reads c.in_err-end.ensures.reads)
+
 pub returns-clause-cause : goal.returns-clause-cause
 returns-clause-cause g c =
     let old = g.S.Space.state c.args.space.now in
+    let mid = g.S.Space.state c.loop-freed.space in
     let kind = c.args.kind in
+    let info = c.args.info in
+    let stays = c.loop-freed.invariant.reads.stays in
+    let end = c.in_ok-end.end in
     rw c.names_wrongly-2.ensures
-    (broken_cause old kind c.args.info _ _ (table_number kind) c.loop-freed.from
+    (broken_cause old kind info _ _ (table_number kind) end
     (λ tells. (
       refl,
       (let counts = c.in_ok-counts.ensures in
-          named_before (c.loop-freed.invariant.followed tells) (omega (arith, c.loop-freed-test.false, counts.count tells.told))
-          (some_counted old kind c.args.info tells (counts.known tells.told))),
+          let known = counts.known tells.told in
+          let followed = c.loop-freed.invariant.followed tells in
+          let same = same_table old mid stays kind info c.requires tells known in
+          let counted = ap (λ (t : Table). t.count) same ∙ sym (counts.count tells.told) in
+          let many : length followed.front ≡ c.in_ok-counts.counts.count =
+          omega (arith, followed.many, c.loop-freed-test.false, c.loop-freed.auto.freed-end) in
+          let wrong = among_stays old mid stays kind info c.requires tells known followed.front c.loop-freed.from
+          (NamesWrongly kind (table_in mid.cells kind info) end) followed.begins
+          (λ tells_too known_too begins. c.in_ok-end.ensures.wrong tells_too known_too counted followed.front c.loop-freed.from begins many) in
+          subst (λ (t : Table). NamesWrongly kind t end) same wrong),
     )))
+
+pub returns-clause-reads : goal.returns-clause-reads
+returns-clause-reads g c =
+    rw c.names_wrongly-2.ensures
+    (reads_then g.met.S.Space.keeps_join c.loop-freed.invariant.reads c.in_ok-end.ensures.reads)
