@@ -20,12 +20,14 @@ use Rattle.entry_tables.proofs.EntryLemmas.{link_last, entry_long}
 use Rattle.save_bytes.proofs.SpaceLemmas.{IfDamaged-map}
 
 -- an error is passed on as it is
-pub passed_error : {A E : Type 0} (result : Result A E) (error : E) → IsErrAnd result (λ found. found ≡ error) → result ≡ Err error
+pub passed_error : {A E : Type 0} (result : Result A E) (error : E) → IsErrAnd result (λ found. found ≡ error)
+    → result ≡ Err error
 passed_error (Ok value) error h = absurd h
 passed_error (Err found) error h = ap Err h
 
 -- and a refusal of the space within another
-pub passed_on : {A : Type 0} (result : Result A EntryFault) (bad : Bad) → IsErrAnd result (λ found. found ≡ fault.Bad bad) → result ≡ Err (fault.Bad bad)
+pub passed_on : {A : Type 0} (result : Result A EntryFault) (bad : Bad)
+    → IsErrAnd result (λ found. found ≡ fault.Bad bad) → result ≡ Err (fault.Bad bad)
 passed_on result bad h = passed_error result (fault.Bad bad) h
 
 -- what holds where a rule is said to fail follows there
@@ -37,13 +39,20 @@ IfRuleBroken-map (Err (fault.Broken table entry)) f h = f table entry h
 IfRuleBroken-map (Err (fault.NoEntry most)) f h = tt
 
 module _ {A : Type 0} (s : State) (kind : EntryKind) (info : TableInfo) (Rule : Type 0) (Fails : ℕ → ℕ → Type 0) where
-  pub bad_cause : (bad : Bad) → (TellsEntryTable s kind info → Rule → IfDamaged (Some bad) (BlamesNeeded kind info s.cells))
-      → (IsTrue s.shape.plain → NeverDamaged (Some bad)) → HasEntryCause {A = A} s kind info Rule Fails (Err (fault.Bad bad))
+  pub bad_cause : (bad : Bad) → (TellsEntryTable s kind info → Rule
+      → IfDamaged (Some bad) (BlamesNeeded kind info s.cells))
+      → (IsTrue s.shape.plain → NeverDamaged (Some bad))
+      → HasEntryCause {A = A} s kind info Rule Fails (Err (fault.Bad bad))
   bad_cause bad damaged plain = record { damaged = damaged; plain = plain; broken = λ tells. tt; never_full = tt }
 
   pub broken_cause : (table entry : ℕ) → (TellsEntryTable s kind info → Fails table entry)
       → HasEntryCause {A = A} s kind info Rule Fails (Err (fault.Broken table entry))
-  broken_cause table entry fails = record { damaged = λ tells rule. tt; plain = λ plain. tt; broken = fails; never_full = tt }
+  broken_cause table entry fails = record {
+    damaged = λ tells rule. tt;
+    plain = λ plain. tt;
+    broken = fails;
+    never_full = tt;
+  }
 
 -- what is plain stays plain
 pub plain_stays : (old new : Shape) → new ≡ old → IsTrue old.plain → IsTrue new.plain
@@ -52,16 +61,19 @@ plain_stays old new same plain = subst (λ (shape : Shape). IsTrue shape.plain) 
 -- the bytes of a used entry are needed
 module _ (s : State) (kind : EntryKind) (info : TableInfo) (entry offset n : ℕ) (fits : offset + n ≤ entry_size kind)
     (used : used_entries (table_in s.cells kind info) entry) where
-  needed_place : (x : ℕ) → IsReadAt kind info (entry_place kind info entry + offset) n x → IsNeeded kind info (table_in s.cells kind info) x
+  needed_place : (x : ℕ) → IsReadAt kind info (entry_place kind info entry + offset) n x
+      → IsNeeded kind info (table_in s.cells kind info) x
   needed_place x (AtZero within) = OfZero within
-  needed_place x (AtPlace within) = OfUsed entry used (record { from = omega (arith, within.from); before = omega (arith, within.before, fits) })
+  needed_place x (AtPlace within) =
+      OfUsed entry used (record { from = omega (arith, within.from); before = omega (arith, within.before, fits) })
 
   needed_entry : (part level block : ℕ)
       → BlamesRead kind info (entry_place kind info entry + offset) n s.cells part level block
       → BlamesNeeded kind info s.cells part level block
   needed_entry part level block h = record { place = h.place; needed = needed_place h.place h.read; blames = h.blames }
 
-pub entry_cause : {A : Type 0} (s : State) (kind : EntryKind) (info : TableInfo) (entry offset n : ℕ) (result : Result A EntryFault)
+pub entry_cause : {A : Type 0} (s : State) (kind : EntryKind) (info : TableInfo) (entry offset n : ℕ)
+    (result : Result A EntryFault)
     (bad : Bad) → offset + n ≤ entry_size kind → IsErrAnd result (λ found. found ≡ fault.Bad bad)
     → (IsTrue s.told → IfDamaged (Some bad) (BlamesRead kind info (entry_place kind info entry + offset) n s.cells))
     → (IsTrue s.shape.plain → NeverDamaged (Some bad))
@@ -73,7 +85,8 @@ entry_cause s kind info entry offset n result bad fits is damaged plain =
     plain)
 
 -- entry 0 is needed
-pub zero_cause : {A : Type 0} (s : State) (kind : EntryKind) (info : TableInfo) (result : Result A EntryFault) (bad : Bad)
+pub zero_cause : {A : Type 0} (s : State) (kind : EntryKind) (info : TableInfo) (result : Result A EntryFault)
+    (bad : Bad)
     → IsErrAnd result (λ found. found ≡ fault.Bad bad) → IsRead s info.table_at 8 (Some bad)
     → HasEntryCause s kind info ⊤ (λ table place. ⊥) result
 zero_cause s kind info result bad is read =
@@ -90,8 +103,10 @@ zero_cause s kind info result bad is read =
     }
 
 -- and so is a bucket
-pub bucket_cause : {A : Type 0} (s : State) (kind : EntryKind) (info : TableInfo) (bucket : ℕ) (result : Result A EntryFault) (bad : Bad)
-    → bucket < info.buckets → IsErrAnd result (λ found. found ≡ fault.Bad bad) → IsRead s (bucket_place info bucket) 4 (Some bad)
+pub bucket_cause : {A : Type 0} (s : State) (kind : EntryKind) (info : TableInfo) (bucket : ℕ)
+    (result : Result A EntryFault) (bad : Bad)
+    → bucket < info.buckets → IsErrAnd result (λ found. found ≡ fault.Bad bad)
+    → IsRead s (bucket_place info bucket) 4 (Some bad)
     → HasEntryCause s kind info ⊤ (λ table place. ⊥) result
 bucket_cause s kind info bucket result bad below is read =
     rw (passed_on result bad is)
@@ -108,18 +123,27 @@ bucket_cause s kind info bucket result bad below is read =
 
 -- and the last word of an entry that has one
 module _ (s : State) (kind : EntryKind) (info : TableInfo) (entry : ℕ) where
-  link_place : (x : ℕ) → HasLink (table_in s.cells kind info) entry → IsReadAt kind info (entry_place kind info entry + link_offset kind) 4 x
+  link_place : (x : ℕ) → HasLink (table_in s.cells kind info) entry
+      → IsReadAt kind info (entry_place kind info entry + link_offset kind) 4 x
       → IsNeeded kind info (table_in s.cells kind info) x
   link_place x has (AtZero within) = OfZero within
   link_place x (LinksFreed none) (AtPlace within) =
       let there : entry_place kind info entry ≡ info.table_at = rw none (omega arith) in
-      OfZero (record { from = omega (arith, within.from, there); before = omega (arith, within.before, there, link_last kind) })
+      OfZero (record {
+        from = omega (arith, within.from, there);
+        before = omega (arith, within.before, there, link_last kind);
+      })
   link_place x (LinksBucket used) (AtPlace within) =
-      OfUsed entry used (record { from = omega (arith, within.from); before = omega (arith, within.before, link_last kind) })
+      OfUsed entry used (record {
+        from = omega (arith, within.from);
+        before = omega (arith, within.before, link_last kind);
+      })
   link_place x (LinksNext list freed contained) (AtPlace within) = OfFreed entry list freed contained within
 
-  pub link_cause : {A : Type 0} (result : Result A EntryFault) (bad : Bad) → IsErrAnd result (λ found. found ≡ fault.Bad bad)
-      → (IsTrue s.told → IfDamaged (Some bad) (BlamesRead kind info (entry_place kind info entry + link_offset kind) 4 s.cells))
+  pub link_cause : {A : Type 0} (result : Result A EntryFault) (bad : Bad)
+      → IsErrAnd result (λ found. found ≡ fault.Bad bad)
+      → (IsTrue s.told → IfDamaged (Some bad) (BlamesRead kind info (entry_place kind info entry + link_offset kind) 4
+      s.cells))
       → (IsTrue s.shape.plain → NeverDamaged (Some bad))
       → HasEntryCause s kind info (HasLink (table_in s.cells kind info) entry) (λ table place. ⊥) result
   link_cause result bad is damaged plain =

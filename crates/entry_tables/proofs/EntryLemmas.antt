@@ -34,21 +34,25 @@ link_there cells kind info e below =
 pub head_there : (cells : ℕ → Cell) (kind : EntryKind) (info : TableInfo) (bucket : ℕ) → bucket < info.buckets
     → number_in 4 cells (bucket_place info bucket) ≡ (table_in cells kind info).head bucket
 head_there cells kind info bucket below =
-    sym (cond-true (nat_lt bucket info.buckets) (number_in 4 cells (bucket_place info bucket)) 0 (lt-ltb bucket info.buckets below))
+    sym (cond-true (nat_lt bucket info.buckets) (number_in 4 cells (bucket_place info bucket)) 0
+    (lt-ltb bucket info.buckets below))
 
 -- entry 0 is counted
-pub some_counted : (s : State) (kind : EntryKind) (info : TableInfo) → TellsEntryTable s kind info → HasCounts s.cells info
+pub some_counted : (s : State) (kind : EntryKind) (info : TableInfo) → TellsEntryTable s kind info
+    → HasCounts s.cells info
     → 1 ≤ (table_in s.cells kind info).count
 some_counted s kind info tells known = omega (arith, least_some kind, tells.least known)
 
 -- a number from 1 below the count is that of an entry
-pub counted_entry : (s : State) (kind : EntryKind) (info : TableInfo) → TellsEntryTable s kind info → HasCounts s.cells info → (e : ℕ)
+pub counted_entry : (s : State) (kind : EntryKind) (info : TableInfo) → TellsEntryTable s kind info
+    → HasCounts s.cells info → (e : ℕ)
     → e ≢ 0 → e < (table_in s.cells kind info).count → HasEntry (table_in s.cells kind info) e
 counted_entry s kind info tells known e some below =
     record { some = omega (arith, some); below = omega (arith, below, tells.most known) }
 
 -- and so is a used one
-pub used_entry : (s : State) (kind : EntryKind) (info : TableInfo) → TellsEntryTable s kind info → HasCounts s.cells info → (e : ℕ)
+pub used_entry : (s : State) (kind : EntryKind) (info : TableInfo) → TellsEntryTable s kind info
+    → HasCounts s.cells info → (e : ℕ)
     → used_entries (table_in s.cells kind info) e → HasEntry (table_in s.cells kind info) e
 used_entry s kind info tells known e used =
     counted_entry s kind info tells known e (λ none. (omega (arith, used.some, none))) used.below

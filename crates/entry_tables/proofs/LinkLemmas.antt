@@ -66,7 +66,8 @@ linked_first next from [] linked = linked
 linked_first next from (x ∷ xs) linked = linked.0
 
 -- and each entry names the next
-pub linked_next : (next : ℕ → ℕ) (from : ℕ) (list : List ℕ) (k : ℕ) → LeadsToEnd next from list → k < length list → next (get_or list k 0) ≡ get_or list (suc k) 0
+pub linked_next : (next : ℕ → ℕ) (from : ℕ) (list : List ℕ) (k : ℕ) → LeadsToEnd next from list → k < length list
+    → next (get_or list k 0) ≡ get_or list (suc k) 0
 linked_next next from [] k linked h = absurd (omega (arith, h))
 linked_next next from (x ∷ xs) zero linked h = linked_first next (next x) xs linked.2
 linked_next next from (x ∷ xs) (suc k) linked h = linked_next next (next x) xs k linked.2 (omega (arith, h))
@@ -142,13 +143,15 @@ pub linked_distinct : (next : ℕ → ℕ) (from : ℕ) (list : List ℕ) → Le
 linked_distinct next from list linked = LeadsTo-distinct next from list 0 linked (linked_apart next from list linked)
 
 -- from an entry of such a list no way leads back to it
-ends_once : (next : ℕ → ℕ) (e : ℕ) (rest loop : List ℕ) → e ≢ 0 → LeadsToEnd next e rest → ¬ LeadsTo next (next e) loop e
+ends_once : (next : ℕ → ℕ) (e : ℕ) (rest loop : List ℕ) → e ≢ 0 → LeadsToEnd next e rest
+    → ¬ LeadsTo next (next e) loop e
 ends_once next e [] loop some linked leads = some linked
 ends_once next e (x ∷ xs) loop some linked leads =
     let tail : LeadsToEnd next (next e) xs = subst (λ (n : ℕ). LeadsToEnd next (next n) xs) (sym linked.0) linked.2 in
     let whole = whole_list next (next e) loop e xs leads tail in
     let same : length (x ∷ xs) ≡ length whole.0 =
-    one_way next e (x ∷ xs) whole.0 0 linked whole.2 (linked_apart next e (x ∷ xs) linked) (linked_apart next e whole.0 whole.2) in
+    one_way next e (x ∷ xs) whole.0 0 linked whole.2 (linked_apart next e (x ∷ xs) linked)
+    (linked_apart next e whole.0 whole.2) in
     let long : length xs ≡ length loop + length whole.0 = ap length whole.1 ∙ length-append loop whole.0 in
     omega (arith, same, long)
 
@@ -170,7 +173,8 @@ linked_front next from (x ∷ xs) e linked (suc k, h, is) =
     (x ∷ later.0, (later.1.0, (linked.0, linked.1, later.1.1)))
 
 -- of two fronts the longer one has the entry to which the shorter leads
-pub front_within : (next : ℕ → ℕ) (from : ℕ) (xs ys : List ℕ) (e end : ℕ) → LeadsTo next from xs e → LeadsTo next from ys end
+pub front_within : (next : ℕ → ℕ) (from : ℕ) (xs ys : List ℕ) (e end : ℕ) → LeadsTo next from xs e
+    → LeadsTo next from ys end
     → length xs < length ys → Contains ys e
 front_within next from xs [] e end leads longer h = absurd (omega (arith, h))
 front_within next from [] (y ∷ ys) e end leads longer h =
@@ -181,17 +185,21 @@ front_within next from (x ∷ xs) (y ∷ ys) e end leads longer h =
     (subst (λ (n : ℕ). LeadsTo next (next n) ys end) same longer.2) (omega (arith, h)))
 
 -- each entry of a front is named by the one before it
-pub front_next : (next : ℕ → ℕ) (start from : ℕ) (xs : List ℕ) (e k : ℕ) → LeadsTo next from xs e → next start ≡ from → k < length xs
+pub front_next : (next : ℕ → ℕ) (start from : ℕ) (xs : List ℕ) (e k : ℕ) → LeadsTo next from xs e
+    → next start ≡ from → k < length xs
     → next (get_or (start ∷ xs) k 0) ≡ get_or xs k 0
 front_next next start from [] e k leads named h = absurd (omega (arith, h))
 front_next next start from (x ∷ xs) e zero leads named h = named ∙ leads.0
-front_next next start from (x ∷ xs) e (suc k) leads named h = front_next next x (next x) xs e k leads.2 refl (omega (arith, h))
+front_next next start from (x ∷ xs) e (suc k) leads named h = front_next next x (next x) xs e k leads.2 refl
+    (omega (arith, h))
 
 -- one number more that was not there
 pub IsDistinct-push : (xs : List ℕ) (e : ℕ) → IsDistinct nat_eq xs → ¬ Contains xs e → IsDistinct nat_eq (xs ++ e ∷ [])
-IsDistinct-push [] e once apart = IsDistinct-cons nat_eq e [] (recursion_from_All (λ y. nat_eq e y ≡ false) [] (All-nil (λ y. nat_eq e y ≡ false))) once
+IsDistinct-push [] e once apart = IsDistinct-cons nat_eq e []
+    (recursion_from_All (λ y. nat_eq e y ≡ false) [] (All-nil (λ y. nat_eq e y ≡ false))) once
 IsDistinct-push (x ∷ xs) e once apart =
-    let differs : nat_eq x e ≡ false = ne_eqb x e (λ same. apart (subst (λ (n : ℕ). Contains (x ∷ xs) n) same (Contains-head x xs))) in
+    let differs : nat_eq x e ≡ false = ne_eqb x e (λ same. apart
+    (subst (λ (n : ℕ). Contains (x ∷ xs) n) same (Contains-head x xs))) in
     IsDistinct-cons nat_eq x (xs ++ e ∷ [])
     (recursion_from_All (λ y. nat_eq x y ≡ false) (xs ++ e ∷ [])
     (All-push (λ y. nat_eq x y ≡ false) xs e

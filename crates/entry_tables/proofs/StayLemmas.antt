@@ -28,10 +28,13 @@ module _ (old new : State) (stays : Stays old new None) where
   same_size = ap (λ (shape : Shape). shape.size) stays.space.shape
 
   -- numbers and bytes of the space
-  bytes_stay : (n at : ℕ) → IsTrue old.told → at + n ≤ old.shape.size → bytes_in new.cells at n ≡ bytes_in old.cells at n
-  bytes_stay n at told fits = bytes_in-same new.cells old.cells at at n (λ k h. stays.cells told (at + k) (omega (arith, fits, h)))
+  bytes_stay : (n at : ℕ) → IsTrue old.told → at + n ≤ old.shape.size
+      → bytes_in new.cells at n ≡ bytes_in old.cells at n
+  bytes_stay n at told fits = bytes_in-same new.cells old.cells at at n
+      (λ k h. stays.cells told (at + k) (omega (arith, fits, h)))
 
-  number_stays : (n at : ℕ) → IsTrue old.told → at + n ≤ old.shape.size → number_in n new.cells at ≡ number_in n old.cells at
+  number_stays : (n at : ℕ) → IsTrue old.told → at + n ≤ old.shape.size
+      → number_in n new.cells at ≡ number_in n old.cells at
   number_stays n at told fits = ap (λ (bytes : List ℕ). number_at n bytes 0) (bytes_stay n at told fits)
 
   module _ (kind : EntryKind) (info : TableInfo) (table : HasEntryTable old.shape kind info) where
@@ -63,7 +66,13 @@ module _ (old new : State) (stays : Stays old new None) where
         tells.entries (had_counts tells.told known) e (omega (arith, h, most_stays tells.told)),
       );
       least = λ known. omega (arith, count_stays tells.told, tells.least (had_counts tells.told known));
-      most = λ known. omega (arith, count_stays tells.told, most_stays tells.told, tells.most (had_counts tells.told known));
+      most = λ known. omega (
+        arith,
+        count_stays tells.told,
+        most_stays tells.told,
+        tells.most
+            (had_counts tells.told known),
+      );
     }
 
     module _ (tells : TellsEntryTable old kind info) (known : HasCounts old.cells info) where
@@ -71,15 +80,19 @@ module _ (old new : State) (stays : Stays old new None) where
       pub entry_fits : (e : ℕ) → e < most_in old.cells info → entry_place kind info e + entry_size kind ≤ old.shape.size
       entry_fits e below = tells.entries known e below
 
-      entry_field : {A : Type 0} (e : ℕ) (none new_value old_value : A) → (e < most_in old.cells info → new_value ≡ old_value)
-          → (if is_entry (most_in new.cells info) e then new_value else none) ≡ (if is_entry (most_in old.cells info) e then old_value else none)
+      entry_field : {A : Type 0} (e : ℕ) (none new_value old_value : A) → (e < most_in old.cells info
+          → new_value ≡ old_value)
+          → (if is_entry (most_in new.cells info) e then new_value else none) ≡
+          (if is_entry (most_in old.cells info) e then old_value else none)
       entry_field e none new_value old_value same =
           rw (most_stays tells.told)
           (field_same (is_entry (most_in old.cells info) e) none new_value old_value
-          (λ here. same (ltb-true e (most_in old.cells info) (and_parts (nat_lt 0 e) (nat_lt e (most_in old.cells info)) here).1)))
+          (λ here. same (ltb-true e (most_in old.cells info) (and_parts (nat_lt 0 e)
+          (nat_lt e (most_in old.cells info)) here).1)))
 
       entry_number : (e offset : ℕ) → offset + 4 ≤ entry_size kind → e < most_in old.cells info
-          → number_in 4 new.cells (entry_place kind info e + offset) ≡ number_in 4 old.cells (entry_place kind info e + offset)
+          → number_in 4 new.cells (entry_place kind info e + offset) ≡ number_in 4 old.cells
+          (entry_place kind info e + offset)
       entry_number e offset inside below =
           number_stays 4 (entry_place kind info e + offset) tells.told (omega (arith, inside, entry_fits e below))
 
@@ -98,30 +111,39 @@ module _ (old new : State) (stays : Stays old new None) where
         where
           heads : (b : ℕ) → (table_in new.cells kind info).head b ≡ (table_in old.cells kind info).head b
           heads b =
-              field_same (nat_lt b info.buckets) 0 (number_in 4 new.cells (bucket_place info b)) (number_in 4 old.cells (bucket_place info b))
-              (λ here. number_stays 4 (bucket_place info b) tells.told (omega (arith, ltb-true b info.buckets here, table.buckets)))
+              field_same (nat_lt b info.buckets) 0 (number_in 4 new.cells (bucket_place info b))
+              (number_in 4 old.cells (bucket_place info b))
+              (λ here. number_stays 4 (bucket_place info b) tells.told
+              (omega (arith, ltb-true b info.buckets here, table.buckets)))
 
           parents : (e : ℕ) → (table_in new.cells kind info).parent e ≡ (table_in old.cells kind info).parent e
           parents e =
-              entry_field e 0 (number_in 4 new.cells (entry_place kind info e)) (number_in 4 old.cells (entry_place kind info e))
-              (λ below. number_stays 4 (entry_place kind info e) tells.told (omega (arith, entry_fits e below, entry_long kind)))
+              entry_field e 0 (number_in 4 new.cells (entry_place kind info e))
+              (number_in 4 old.cells (entry_place kind info e))
+              (λ below. number_stays 4 (entry_place kind info e) tells.told
+              (omega (arith, entry_fits e below, entry_long kind)))
 
           names : (e : ℕ) → (table_in new.cells kind info).name e ≡ (table_in old.cells kind info).name e
           names e =
-              entry_field e [] (bytes_in new.cells (entry_place kind info e + 4) 16) (bytes_in old.cells (entry_place kind info e + 4) 16)
-              (λ below. bytes_stay 16 (entry_place kind info e + 4) tells.told (omega (arith, entry_fits e below, entry_long kind)))
+              entry_field e [] (bytes_in new.cells (entry_place kind info e + 4) 16)
+              (bytes_in old.cells (entry_place kind info e + 4) 16)
+              (λ below. bytes_stay 16 (entry_place kind info e + 4) tells.told
+              (omega (arith, entry_fits e below, entry_long kind)))
 
           siblings : (e : ℕ) → (table_in new.cells kind info).sibling e ≡ (table_in old.cells kind info).sibling e
           siblings e =
-              entry_field e 0 (number_in 4 new.cells (entry_place kind info e + 0x14)) (number_in 4 old.cells (entry_place kind info e + 0x14))
+              entry_field e 0 (number_in 4 new.cells (entry_place kind info e + 0x14))
+              (number_in 4 old.cells (entry_place kind info e + 0x14))
               (entry_number e 0x14 (omega (arith, entry_long kind)))
 
           links : (e : ℕ) → (table_in new.cells kind info).link e ≡ (table_in old.cells kind info).link e
           links e =
               rw (most_stays tells.told)
-              (field_same (nat_lt e (most_in old.cells info)) 0 (number_in 4 new.cells (entry_place kind info e + link_offset kind))
+              (field_same (nat_lt e (most_in old.cells info)) 0
+              (number_in 4 new.cells (entry_place kind info e + link_offset kind))
               (number_in 4 old.cells (entry_place kind info e + link_offset kind))
-              (λ here. entry_number e (link_offset kind) (omega (arith, link_last kind)) (ltb-true e (most_in old.cells info) here)))
+              (λ here. entry_number e (link_offset kind) (omega (arith, link_last kind))
+              (ltb-true e (most_in old.cells info) here)))
 
     -- a cell that was read and is no byte is one that is needed
     pub needed_read : IsTrue old.told → (from n part level block : ℕ) → from + n ≤ old.shape.size
@@ -129,16 +151,19 @@ module _ (old new : State) (stays : Stays old new None) where
         → BlamesRead kind info from n new.cells part level block → BlamesNeeded kind info old.cells part level block
     needed_read told from n part level block fits needed h = go h.place h.read h.blames
       where
-        go : (x : ℕ) → IsReadAt kind info from n x → Blames (new.cells x) part level block → BlamesNeeded kind info old.cells part level block
+        go : (x : ℕ) → IsReadAt kind info from n x → Blames (new.cells x) part level block
+            → BlamesNeeded kind info old.cells part level block
         go x (AtZero within) blames = record {
           place = x;
           needed = OfZero within;
-          blames = subst (λ (cell : Cell). Blames cell part level block) (stays.cells told x (omega (arith, within.before, table.zero))) blames;
+          blames = subst (λ (cell : Cell). Blames cell part level block)
+              (stays.cells told x (omega (arith, within.before, table.zero))) blames;
         }
         go x (AtPlace within) blames = record {
           place = x;
           needed = needed x within;
-          blames = subst (λ (cell : Cell). Blames cell part level block) (stays.cells told x (omega (arith, within.before, fits))) blames;
+          blames = subst (λ (cell : Cell). Blames cell part level block)
+              (stays.cells told x (omega (arith, within.before, fits))) blames;
         }
 
 -- a first fault in n places is one of a cell there

@@ -32,7 +32,8 @@ NeverNoEntry (Err (fault.NoEntry most)) = ⊥
 
 -- Why a reading call is refused: for a damaged cell only where it is needed, as far as a rule holds; for a rule only
 -- where it fails.
-pub record HasEntryCause {A : Type 0} (s : State) (kind : EntryKind) (info : TableInfo) (Rule : Type 0) (Fails : ℕ → ℕ → Type 0)
+pub record HasEntryCause {A : Type 0} (s : State) (kind : EntryKind) (info : TableInfo) (Rule : Type 0)
+    (Fails : ℕ → ℕ → Type 0)
     (result : Result A EntryFault) : Type 0 where
   pub damaged : TellsEntryTable s kind info → Rule → IfDamaged (bad_of result) (BlamesNeeded kind info s.cells)
   pub plain : IsTrue s.shape.plain → NeverDamaged (bad_of result)

@@ -44,13 +44,14 @@ IsListed t kind dir front e = (e ≢ 0) × LeadsTo (t.table kind).sibling (t.fir
 pub data IsMislisted (t : Tables) (kind : EntryKind) (e : ℕ) : Type 0 where
   Lacked : named_entries kind (t.table kind) e → used_entries (t.table Dir) ((t.table kind).parent e)
       → ((front : List ℕ) → ¬ IsListed t kind ((t.table kind).parent e) front e) → IsMislisted t kind e
-  Twice : (dir : ℕ) → used_entries (t.table Dir) dir → children_of t kind dir e → (front : List ℕ) → IsListed t kind dir front e
+  Twice : (dir : ℕ) → used_entries (t.table Dir) dir → children_of t kind dir e → (front : List ℕ)
+      → IsListed t kind dir front e
       → Contains front e → IsMislisted t kind e
   Strange : (dir : ℕ) → used_entries (t.table Dir) dir → used_entries (t.table kind) e → ¬ children_of t kind dir e
       → (front : List ℕ) → IsListed t kind dir front e → IsMislisted t kind e
 
 -- the rule on names fails at an entry: another one has its parent and name
-pub record IsTwin (kind : EntryKind) (t : Table) (e : ℕ) : Type 0 where
+pub record SharesName (kind : EntryKind) (t : Table) (e : ℕ) : Type 0 where
   pub entry : named_entries kind t e
   pub other : ℕ
   pub other_entry : named_entries kind t other
@@ -64,10 +65,13 @@ pub record IsBrokenBucket (kind : EntryKind) (t : Table) (bucket : ℕ) : Type 0
   pub none : (list : List ℕ) → ¬ IsBucketList kind t bucket list
 
 -- a rule of both tables and their buckets fails at an entry of a table, or at a bucket, by their numbers in a refusal
-pub data FailsAt (t : Tables) (table entry : ℕ) : Type 0 where
-  OfFreed : (kind : EntryKind) → table ≡ table_number kind → NamesWrongly kind (t.table kind) entry → FailsAt t table entry
-  OfPlace : (kind : EntryKind) → table ≡ table_number kind → IsMisplaced t kind entry → FailsAt t table entry
-  OfDirectory : table ≡ table_number Dir → IsBrokenDirectory t entry → FailsAt t table entry
-  OfListed : (kind : EntryKind) → table ≡ table_number kind → IsMislisted t kind entry → FailsAt t table entry
-  OfNames : (kind : EntryKind) → table ≡ table_number kind → IsTwin kind (t.table kind) entry → FailsAt t table entry
-  OfBucket : (kind : EntryKind) → table ≡ bucket_table kind → IsBrokenBucket kind (t.table kind) entry → FailsAt t table entry
+pub data RuleFailsAt (t : Tables) (table entry : ℕ) : Type 0 where
+  OfFreed : (kind : EntryKind) → table ≡ table_number kind → NamesWrongly kind (t.table kind) entry
+      → RuleFailsAt t table entry
+  OfPlace : (kind : EntryKind) → table ≡ table_number kind → IsMisplaced t kind entry → RuleFailsAt t table entry
+  OfDirectory : table ≡ table_number Dir → IsBrokenDirectory t entry → RuleFailsAt t table entry
+  OfListed : (kind : EntryKind) → table ≡ table_number kind → IsMislisted t kind entry → RuleFailsAt t table entry
+  OfNames : (kind : EntryKind) → table ≡ table_number kind → SharesName kind (t.table kind) entry
+      → RuleFailsAt t table entry
+  OfBucket : (kind : EntryKind) → table ≡ bucket_table kind → IsBrokenBucket kind (t.table kind) entry
+      → RuleFailsAt t table entry

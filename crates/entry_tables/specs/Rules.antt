@@ -26,7 +26,7 @@ pub record IsPlacedEntry (t : Tables) (kind : EntryKind) (e : ℕ) : Type 0 wher
   pub named : (t.table kind).name e ≢ replicate 16 0
   pub path : (names : List (List ℕ)) × path_of (t.table Dir) (t.table kind) e names × (length names ≤ 64)
 
--- a directory's list, through next siblings, has exactly its entries of a kind; each stands there once, since the list ends
+-- a directory's list, through next siblings, has exactly its entries of a kind; each once, since the list ends
 pub record IsChildList (t : Tables) (kind : EntryKind) (dir : ℕ) (list : List ℕ) : Type 0 where
   pub leads : LeadsToEnd (t.table kind).sibling (t.first kind dir) list
   pub children : (e : ℕ) → Contains list e → children_of t kind dir e

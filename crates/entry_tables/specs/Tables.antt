@@ -62,7 +62,8 @@ table_in cells kind info = record {
   parent = λ e. if is_entry (most_in cells info) e then number_in 4 cells (entry_place kind info e) else 0;
   name = λ e. if is_entry (most_in cells info) e then bytes_in cells (entry_place kind info e + 4) 16 else [];
   sibling = λ e. if is_entry (most_in cells info) e then number_in 4 cells (entry_place kind info e + 0x14) else 0;
-  link = λ e. if nat_lt e (most_in cells info) then number_in 4 cells (entry_place kind info e + link_offset kind) else 0;
+  link = λ e. if nat_lt e (most_in cells info) then number_in 4 cells (entry_place kind info e + link_offset kind)
+      else 0;
 }
 
 abbrev pub info_of : TableInfo → TableInfo → EntryKind → TableInfo
@@ -72,7 +73,8 @@ info_of dirs files File = files
 abbrev pub tables_in : (ℕ → Cell) → TableInfo → TableInfo → Tables
 tables_in cells dirs files = record {
   table = λ kind. table_in cells kind (info_of dirs files kind);
-  first = λ kind d. if is_entry (most_in cells dirs) d then number_in 4 cells (entry_place Dir dirs d + child_offset kind) else 0;
+  first = λ kind d. if is_entry (most_in cells dirs) d
+      then number_in 4 cells (entry_place Dir dirs d + child_offset kind) else 0;
   start = λ e. if is_entry (most_in cells files) e then number_in 4 cells (entry_place File files e + 0x1C) else 0;
   wide = λ e. if is_entry (most_in cells files) e then number_in 8 cells (entry_place File files e + 0x20) else 0;
 }

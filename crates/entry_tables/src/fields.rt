@@ -61,7 +61,8 @@ pub fn link_in<S: Space>(
     requires { HasEntryTable (S.state space.old).shape kind info }
     ensures link { TellsEntryTable (S.state space.old) kind info → entry < most_in (S.state space.old).cells info
         → IfOk result (λ link. link ≡ (table_in (S.state space.old).cells kind info).link entry) }
-    ensures cause { HasEntryCause (S.state space.old) kind info (HasLink (table_in (S.state space.old).cells kind info) entry)
+    ensures cause { HasEntryCause (S.state space.old) kind info
+        (HasLink (table_in (S.state space.old).cells kind info) entry)
         (λ _ _. ⊥) result }
     ensures reads { Reads S.state S.keeps S.lands space.old space.new (bad_of result) }
 {
@@ -81,7 +82,8 @@ pub fn word_in<S: Space>(
     requires inside { offset + 4 ≤ entry_size kind }
     ensures word { TellsEntryTable (S.state space.old) kind info → entry < most_in (S.state space.old).cells info
         → IfOk result (λ word. word ≡ number_in 4 (S.state space.old).cells (entry_place kind info entry + offset)) }
-    ensures cause { HasEntryCause (S.state space.old) kind info (used_entries (table_in (S.state space.old).cells kind info) entry)
+    ensures cause { HasEntryCause (S.state space.old) kind info
+        (used_entries (table_in (S.state space.old).cells kind info) entry)
         (λ _ _. ⊥) result }
     ensures reads { Reads S.state S.keeps S.lands space.old space.new (bad_of result) }
 {
@@ -97,9 +99,11 @@ pub fn name_in<S: Space>(
     entry: u32,
 ) -> Result<Name, EntryFault>
     requires { HasEntryTable (S.state space.old).shape kind info }
-    ensures name { TellsEntryTable (S.state space.old) kind info → HasEntry (table_in (S.state space.old).cells kind info) entry
+    ensures name { TellsEntryTable (S.state space.old) kind info
+        → HasEntry (table_in (S.state space.old).cells kind info) entry
         → IfOk result (λ name. name.0 ≡ (table_in (S.state space.old).cells kind info).name entry) }
-    ensures cause { HasEntryCause (S.state space.old) kind info (used_entries (table_in (S.state space.old).cells kind info) entry)
+    ensures cause { HasEntryCause (S.state space.old) kind info
+        (used_entries (table_in (S.state space.old).cells kind info) entry)
         (λ _ _. ⊥) result }
     ensures reads { Reads S.state S.keeps S.lands space.old space.new (bad_of result) }
 {
@@ -116,10 +120,13 @@ pub fn fields_in<S: Space>(
 ) -> Result<FileFields, EntryFault>
     requires { HasEntryTable (S.state space.old).shape File info }
     ensures start { TellsEntryTable (S.state space.old) File info → entry < most_in (S.state space.old).cells info
-        → IfOk result (λ fields. fields.start ≡ number_in 4 (S.state space.old).cells (entry_place File info entry + 0x1C)) }
+        → IfOk result (λ fields. fields.start ≡ number_in 4 (S.state space.old).cells
+        (entry_place File info entry + 0x1C)) }
     ensures wide { TellsEntryTable (S.state space.old) File info → entry < most_in (S.state space.old).cells info
-        → IfOk result (λ fields. fields.wide ≡ number_in 8 (S.state space.old).cells (entry_place File info entry + 0x20)) }
-    ensures cause { HasEntryCause (S.state space.old) File info (used_entries (table_in (S.state space.old).cells File info) entry)
+        → IfOk result (λ fields. fields.wide ≡ number_in 8 (S.state space.old).cells
+        (entry_place File info entry + 0x20)) }
+    ensures cause { HasEntryCause (S.state space.old) File info
+        (used_entries (table_in (S.state space.old).cells File info) entry)
         (λ _ _. ⊥) result }
     ensures reads { Reads S.state S.keeps S.lands space.old space.new (bad_of result) }
 {

@@ -63,7 +63,8 @@ module _ {kind : EntryKind} {t : Table} {parent : ℕ} {name : List ℕ} {bucket
       below = below;
       none = λ list is.
           (let whole = whole_list t.link (t.head bucket) h.list e list h.leads is.leads in
-          let few : length list < t.count = few_between list t.count some (linked_distinct t.link (t.head bucket) list is.leads)
+          let few : length list < t.count = few_between list t.count some
+          (linked_distinct t.link (t.head bucket) list is.leads)
           (λ x within. ((is.entries x within).used.some, (is.entries x within).used.below)) in
           let longer : length list ≡ length h.list + length whole.0 = ap length whole.1 ∙ length-append h.list whole.0 in
           omega (arith, few, longer, h.many, long));

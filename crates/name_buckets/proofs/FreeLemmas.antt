@@ -48,14 +48,20 @@ some_freed kind t list e inside within =
 
 pub HasFollowed-none : (kind : EntryKind) (t : Table) → HasFollowed kind t 0 0
 HasFollowed-none kind t =
-    record { front = []; begins = record { leads = refl; last = refl; inside = All-nil (CanBeFreed kind t) }; many = refl }
+    record {
+      front = [];
+      begins = record { leads = refl; last = refl; inside = All-nil (CanBeFreed kind t) };
+      many =
+          refl;
+    }
 
 module _ {kind : EntryKind} {t : Table} {steps from : ℕ} (h : HasFollowed kind t steps from) where
   pub HasFollowed-more : (next : ℕ) → next ≡ t.link from → next ≢ 0 → CanBeFreed kind t next → HasFollowed kind t (steps + 1) next
   HasFollowed-more next is some can = record {
     front = h.front ++ next ∷ [];
     begins = record {
-      leads = LeadsTo-push t.link (t.link 0) h.front next (subst (λ (n : ℕ). LeadsTo t.link (t.link 0) h.front n) (sym is) h.begins.leads) some;
+      leads = LeadsTo-push t.link (t.link 0) h.front next (subst (λ (n : ℕ). LeadsTo t.link (t.link 0) h.front n)
+          (sym is) h.begins.leads) some;
       last = last_of-push 0 h.front next;
       inside = All-push (CanBeFreed kind t) h.front next h.begins.inside can;
     };
@@ -95,7 +101,8 @@ module _ {kind : EntryKind} {t : Table} {steps from : ℕ} (h : HasFollowed kind
       record {
         front = h.front;
         begins = h.begins;
-        once = freed_once (λ within. cannot_link (All-contains (CanBeFreed kind t) h.front (t.link from) h.begins.inside within));
+        once = freed_once (λ within. cannot_link (All-contains (CanBeFreed kind t) h.front (t.link from)
+            h.begins.inside within));
         named = λ none. some (is ∙ none);
         wrong = λ can. absurd (cannot_link can);
       }
@@ -111,9 +118,11 @@ module _ {kind : EntryKind} {t : Table} {steps from : ℕ} (h : HasFollowed kind
   pub not_long : t.count ≤ steps → 1 ≤ t.count → ¬ HasFreedList kind t
   not_long long some list =
       let whole = whole_list t.link (t.link 0) h.front (t.link from) list.0 h.begins.leads list.1.leads in
-      let few : length list.0 < t.count = few_between list.0 t.count some (linked_distinct t.link (t.link 0) list.0 list.1.leads)
+      let few : length list.0 < t.count = few_between list.0 t.count some
+      (linked_distinct t.link (t.link 0) list.0 list.1.leads)
       (λ e within. some_freed kind t list.0 e list.1.inside within) in
-      let longer : length list.0 ≡ length h.front + length whole.0 = ap length whole.1 ∙ length-append h.front whole.0 in
+      let longer : length list.0 ≡ length h.front + length whole.0 = ap length whole.1 ∙ length-append h.front whole.0
+      in
       omega (arith, few, longer, h.many, long)
 
 -- so many freed entries were passed, none twice
@@ -132,7 +141,8 @@ module _ {kind : EntryKind} {t : Table} {steps from : ℕ} (h : HasFollowedOnce 
     front = h.followed.front;
     begins = h.followed.begins;
     once = h.once;
-    named = λ none. (let can = some_freed kind t h.followed.front (t.link from) h.followed.begins.inside again in omega (arith, can.0, none));
+    named = λ none. (let can = some_freed kind t h.followed.front (t.link from) h.followed.begins.inside again in
+        omega (arith, can.0, none));
     wrong = λ can. again;
   }
 
@@ -141,11 +151,13 @@ module _ {kind : EntryKind} {t : Table} {steps from : ℕ} (h : HasFollowedOnce 
       → next ≡ t.link from → ¬ Contains h.followed.front next → HasFollowedOnce kind t (steps + 1) next
   unfolding HasFollowed-more
   HasFollowedOnce-more next end longer is_front more is apart =
-      let within = front_within t.link (t.link 0) h.followed.front longer (t.link from) (t.link end) h.followed.begins.leads
+      let within = front_within t.link (t.link 0) h.followed.front longer (t.link from) (t.link end)
+      h.followed.begins.leads
       is_front.leads (omega (arith, more, h.followed.many)) in
       let can = All-contains (CanBeFreed kind t) longer (t.link from) is_front.inside within in
       record {
-        followed = HasFollowed-more h.followed next is (λ none. (omega (arith, none, is, can.0, least_some kind))) (subst (CanBeFreed kind t) (sym is) can);
+        followed = HasFollowed-more h.followed next is (λ none. (omega (arith, none, is, can.0, least_some kind)))
+            (subst (CanBeFreed kind t) (sym is) can);
         once = IsDistinct-push h.followed.front next h.once apart;
       }
 
@@ -154,10 +166,8 @@ pub record HasCompared (front : List ℕ) (entry steps from : ℕ) : Type 0 wher
   pub here : from ≡ get_or (0 ∷ front) steps 0
   pub apart : (k : ℕ) → k < steps → get_or front k 0 ≢ entry
 
-pub HasCompared-none : (front : List ℕ) (entry : ℕ) → HasCompared front entry 0 0
-HasCompared-none front entry = record { here = refl; apart = λ k h. absurd (omega (arith, h)) }
-
-module _ {kind : EntryKind} {t : Table} {front : List ℕ} {entry steps from end : ℕ} (is_front : IsFreedFront kind t front end)
+module _ {kind : EntryKind} {t : Table} {front : List ℕ} {entry steps from end : ℕ}
+    (is_front : IsFreedFront kind t front end)
     (h : HasCompared front entry steps from) (more : steps < length front) where
   -- the one that was reached lies in the table
   pub compared_below : 1 ≤ t.count → from < t.count
@@ -166,7 +176,8 @@ module _ {kind : EntryKind} {t : Table} {front : List ℕ} {entry steps from end
       go : (k : ℕ) → k < length front → get_or (0 ∷ front) k 0 < t.count
       go zero below = some
       go (suc k) below =
-          (some_freed kind t front (get_or front k 0) is_front.inside (Contains-get_or front k 0 (omega (arith, below)))).1
+          (some_freed kind t front (get_or front k 0) is_front.inside
+          (Contains-get_or front k 0 (omega (arith, below)))).1
 
   next_is : (next : ℕ) → next ≡ t.link from → next ≡ get_or front steps 0
   next_is next is =
@@ -181,12 +192,14 @@ module _ {kind : EntryKind} {t : Table} {front : List ℕ} {entry steps from end
     here = next_is next is ∙ rw add-one refl;
     apart = λ k below same. elim (cases_lt k steps) [
       | inl before ↦ h.apart k before same
-      | inr behind ↦ (let there : k ≡ steps = omega (arith, below, behind) in other (next_is next is ∙ rw (sym there) same))
+      | inr behind ↦ (let there : k ≡ steps = omega (arith, below, behind) in other
+          (next_is next is ∙ rw (sym there) same))
     ];
   }
 
 -- where all were compared the entry is none of them
-pub compared_all : (front : List ℕ) (entry steps from : ℕ) → HasCompared front entry steps from → length front ≤ steps → ¬ Contains front entry
+pub compared_all : (front : List ℕ) (entry steps from : ℕ) → HasCompared front entry steps from
+    → length front ≤ steps → ¬ Contains front entry
 compared_all front entry steps from h all within =
     All-contains (λ x. x ≢ entry) front entry
     (All-from_get_or (λ x. x ≢ entry) front 0 (λ i below. h.apart i (omega (arith, below, all)))) within refl

@@ -32,4 +32,5 @@ module _ {S : Type 0} (states : S → State) (keeps : Spot → S → S → Type 
     pub same_table : HasCounts (states old.space.now).cells (place_of old kind)
         → (tables_of states new).table kind ≡ (tables_of states old).table kind
     same_table known = rw (read.same.same_dirs, read.same.same_files)
-        (table_stays (states old.space.now) (states new.space.now) read.reads.stays kind (place_of old kind) (tables kind) tells known)
+        (table_stays (states old.space.now) (states new.space.now) read.reads.stays kind (place_of old kind)
+        (tables kind) tells known)

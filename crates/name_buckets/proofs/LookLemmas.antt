@@ -19,14 +19,16 @@ use Rattle.entry_tables.proofs.EntryLemmas.{parent_read, name_read, link_there, 
 module _ (cells : ℕ → Cell) (kind : EntryKind) (info : TableInfo) (e : ℕ) (bytes : List ℕ)
     (long : length bytes ≡ entry_size kind) (are : AreBytesAt cells (entry_place kind info e + 0) bytes)
     (has : HasEntry (table_in cells kind info) e) where
-  pub matches_read : (parent : ℕ) (name : List ℕ) → ¬ IsRoot kind e → HasKey bytes parent name → Matches kind (table_in cells kind info) parent name e
+  pub matches_read : (parent : ℕ) (name : List ℕ) → ¬ IsRoot kind e → HasKey bytes parent name
+      → Matches kind (table_in cells kind info) parent name e
   matches_read parent name other key = record {
     other = other;
     parent_is = sym (parent_read cells kind info e bytes long are has) ∙ key.parent_is;
     name_is = sym (name_read cells kind info e bytes long are has) ∙ key.name_is;
   }
 
-  pub key_read : (parent : ℕ) (name : List ℕ) → Matches kind (table_in cells kind info) parent name e → HasKey bytes parent name
+  pub key_read : (parent : ℕ) (name : List ℕ) → Matches kind (table_in cells kind info) parent name e
+      → HasKey bytes parent name
   key_read parent name matches = record {
     parent_is = parent_read cells kind info e bytes long are has ∙ matches.parent_is;
     name_is = name_read cells kind info e bytes long are has ∙ matches.name_is;
@@ -43,7 +45,8 @@ module _ (old mid : State) (stays : Stays old mid None) (kind : EntryKind) (info
       → IsLook kind (table_in mid.cells kind info) parent name e look) → IsLook kind (table_in old.cells kind info) parent name e look
   look_stays e parent name look has seen =
       subst (λ (t : Table). IsLook kind t parent name e look) same_table
-      (seen (tells_later old mid stays kind info table tells) (subst (λ (t : Table). HasEntry t e) (sym same_table) has))
+      (seen (tells_later old mid stays kind info table tells)
+      (subst (λ (t : Table). HasEntry t e) (sym same_table) has))
 
   -- its last word
   pub link_stays : (e word offset : ℕ) → offset ≡ link_offset kind → e < (table_in old.cells kind info).count
@@ -61,8 +64,11 @@ module _ (old mid : State) (stays : Stays old mid None) (kind : EntryKind) (info
   head_stays bucket below = head_there mid.cells kind info bucket below ∙ ap (λ (t : Table). t.head bucket) same_table
 
   -- whether a number is among freed entries
-  pub among_stays : (front : List ℕ) (last : ℕ) (Q : Type 0) → IsFreedFront kind (table_in old.cells kind info) front last
-      → (TellsEntryTable mid kind info → HasCounts mid.cells info → IsFreedFront kind (table_in mid.cells kind info) front last → Q) → Q
+  pub among_stays : (front : List ℕ) (last : ℕ) (Q : Type 0)
+      → IsFreedFront kind (table_in old.cells kind info) front last
+      → (TellsEntryTable mid kind info → HasCounts mid.cells info
+      → IsFreedFront kind (table_in mid.cells kind info) front last → Q) → Q
   among_stays front last Q begins seen =
-      seen (tells_later old mid stays kind info table tells) (known_later old mid stays kind info table tells.told known)
+      seen (tells_later old mid stays kind info table tells) (known_later old mid stays kind info table tells.told
+      known)
       (subst (λ (t : Table). IsFreedFront kind t front last) (sym same_table) begins)

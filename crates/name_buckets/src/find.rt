@@ -44,7 +44,8 @@ fn look_at<S: Space>(
     name: &Name,
 ) -> Result<Look, Bad>
     requires { HasEntryTable (S.state space.old).shape kind info }
-    ensures look { TellsEntryTable (S.state space.old) kind info → HasEntry (table_in (S.state space.old).cells kind info) entry
+    ensures look { TellsEntryTable (S.state space.old) kind info
+        → HasEntry (table_in (S.state space.old).cells kind info) entry
         → IfOk result (IsLook kind (table_in (S.state space.old).cells kind info) parent name.now.0 entry) }
     ensures damaged { IsTrue (S.state space.old).told → IfDamaged (result_err result)
         (BlamesRead kind info (entry_place kind info entry) (entry_size kind) (S.state space.old).cells) }

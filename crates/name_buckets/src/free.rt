@@ -44,8 +44,8 @@ pub(crate) fn free_in<S: Space>(
     Err(names_wrongly(kind, end))
 }
 
-// Of a list of freed entries that comes back to one of them, the entry that names it again. Only a spoilt table has such
-// a list; each step goes over the list anew, so that nothing has to be kept.
+// Of a list of freed entries that comes back to one of them, the entry that names it again. Only a spoilt table has
+// such a list; each step goes over the list anew, so that nothing has to be kept.
 fn circle_end<S: Space>(
     space: &mut S,
     kind: EntryKind,
@@ -55,7 +55,8 @@ fn circle_end<S: Space>(
     requires { HasEntryTable (S.state space.old).shape kind info }
     ensures wrong { let t = table_in (S.state space.old).cells kind info in
         TellsEntryTable (S.state space.old) kind info → HasCounts (S.state space.old).cells info → t.count ≡ count
-        → (front : List ℕ) (last : ℕ) → IsFreedFront kind t front last → length front ≡ count → IfOk result (NamesWrongly kind t) }
+        → (front : List ℕ) (last : ℕ) → IsFreedFront kind t front last → length front ≡ count
+        → IfOk result (NamesWrongly kind t) }
     ensures plain { IsTrue (S.state space.old).shape.plain → NeverDamaged (result_err result) }
     ensures reads { Reads S.state S.keeps S.lands space.old space.new (result_err result) }
 {

@@ -88,7 +88,8 @@ fn found_name<S: Space>(
 // How many entries can be added; of orderly tables no rule is said to fail.
 fn free_of_orderly<S: Space>(entries: &mut Entries<S>, kind: EntryKind) -> Result<u32, EntryFault>
     requires { HoldsTables S.state entries.old }
-    ensures { TellsTableOf S.state entries.old kind → IsOrderly (tables_of S.state entries.old) → IfRuleBroken result (λ _ _. ⊥) }
+    ensures { TellsTableOf S.state entries.old kind → IsOrderly (tables_of S.state entries.old)
+        → IfRuleBroken result (λ _ _. ⊥) }
 {
     entries.free(kind)
 }

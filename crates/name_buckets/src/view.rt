@@ -69,8 +69,8 @@ impl<'a, S: Space> Entries<'a, S> {
         find_in(space, kind, info, parent, name)
     }
 
-    /// How many entries of a kind were ever used, and how many there can be, entry 0 included. From an Ok on it is known
-    /// that both are bytes, and so where the entries lie.
+    /// How many entries of a kind were ever used, and how many there can be, entry 0 included. From an Ok on it is
+    /// known that both are bytes, and so where the entries lie.
     pub fn counts(&mut self, kind: EntryKind) -> Result<Counts, EntryFault>
         requires { HoldsTables S.state self.old }
         ensures count { IsTrue (space_of S.state self.old).told
@@ -193,8 +193,8 @@ impl<'a, S: Space> Entries<'a, S> {
     }
 
     /// How many entries of a kind can still be added. It is answered only where the freed entries of this kind have the
-    /// list that they should. Else the one entry is named at which the rule fails; where the list comes back to itself, it
-    /// is found in about half as many steps as the square of how many are freed.
+    /// list that they should. Else the one entry is named at which the rule fails; where the list comes back to itself,
+    /// it is found in about half as many steps as the square of how many are freed.
     pub fn free(&mut self, kind: EntryKind) -> Result<u32, EntryFault>
         requires { HoldsTables S.state self.old }
         ensures room { TellsTableOf S.state self.old kind → IfOk result (IsRoom kind ((tables_of S.state self.old).table kind)) }

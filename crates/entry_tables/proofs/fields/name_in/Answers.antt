@@ -17,5 +17,6 @@ returns-clause-name g c = λ told has.
     let cells = (g.S.Space.state c.args.space.now).cells in
     let at = entry_place c.args.kind c.args.info c.args.entry + 4 in
     let long : length c.entry_bytes.new.out ≡ 16 = c.entry_bytes.auto.out in
-    sym (bytes_in-is cells at c.entry_bytes.new.out (c.in_ok-entry_bytes.ensures.bytes told has.below)) ∙ ap (bytes_in cells at) long
+    sym (bytes_in-is cells at c.entry_bytes.new.out (c.in_ok-entry_bytes.ensures.bytes told has.below)) ∙ ap
+    (bytes_in cells at) long
     ∙ sym (field_there (table_in cells c.args.kind c.args.info) c.args.entry (bytes_in cells at 16) [] has)

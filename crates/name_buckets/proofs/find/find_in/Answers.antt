@@ -59,7 +59,8 @@ loop-step-init g c =
     record {
       reads = reads_then g.met.S.Space.keeps_join c.in_ok-count.ensures.reads c.in_ok-entry.ensures.reads;
       passed = λ tells. HasPassed-none c.in_ok-entry.entry ((rw there at c.in_ok-entry.ensures.number (stays.space.told tells.told))
-          ∙ head_stays old mid stays c.args.kind info c.requires tells (c.in_ok-count.ensures.known tells.told) own below);
+          ∙ head_stays old mid stays c.args.kind info c.requires tells (c.in_ok-count.ensures.known tells.told) own
+          below);
     }
 
 pub returns-then-entry-eq0-clause-found : goal.returns-then-entry-eq0-clause-found
@@ -102,7 +103,8 @@ returns-in_err-look_at-clause-cause g c =
     let list = rule own below in
     let used = (passed_stands (c.loop-step.invariant.passed tells) list.0 c.if-entry-eq0.false list.1).used in
     let known = c.in_ok-count.ensures.known tells.told in
-    let fits = entry_fits old mid stays kind info c.requires tells known e (omega (arith, used.below, tells.most known)) in
+    let fits = entry_fits old mid stays kind info c.requires tells known e
+    (omega (arith, used.below, tells.most known)) in
     IfDamaged-map (Some bad)
     (λ part level block. needed_read old mid stays kind info c.requires tells.told (entry_place kind info e) (entry_size kind) part
     level block fits (λ x within. OfUsed e used within)) (c.in_err-look_at.ensures.damaged (stays.space.told tells.told)))

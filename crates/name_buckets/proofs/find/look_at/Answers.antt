@@ -23,10 +23,14 @@ returns-clause-look g c = λ told has.
     let cells = (g.S.Space.state c.args.space.now).cells in
     let are = c.in_ok-entry_bytes.ensures.bytes told has.below in
     let missed : ¬ Matches c.args.kind (table_in cells c.args.kind c.args.info) c.args.parent c.args.name.now.0 c.args.entry = λ matches.
-    (let key = key_read cells c.args.kind c.args.info c.args.entry c.entry_bytes.new.out long are has c.args.parent c.args.name.now.0 matches in
+    (let key = key_read cells c.args.kind c.args.info c.args.entry c.entry_bytes.new.out long are has c.args.parent
+    c.args.name.now.0 matches in
     elim c.else-not-is_root.branch [
       | else-not-is_root-via-then-not-is_root+else-has_key w ↦ false≢true (sym w.if-has_key.false ∙ w.has_key.ensures.1 key)
       | else-not-is_root-via-else-not-is_root w ↦ matches.other (c.is_root.ensures.0 w.if-not-is_root.false)
     ])
-    in
-    (missed, c.u32_at.ensures ∙ rw c.link_offset.ensures (link_read cells c.args.kind c.args.info c.args.entry c.entry_bytes.new.out long are has.below))
+    in (
+      missed,
+      c.u32_at.ensures ∙ rw c.link_offset.ensures (link_read cells c.args.kind c.args.info c.args.entry
+          c.entry_bytes.new.out long are has.below),
+    )

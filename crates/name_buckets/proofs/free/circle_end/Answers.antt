@@ -15,7 +15,8 @@ use Rattle.name_buckets.proofs.free.circle_end.Goals as goal
 pub loop-passed-init : goal.loop-passed-init
 loop-passed-init g c = record {
   reads = Reads-same g.S.Space.state g.S.Space.keeps g.S.Space.lands g.met.S.Space.keeps_same c.args.space.now;
-  followed = λ tells known front last is_front many. HasFollowedOnce-none c.args.kind (table_in (g.S.Space.state c.args.space.now).cells c.args.kind c.args.info);
+  followed = λ tells known front last is_front many. HasFollowedOnce-none c.args.kind
+      (table_in (g.S.Space.state c.args.space.now).cells c.args.kind c.args.info);
 }
 
 pub returns-in_err-next-clause-reads : goal.returns-in_err-next-clause-reads
@@ -26,14 +27,18 @@ returns-in_err-next-clause-reads g c =
 pub returns-in_err-is_among-clause-reads : goal.returns-in_err-is_among-clause-reads
 returns-in_err-is_among-clause-reads g c =
     rw (passed_error _ c.in_err-is_among.field-0.0 c.from_residual-in_err-is_among.ensures.1)
-    (reads_then g.met.S.Space.keeps_join (reads_then g.met.S.Space.keeps_join c.loop-passed.invariant.reads c.in_ok-next.ensures.reads)
+    (reads_then g.met.S.Space.keeps_join (reads_then g.met.S.Space.keeps_join c.loop-passed.invariant.reads
+    c.in_ok-next.ensures.reads)
     c.in_err-is_among.ensures.reads)
 
 -- the next entry, and whether it is among those that were passed
-next_seen : (g : Over) (c : In_ok-is_among g) → (tells : TellsEntryTable (g.S.Space.state c.args.space.now) c.args.kind c.args.info)
+next_seen : (g : Over) (c : In_ok-is_among g) → (tells : TellsEntryTable (g.S.Space.state c.args.space.now)
+    c.args.kind c.args.info)
     → (known : HasCounts (g.S.Space.state c.args.space.now).cells c.args.info)
-    → (h : HasFollowedOnce c.args.kind (table_in (g.S.Space.state c.args.space.now).cells c.args.kind c.args.info) c.loop-passed.passed c.loop-passed.from)
-    → (c.in_ok-next.next ≡ (table_in (g.S.Space.state c.args.space.now).cells c.args.kind c.args.info).link c.loop-passed.from)
+    → (h : HasFollowedOnce c.args.kind (table_in (g.S.Space.state c.args.space.now).cells c.args.kind c.args.info)
+    c.loop-passed.passed c.loop-passed.from)
+    → (c.in_ok-next.next ≡ (table_in (g.S.Space.state c.args.space.now).cells c.args.kind c.args.info).link
+    c.loop-passed.from)
     × (IsTrue c.in_ok-is_among.field-0 ↔ Contains h.followed.front c.in_ok-next.next)
 next_seen g c tells known h =
     let old = g.S.Space.state c.args.space.now in
@@ -41,10 +46,13 @@ next_seen g c tells known h =
     let both = reads_then g.met.S.Space.keeps_join before c.in_ok-next.ensures.reads in
     let below = followed_below h.followed (some_counted old c.args.kind c.args.info tells known) in (
       link_stays old (g.S.Space.state c.loop-passed.space) before.stays c.args.kind c.args.info c.requires tells known
-          c.loop-passed.from c.in_ok-next.next c.link_offset.result c.link_offset.ensures below c.in_ok-next.ensures.word,
+          c.loop-passed.from c.in_ok-next.next c.link_offset.result c.link_offset.ensures below
+          c.in_ok-next.ensures.word,
       among_stays old (g.S.Space.state c.entry_word.new.space) both.stays c.args.kind c.args.info c.requires tells known
-          h.followed.front c.loop-passed.from (IsTrue c.in_ok-is_among.field-0 ↔ Contains h.followed.front c.in_ok-next.next)
-          h.followed.begins (λ tells_too known_too begins. c.in_ok-is_among.ensures.among tells_too known_too h.followed.front
+          h.followed.front c.loop-passed.from (IsTrue c.in_ok-is_among.field-0 ↔ Contains h.followed.front
+          c.in_ok-next.next)
+          h.followed.begins (λ tells_too known_too begins. c.in_ok-is_among.ensures.among tells_too known_too
+          h.followed.front
           c.loop-passed.from begins h.followed.many),
     )
 
@@ -56,12 +64,14 @@ returns-then-branch-clause-wrong g c = λ tells known counted front last is_fron
 
 pub returns-then-branch-clause-reads : goal.returns-then-branch-clause-reads
 returns-then-branch-clause-reads g c =
-    reads_then g.met.S.Space.keeps_join (reads_then g.met.S.Space.keeps_join c.loop-passed.invariant.reads c.in_ok-next.ensures.reads)
+    reads_then g.met.S.Space.keeps_join (reads_then g.met.S.Space.keeps_join c.loop-passed.invariant.reads
+    c.in_ok-next.ensures.reads)
     c.in_ok-is_among.ensures.reads
 
 pub loop-passed-preserved : goal.loop-passed-preserved
 loop-passed-preserved g c = record {
-  reads = reads_then g.met.S.Space.keeps_join (reads_then g.met.S.Space.keeps_join c.loop-passed.invariant.reads c.in_ok-next.ensures.reads)
+  reads = reads_then g.met.S.Space.keeps_join (reads_then g.met.S.Space.keeps_join c.loop-passed.invariant.reads
+      c.in_ok-next.ensures.reads)
       c.in_ok-is_among.ensures.reads;
   followed = λ tells known front last is_front many.
       (let h = c.loop-passed.invariant.followed tells known front last is_front many in

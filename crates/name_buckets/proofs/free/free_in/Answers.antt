@@ -16,7 +16,8 @@ use Rattle.name_buckets.proofs.free.free_in.Goals as goal
 
 pub entry_word-requires-clause-table : goal.entry_word-requires-clause-table
 entry_word-requires-clause-table g c =
-    HasEntryTable-stays (g.S.Space.state c.args.space.now) (g.S.Space.state c.loop-freed.space) c.loop-freed.invariant.reads.stays
+    HasEntryTable-stays (g.S.Space.state c.args.space.now) (g.S.Space.state c.loop-freed.space)
+    c.loop-freed.invariant.reads.stays
     c.args.kind c.args.info c.requires
 
 pub returns-in_err-next-clause-cause : goal.returns-in_err-next-clause-cause
@@ -34,7 +35,8 @@ returns-in_err-next-clause-cause g c =
     let known = c.in_ok-counts.ensures.known tells.told in
     let followed = c.loop-freed.invariant.followed tells in
     let below = followed_below followed (some_counted old kind info tells known) in
-    let fits = entry_fits old mid stays kind info c.requires tells known from (omega (arith, below, tells.most known)) in
+    let fits = entry_fits old mid stays kind info c.requires tells known from (omega (arith, below, tells.most known))
+    in
     IfDamaged-map (Some bad)
     (λ part level block. needed_read old mid stays kind info c.requires tells.told (entry_place kind info from + link_offset kind) 4
     part level block (omega (arith, fits, link_last kind)) (λ x within. followed_needed followed info x rule within))
@@ -115,7 +117,8 @@ loop-freed-preserved g c =
 
 pub circle_end-requires : goal.circle_end-requires
 circle_end-requires g c =
-    HasEntryTable-stays (g.S.Space.state c.args.space.now) (g.S.Space.state c.loop-freed.space) c.loop-freed.invariant.reads.stays
+    HasEntryTable-stays (g.S.Space.state c.args.space.now) (g.S.Space.state c.loop-freed.space)
+    c.loop-freed.invariant.reads.stays
     c.args.kind c.args.info c.requires
 
 pub returns-in_err-end-clause-cause : goal.returns-in_err-end-clause-cause
@@ -128,9 +131,11 @@ returns-in_err-end-clause-cause g c =
     (bad_cause old kind c.args.info _ _ bad
     (λ tells rule.
     let counts = c.in_ok-counts.ensures in
-    absurd (not_long (c.loop-freed.invariant.followed tells) (omega (arith, c.loop-freed-test.false, counts.count tells.told))
+    absurd (not_long (c.loop-freed.invariant.followed tells) (omega
+    (arith, c.loop-freed-test.false, counts.count tells.told))
     (some_counted old kind c.args.info tells (counts.known tells.told)) rule))
-    (λ plain. c.in_err-end.ensures.plain (plain_stays old.shape mid.shape c.loop-freed.invariant.reads.stays.space.shape plain)))
+    (λ plain. c.in_err-end.ensures.plain (plain_stays old.shape mid.shape
+    c.loop-freed.invariant.reads.stays.space.shape plain)))
 
 pub returns-in_err-end-clause-reads : goal.returns-in_err-end-clause-reads
 returns-in_err-end-clause-reads g c =
@@ -159,7 +164,8 @@ returns-clause-cause g c =
           omega (arith, followed.many, c.loop-freed-test.false, c.loop-freed.auto.freed-end) in
           let wrong = among_stays old mid stays kind info c.requires tells known followed.front c.loop-freed.from
           (NamesWrongly kind (table_in mid.cells kind info) end) followed.begins
-          (λ tells_too known_too begins. c.in_ok-end.ensures.wrong tells_too known_too counted followed.front c.loop-freed.from begins many) in
+          (λ tells_too known_too begins. c.in_ok-end.ensures.wrong tells_too known_too counted followed.front
+          c.loop-freed.from begins many) in
           subst (λ (t : Table). NamesWrongly kind t end) same wrong),
     )))
 

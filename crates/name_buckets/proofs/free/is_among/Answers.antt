@@ -18,9 +18,11 @@ returns-then-from-entry-clause-among g c = λ tells known front last is_front ma
     let before = c.loop-step.invariant in
     let compared = before.compared tells known front last is_front many in
     let more : c.loop-step._step < length front = omega (arith, many, c.loop-step-test.true) in
-    let next = link_stays old (g.S.Space.state c.loop-step.space) before.reads.stays c.args.kind c.args.info c.requires tells known
+    let next = link_stays old (g.S.Space.state c.loop-step.space) before.reads.stays c.args.kind c.args.info
+    c.requires tells known
     c.loop-step.from c.in_ok-from.from c.link_offset.result c.link_offset.ensures
-    (compared_below is_front compared more (some_counted old c.args.kind c.args.info tells known)) c.in_ok-from.ensures.word in
+    (compared_below is_front compared more (some_counted old c.args.kind c.args.info tells known))
+    c.in_ok-from.ensures.word in
     ((λ found. compared_found is_front compared more c.in_ok-from.from next c.if-from-entry.true), (λ within. refl))
 
 pub returns-then-from-entry-clause-reads : goal.returns-then-from-entry-clause-reads
@@ -36,14 +38,17 @@ loop-step-preserved g c =
       compared = λ tells known front last is_front many.
           (let compared = before.compared tells known front last is_front many in
           let more : c.loop-step._step < length front = omega (arith, many, c.loop-step-test.true) in
-          let next = link_stays old (g.S.Space.state c.loop-step.space) before.reads.stays c.args.kind c.args.info c.requires tells
+          let next = link_stays old (g.S.Space.state c.loop-step.space) before.reads.stays c.args.kind c.args.info
+          c.requires tells
           known c.loop-step.from c.in_ok-from.from c.link_offset.result c.link_offset.ensures
-          (compared_below is_front compared more (some_counted old c.args.kind c.args.info tells known)) c.in_ok-from.ensures.word in
+          (compared_below is_front compared more (some_counted old c.args.kind c.args.info tells known))
+          c.in_ok-from.ensures.word in
           HasCompared-more is_front compared more c.in_ok-from.from next c.if-from-entry.false);
     }
 
 pub returns-clause-among : goal.returns-clause-among
 returns-clause-among g c = λ tells known front last is_front many.
     let compared = c.loop-step.invariant.compared tells known front last is_front many in
-    let apart = compared_all front c.args.entry c.loop-step._step c.loop-step.from compared (omega (arith, many, c.loop-step-test.false)) in
+    let apart = compared_all front c.args.entry c.loop-step._step c.loop-step.from compared
+    (omega (arith, many, c.loop-step-test.false)) in
     ((λ found. absurd (false≢true found)), (λ within. absurd (apart within)))
