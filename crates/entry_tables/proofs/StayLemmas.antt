@@ -13,7 +13,7 @@ use Rattle.entry_tables.specs.declared.table.TableInfo.{TableInfo}
 use Rattle.entry_tables.specs.Kinds.{entry_size, link_offset}
 use Rattle.entry_tables.specs.Tables.{table_in, most_in, is_entry, entry_place, bucket_place}
 use Rattle.entry_tables.specs.Layout.{LiesWithin, HasCounts, HasEntryTable, TellsEntryTable, IsNeeded, OfZero, BlamesNeeded, IsReadAt, AtZero}
-use Rattle.entry_tables.specs.Layout.{AtPlace, BlamesRead}
+use Rattle.entry_tables.specs.Layout.{AtPlace, BlamesRead, IsOfTable, InZero, InEntry, InBucket, BlamesTable}
 use Rattle.save_bytes.proofs.CellLemmas.{bytes_in-same}
 use Rattle.entry_tables.proofs.EntryLemmas.{link_last, entry_long}
 
@@ -22,6 +22,13 @@ field_same : {A : Type 0} (here : Bool) (none new old : A) → (here ≡ true �
     → (if here then new else none) ≡ (if here then old else none)
 field_same true none new old same = same refl
 field_same false none new old same = refl
+
+-- what was read is entry 0, or the places that were asked for
+read_either : (P : ℕ → Type 0) (kind : EntryKind) (info : TableInfo) (from n x : ℕ)
+    → (LiesWithin info.table_at (entry_size kind) x → P x) → (LiesWithin from n x → P x)
+    → IsReadAt kind info from n x → P x
+read_either P kind info from n x zero place (AtZero within) = zero within
+read_either P kind info from n x zero place (AtPlace within) = place within
 
 module _ (old new : State) (stays : Stays old new None) where
   same_size : new.shape.size ≡ old.shape.size
@@ -145,25 +152,65 @@ module _ (old new : State) (stays : Stays old new None) where
               (λ here. entry_number e (link_offset kind) (omega (arith, link_last kind))
               (ltb-true e (most_in old.cells info) here)))
 
-    -- a cell that was read and is no byte is one that is needed
+    -- a cell that was read and is no byte was none before
+    was_blamed : IsTrue old.told → (from n part level block x : ℕ) → from + n ≤ old.shape.size
+        → IsReadAt kind info from n x → Blames (new.cells x) part level block → Blames (old.cells x) part level block
+    was_blamed told from n part level block x fits (AtZero within) blames =
+        subst (λ (cell : Cell). Blames cell part level block)
+        (stays.cells told x (omega (arith, within.before, table.zero))) blames
+    was_blamed told from n part level block x fits (AtPlace within) blames =
+        subst (λ (cell : Cell). Blames cell part level block)
+        (stays.cells told x (omega (arith, within.before, fits))) blames
+
+    -- it is one that is needed
     pub needed_read : IsTrue old.told → (from n part level block : ℕ) → from + n ≤ old.shape.size
         → ((x : ℕ) → LiesWithin from n x → IsNeeded kind info (table_in old.cells kind info) x)
         → BlamesRead kind info from n new.cells part level block → BlamesNeeded kind info old.cells part level block
-    needed_read told from n part level block fits needed h = go h.place h.read h.blames
+    needed_read told from n part level block fits needed h = record {
+      place = h.place;
+      needed = read_either (IsNeeded kind info (table_in old.cells kind info)) kind info from n h.place OfZero
+          (needed h.place) h.read;
+      blames = was_blamed told from n part level block h.place fits h.read h.blames;
+    }
+
+    -- or at least one of the table
+    pub table_read : IsTrue old.told → (from n part level block : ℕ) → from + n ≤ old.shape.size
+        → ((x : ℕ) → LiesWithin from n x → IsOfTable kind info (table_in old.cells kind info) x)
+        → BlamesRead kind info from n new.cells part level block → BlamesTable kind info old.cells part level block
+    table_read told from n part level block fits inside h = record {
+      place = h.place;
+      of_table = read_either (IsOfTable kind info (table_in old.cells kind info)) kind info from n h.place InZero
+          (inside h.place) h.read;
+      blames = was_blamed told from n part level block h.place fits h.read h.blames;
+    }
+
+    -- a cell of the table that is blamed was so before
+    pub table_blamed : TellsEntryTable old kind info → HasCounts old.cells info → (part level block : ℕ)
+        → BlamesTable kind info new.cells part level block → BlamesTable kind info old.cells part level block
+    table_blamed tells known part level block h = go h.of_table
       where
-        go : (x : ℕ) → IsReadAt kind info from n x → Blames (new.cells x) part level block
-            → BlamesNeeded kind info old.cells part level block
-        go x (AtZero within) blames = record {
-          place = x;
-          needed = OfZero within;
-          blames = subst (λ (cell : Cell). Blames cell part level block)
-              (stays.cells told x (omega (arith, within.before, table.zero))) blames;
+        blamed : h.place < old.shape.size → Blames (old.cells h.place) part level block
+        blamed inside = subst (λ (cell : Cell). Blames cell part level block) (stays.cells tells.told h.place inside)
+            h.blames
+
+        go : IsOfTable kind info (table_in new.cells kind info) h.place
+            → BlamesTable kind info old.cells part level block
+        go (InZero within) = record {
+          place = h.place;
+          of_table = InZero within;
+          blames = blamed (omega (arith, within.before, table.zero));
         }
-        go x (AtPlace within) blames = record {
-          place = x;
-          needed = needed x within;
-          blames = subst (λ (cell : Cell). Blames cell part level block)
-              (stays.cells told x (omega (arith, within.before, fits))) blames;
+        go (InEntry e below within) =
+            let here : e < most_in old.cells info = omega (arith, below, most_stays tells.told) in
+            record {
+              place = h.place;
+              of_table = InEntry e here within;
+              blames = blamed (omega (arith, within.before, entry_fits tells known e here));
+            }
+        go (InBucket bucket below within) = record {
+          place = h.place;
+          of_table = InBucket bucket below within;
+          blames = blamed (omega (arith, within.before, below, table.buckets));
         }
 
 -- a first fault in n places is one of a cell there

@@ -56,6 +56,18 @@ pub record BlamesNeeded (kind : EntryKind) (info : TableInfo) (cells : ℕ → C
   pub needed : IsNeeded kind info (table_in cells kind info) place
   pub blames : Blames (cells place) part level block
 
+-- the places of a table and its buckets, needed or not: entry 0, the entries below the most, the buckets
+pub data IsOfTable (kind : EntryKind) (info : TableInfo) (t : Table) (x : ℕ) : Type 0 where
+  InZero : LiesWithin info.table_at (entry_size kind) x → IsOfTable kind info t x
+  InEntry : (e : ℕ) → e < t.most → LiesWithin (entry_place kind info e) (entry_size kind) x → IsOfTable kind info t x
+  InBucket : (bucket : ℕ) → bucket < t.buckets → LiesWithin (bucket_place info bucket) 4 x → IsOfTable kind info t x
+
+-- a cell of a table or its buckets is no byte, and names this block
+pub record BlamesTable (kind : EntryKind) (info : TableInfo) (cells : ℕ → Cell) (part level block : ℕ) : Type 0 where
+  pub place : ℕ
+  pub of_table : IsOfTable kind info (table_in cells kind info) place
+  pub blames : Blames (cells place) part level block
+
 -- a cell of entry 0, or of n places from one on, is no byte, and names this block
 pub data IsReadAt (kind : EntryKind) (info : TableInfo) (at n x : ℕ) : Type 0 where
   AtZero : LiesWithin info.table_at (entry_size kind) x → IsReadAt kind info at n x

@@ -1,5 +1,5 @@
 -- What was read of an entry later, as what it held before.
-use Rattle.std.proofs.Common.{◌≡◌, ℕ, ◌+◌, ◌<◌, List, None, length, sym, ◌∙◌, ap, subst, arith}
+use Rattle.std.proofs.Common.{◌≡◌, ℕ, ◌+◌, ◌<◌, ◌≤◌, List, Some, None, IsTrue, length, sym, ◌∙◌, ap, subst, arith}
 use Rattle.save_bytes.specs.Cells.{Cell, AreBytesAt}
 use Rattle.save_bytes.specs.CellNumbers.{number_in}
 use Rattle.save_bytes.specs.State.{State}
@@ -10,9 +10,12 @@ use Rattle.name_buckets.specs.declared.find.Look.{Look}
 use Rattle.entry_tables.specs.Kinds.{entry_size, link_offset, IsRoot}
 use Rattle.entry_tables.specs.Tables.{Table, HasEntry, table_in, most_in, entry_place, bucket_place}
 use Rattle.entry_tables.specs.Fails.{IsFreedFront}
-use Rattle.entry_tables.specs.Layout.{HasCounts, HasEntryTable, TellsEntryTable}
+use Rattle.entry_tables.specs.Layout.{HasCounts, HasEntryTable, TellsEntryTable, InEntry, BlamesRead, BlamesTable}
+use Rattle.save_bytes.specs.Refusals.{IfDamaged}
+use Rattle.save_bytes.specs.declared.space.Bad.{Bad}
+use Rattle.save_bytes.proofs.SpaceLemmas.{IfDamaged-map}
 use Rattle.name_buckets.specs.Looks.{HasKey, Matches, IsLook}
-use Rattle.entry_tables.proofs.StayLemmas.{tells_later, known_later, table_stays}
+use Rattle.entry_tables.proofs.StayLemmas.{tells_later, known_later, table_stays, entry_fits, table_read, table_blamed}
 use Rattle.entry_tables.proofs.EntryLemmas.{parent_read, name_read, link_there, head_there}
 
 -- the parent and name of an entry are those that its bytes have
@@ -72,3 +75,25 @@ module _ (old mid : State) (stays : Stays old mid None) (kind : EntryKind) (info
       seen (tells_later old mid stays kind info table tells) (known_later old mid stays kind info table tells.told
       known)
       (subst (λ (t : Table). IsFreedFront kind t front last) (sym same_table) begins)
+
+  -- a cell of an entry that was blamed is one of the table
+  pub entry_blamed : (e offset n : ℕ) (bad : Bad) → offset + n ≤ entry_size kind
+      → e < (table_in old.cells kind info).count
+      → (IsTrue mid.told → IfDamaged (Some bad) (BlamesRead kind info (entry_place kind info e + offset) n mid.cells))
+      → IfDamaged (Some bad) (BlamesTable kind info old.cells)
+  entry_blamed e offset n bad inside below damaged =
+      let here : e < most_in old.cells info = omega (arith, below, tells.most known) in
+      let fits = entry_fits old mid stays kind info table tells known e here in
+      IfDamaged-map (Some bad)
+      (λ part level block. table_read old mid stays kind info table tells.told (entry_place kind info e + offset) n part
+      level block (omega (arith, fits, inside))
+      (λ x within. InEntry e here (record {
+        from = omega (arith, within.from);
+        before = omega (arith, within.before, inside);
+      })))
+      (damaged (stays.space.told tells.told))
+
+  -- and what is blamed later was so before
+  pub blamed_before : (bad : Bad) → IfDamaged (Some bad) (BlamesTable kind info mid.cells)
+      → IfDamaged (Some bad) (BlamesTable kind info old.cells)
+  blamed_before bad = IfDamaged-map (Some bad) (table_blamed old mid stays kind info table tells known)

@@ -9,7 +9,7 @@ ghost use Rattle.entry_tables.specs.Hash.{bucket_number};
 ghost use Rattle.entry_tables.specs.Tables.{HasEntry, table_in, entry_place};
 ghost use Rattle.entry_tables.specs.Rules.{HasBucketLists};
 ghost use Rattle.entry_tables.specs.Fails.{IsBrokenBucket};
-ghost use Rattle.entry_tables.specs.Layout.{HasEntryTable, TellsEntryTable, BlamesRead};
+ghost use Rattle.entry_tables.specs.Layout.{HasEntryTable, TellsEntryTable, BlamesRead, BlamesTable};
 ghost use Rattle.entry_tables.specs.Causes.{bad_of, HasEntryCause};
 ghost use Rattle.name_buckets.specs.Replies.{IsFoundEntry};
 ghost use Rattle.name_buckets.specs.Looks.{HasKey, IsLook};
@@ -76,6 +76,8 @@ pub(crate) fn find_in<S: Space>(
     ensures cause { HasEntryCause (S.state space.old) kind info (HasBucketLists kind (table_in (S.state space.old).cells kind info))
         (λ table entry. (table ≡ bucket_table kind) × (entry ≡ bucket_number parent name.now.0 info.buckets)
         × IsBrokenBucket kind (table_in (S.state space.old).cells kind info) entry) result }
+    ensures blamed { TellsEntryTable (S.state space.old) kind info
+        → IfDamaged (bad_of result) (BlamesTable kind info (S.state space.old).cells) }
     ensures reads { Reads S.state S.keeps S.lands space.old space.new (bad_of result) }
 {
     let count = read_counts(space, kind, info)?.count;

@@ -2,13 +2,13 @@
 
 ghost use Rattle.std.specs.Prelude.{◌≡◌, ◌↔◌, ℕ, List, length, Contains, IsTrue, IfOk};
 ghost use Rattle.std.specs.Result.{result_err};
-ghost use Rattle.save_bytes.specs.Refusals.{NeverDamaged};
+ghost use Rattle.save_bytes.specs.Refusals.{IfDamaged, NeverDamaged};
 ghost use Rattle.save_bytes.specs.Reads.{Reads};
 ghost use Rattle.entry_tables.specs.Kinds.{table_number};
 ghost use Rattle.entry_tables.specs.Tables.{table_in};
 ghost use Rattle.entry_tables.specs.Rules.{HasFreedList};
 ghost use Rattle.entry_tables.specs.Fails.{IsFreedFront, NamesWrongly};
-ghost use Rattle.entry_tables.specs.Layout.{HasCounts, HasEntryTable, TellsEntryTable};
+ghost use Rattle.entry_tables.specs.Layout.{HasCounts, HasEntryTable, TellsEntryTable, BlamesTable};
 ghost use Rattle.entry_tables.specs.Causes.{bad_of, HasEntryCause};
 ghost use Rattle.name_buckets.specs.Replies.{IsRoom};
 
@@ -26,6 +26,8 @@ pub(crate) fn free_in<S: Space>(
     ensures free { TellsEntryTable (S.state space.old) kind info → IfOk result (IsRoom kind (table_in (S.state space.old).cells kind info)) }
     ensures cause { HasEntryCause (S.state space.old) kind info (HasFreedList kind (table_in (S.state space.old).cells kind info))
         (λ table entry. (table ≡ table_number kind) × NamesWrongly kind (table_in (S.state space.old).cells kind info) entry) result }
+    ensures blamed { TellsEntryTable (S.state space.old) kind info
+        → IfDamaged (bad_of result) (BlamesTable kind info (S.state space.old).cells) }
     ensures reads { Reads S.state S.keeps S.lands space.old space.new (bad_of result) }
 {
     let counts = read_counts(space, kind, info)?;
@@ -57,6 +59,9 @@ fn circle_end<S: Space>(
         TellsEntryTable (S.state space.old) kind info → HasCounts (S.state space.old).cells info → t.count ≡ count
         → (front : List ℕ) (last : ℕ) → IsFreedFront kind t front last → length front ≡ count
         → IfOk result (NamesWrongly kind t) }
+    ensures blamed { TellsEntryTable (S.state space.old) kind info → HasCounts (S.state space.old).cells info
+        → (front : List ℕ) (last : ℕ) → IsFreedFront kind (table_in (S.state space.old).cells kind info) front last
+        → length front ≡ count → IfDamaged (result_err result) (BlamesTable kind info (S.state space.old).cells) }
     ensures plain { IsTrue (S.state space.old).shape.plain → NeverDamaged (result_err result) }
     ensures reads { Reads S.state S.keeps S.lands space.old space.new (result_err result) }
 {
@@ -84,6 +89,9 @@ fn is_among<S: Space>(
         TellsEntryTable (S.state space.old) kind info → HasCounts (S.state space.old).cells info
         → (front : List ℕ) (last : ℕ) → IsFreedFront kind t front last → length front ≡ steps
         → IfOk result (λ found. IsTrue found ↔ Contains front entry) }
+    ensures blamed { TellsEntryTable (S.state space.old) kind info → HasCounts (S.state space.old).cells info
+        → (front : List ℕ) (last : ℕ) → IsFreedFront kind (table_in (S.state space.old).cells kind info) front last
+        → length front ≡ steps → IfDamaged (result_err result) (BlamesTable kind info (S.state space.old).cells) }
     ensures plain { IsTrue (S.state space.old).shape.plain → NeverDamaged (result_err result) }
     ensures reads { Reads S.state S.keeps S.lands space.old space.new (result_err result) }
 {

@@ -2,13 +2,14 @@
 
 ghost use Rattle.std.specs.Prelude.{◌≡◌, ◌<◌, IsTrue, IfOk, OnOk, ⊤};
 ghost use Rattle.entry_tables.specs.declared.table.EntryKind.TheVariants.{Dir, File};
+ghost use Rattle.save_bytes.specs.Refusals.{IfDamaged};
 ghost use Rattle.entry_tables.specs.Kinds.{table_number, bucket_table};
 ghost use Rattle.entry_tables.specs.Hash.{bucket_number};
 ghost use Rattle.entry_tables.specs.Tables.{HasEntry, info_of};
 ghost use Rattle.entry_tables.specs.Used.{used_entries};
 ghost use Rattle.entry_tables.specs.Rules.{HasFreedList, HasBucketLists};
 ghost use Rattle.entry_tables.specs.Fails.{NamesWrongly, IsBrokenBucket};
-ghost use Rattle.entry_tables.specs.Layout.{HasCounts, HasEntryTables, HasLink};
+ghost use Rattle.entry_tables.specs.Layout.{HasCounts, HasEntryTables, HasLink, BlamesTable};
 ghost use Rattle.entry_tables.specs.Causes.{bad_of, HasEntryCause};
 ghost use Rattle.name_buckets.specs.Replies.{IsFoundEntry, IsRoom, IsFirstChild, IsNextChild};
 ghost use Rattle.name_buckets.specs.Held.{space_of, tables_of, place_of, HoldsTables, TellsTableOf, IsEntriesIn, ReadsEntries};
@@ -24,8 +25,9 @@ use save_bytes::{Name, Space};
 /// The entries of the two tables in a space, with their buckets.
 ///
 /// A call is refused with `Bad` as the space refuses it: for a damaged cell only where that cell is needed, which are
-/// entry 0 of a table, its buckets, its used entries and the last words of the freed ones. It is refused with `Broken`
-/// only where a rule fails at the entry, or the bucket, that it names. Over a space that tells nothing each call is
+/// entry 0 of a table, its buckets, its used entries and the last words of the freed ones. Where the rule does not hold
+/// by which a list is followed, the cell is one of the table or its buckets. A call is refused with `Broken` only where
+/// a rule fails at the entry, or the bucket, that it names. Over a space that tells nothing each call is
 /// safe, and returns.
 ///
 /// What is said of an entry's fields is said of entries from 1 below the most of their table. Another number is read as
@@ -62,6 +64,8 @@ impl<'a, S: Space> Entries<'a, S> {
             HasEntryCause (space_of S.state self.old) kind (place_of self.old kind) (HasBucketLists kind t)
             (λ table entry. (table ≡ bucket_table kind) × (entry ≡ bucket_number parent name.now.0 t.buckets)
             × IsBrokenBucket kind t entry) result }
+        ensures blamed { TellsTableOf S.state self.old kind
+            → IfDamaged (bad_of result) (BlamesTable kind (place_of self.old kind) (space_of S.state self.old).cells) }
         ensures reads { ReadsEntries S.state S.keeps S.lands self.old self.new (bad_of result) }
     {
         let info = self.info(kind);
@@ -201,6 +205,8 @@ impl<'a, S: Space> Entries<'a, S> {
         ensures cause { let t = (tables_of S.state self.old).table kind in
             HasEntryCause (space_of S.state self.old) kind (place_of self.old kind) (HasFreedList kind t)
             (λ table entry. (table ≡ table_number kind) × NamesWrongly kind t entry) result }
+        ensures blamed { TellsTableOf S.state self.old kind
+            → IfDamaged (bad_of result) (BlamesTable kind (place_of self.old kind) (space_of S.state self.old).cells) }
         ensures reads { ReadsEntries S.state S.keeps S.lands self.old self.new (bad_of result) }
     {
         let info = self.info(kind);

@@ -1,15 +1,15 @@
-use Rattle.std.proofs.Common.{◌≡◌, ◌+◌, ◌*◌, ◌<◌, ◌≤◌, Some, refl, sym, ◌∙◌, arith}
+use Rattle.std.proofs.Common.{◌≡◌, ◌+◌, ◌*◌, ◌<◌, ◌≤◌, Some, refl, sym, ◌∙◌, arith, add-zero}
 use Rattle.save_bytes.proofs.SpaceLemmas.{IfDamaged-map}
 use Rattle.entry_tables.specs.Hash.{bucket_number}
 use Rattle.entry_tables.specs.Kinds.{entry_size}
 use Rattle.entry_tables.specs.Tables.{table_in, entry_place, bucket_place}
-use Rattle.entry_tables.specs.Layout.{OfBucket, OfUsed}
+use Rattle.entry_tables.specs.Layout.{OfBucket, OfUsed, InBucket}
 use Rattle.entry_tables.proofs.EntryLemmas.{least_some, counted_entry}
 use Rattle.save_bytes.proofs.CallLemmas.{reads_then}
-use Rattle.entry_tables.proofs.StayLemmas.{HasEntryTable-stays, entry_fits, needed_read, fault_read}
+use Rattle.entry_tables.proofs.StayLemmas.{HasEntryTable-stays, entry_fits, needed_read, table_read, fault_read}
 use Rattle.entry_tables.proofs.CauseLemmas.{passed_on, bad_cause, broken_cause, plain_stays}
 use Rattle.name_buckets.proofs.FindLemmas.{HasPassed-none, HasPassed-more, passed_stands, match_found, none_found, broken_past, broken_long}
-use Rattle.name_buckets.proofs.LookLemmas.{look_stays, head_stays}
+use Rattle.name_buckets.proofs.LookLemmas.{look_stays, head_stays, entry_blamed}
 use Rattle.name_buckets.proofs.find.find_in.Given.{Over}
 use Rattle.name_buckets.proofs.find.find_in.Goals.{After-bucket-number}
 use Rattle.name_buckets.proofs.find.find_in.Goals as goal
@@ -168,3 +168,35 @@ returns-clause-cause g c =
           rw number.number (broken_long (c.loop-step.invariant.passed tells) below
           (omega (arith, counts.count tells.told, c.loop-step-test.false)) some)),
     ))
+
+pub returns-in_err-entry-clause-blamed : goal.returns-in_err-entry-clause-blamed
+returns-in_err-entry-clause-blamed g c = λ tells.
+    let old = g.S.Space.state c.args.space.now in
+    let mid = g.S.Space.state c.read_counts.new.space in
+    let kind = c.args.kind in
+    let info = c.args.info in
+    let number = c.bucket-number.result in
+    let below = c.bucket-number.ensures.below in
+    let bad = c.in_err-entry.field-0.0 in
+    let stays = c.in_ok-count.ensures.reads.stays in
+    let read = c.in_err-entry.ensures.read in
+    let there : info.buckets_at + 4 * c.from.result ≡ bucket_place info number = rw c.from.ensures refl in
+    rw (passed_on _ bad c.from_residual-in_err-entry.ensures.1)
+    (IfDamaged-map (Some bad)
+    (λ part level block first. table_read old mid stays kind info c.requires tells.told (bucket_place info number) 4
+    part
+    level block (omega (arith, below, c.requires.buckets)) (λ x within. InBucket number below within)
+    (fault_read kind info mid.cells (bucket_place info number) 4 part level block first))
+    (rw there at read.damaged (stays.space.told tells.told)))
+
+pub returns-in_err-look_at-clause-blamed : goal.returns-in_err-look_at-clause-blamed
+returns-in_err-look_at-clause-blamed g c = λ tells.
+    let old = g.S.Space.state c.args.space.now in
+    let counts = c.in_ok-count.ensures in
+    let below : c.loop-step.entry < (table_in old.cells c.args.kind c.args.info).count =
+    omega (arith, c.if-entry-count.false, counts.count tells.told) in
+    let bad = c.in_err-look_at.field-0.0 in
+    rw (passed_on _ bad c.from_residual-in_err-look_at.ensures.1)
+    (entry_blamed old (g.S.Space.state c.loop-step.space) c.loop-step.invariant.reads.stays c.args.kind c.args.info
+    c.requires tells (counts.known tells.told) c.loop-step.entry 0 (entry_size c.args.kind) bad (omega arith) below
+    (rw add-zero c.in_err-look_at.ensures.damaged))

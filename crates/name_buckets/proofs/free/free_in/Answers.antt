@@ -8,7 +8,9 @@ use Rattle.entry_tables.proofs.EntryLemmas.{some_counted, link_last}
 use Rattle.save_bytes.proofs.CallLemmas.{reads_then}
 use Rattle.entry_tables.proofs.StayLemmas.{HasEntryTable-stays, entry_fits, needed_read}
 use Rattle.entry_tables.proofs.CauseLemmas.{passed_on, bad_cause, broken_cause, plain_stays}
-use Rattle.name_buckets.proofs.LookLemmas.{same_table, link_stays, among_stays}
+use Rattle.save_bytes.specs.Refusals.{IfDamaged}
+use Rattle.entry_tables.specs.Layout.{BlamesTable}
+use Rattle.name_buckets.proofs.LookLemmas.{same_table, link_stays, among_stays, entry_blamed, blamed_before}
 use Rattle.name_buckets.proofs.FreeLemmas.{HasFollowed-more, followed_below, followed_needed, room_counted, wrong_number, not_long}
 use Rattle.name_buckets.proofs.free.free_in.Goals.{then-next-least_freed-via-then-next-least_freed}
 use Rattle.name_buckets.proofs.free.free_in.Goals.{then-next-least_freed-via-else-next-least_freed+then-next-counts}
@@ -173,3 +175,35 @@ pub returns-clause-reads : goal.returns-clause-reads
 returns-clause-reads g c =
     rw c.names_wrongly-2.ensures
     (reads_then g.met.S.Space.keeps_join c.loop-freed.invariant.reads c.in_ok-end.ensures.reads)
+
+pub returns-in_err-next-clause-blamed : goal.returns-in_err-next-clause-blamed
+returns-in_err-next-clause-blamed g c = λ tells.
+    let old = g.S.Space.state c.args.space.now in
+    let kind = c.args.kind in
+    let before = c.loop-freed.invariant in
+    let known = c.in_ok-counts.ensures.known tells.told in
+    let below = followed_below (before.followed tells) (some_counted old kind c.args.info tells known) in
+    let bad = c.in_err-next.field-0.0 in
+    rw (passed_on _ bad c.from_residual-in_err-next.ensures.1)
+    (entry_blamed old (g.S.Space.state c.loop-freed.space) before.reads.stays kind c.args.info c.requires tells known
+    c.loop-freed.from (link_offset kind) 4 bad (omega (arith, link_last kind)) below
+    (rw c.link_offset.ensures at c.in_err-next.ensures.damaged))
+
+pub returns-in_err-end-clause-blamed : goal.returns-in_err-end-clause-blamed
+returns-in_err-end-clause-blamed g c = λ tells.
+    let old = g.S.Space.state c.args.space.now in
+    let mid = g.S.Space.state c.loop-freed.space in
+    let kind = c.args.kind in
+    let info = c.args.info in
+    let stays = c.loop-freed.invariant.reads.stays in
+    let known = c.in_ok-counts.ensures.known tells.told in
+    let followed = c.loop-freed.invariant.followed tells in
+    let many : length followed.front ≡ c.in_ok-counts.counts.count =
+    omega (arith, followed.many, c.loop-freed-test.false, c.loop-freed.auto.freed-end) in
+    let bad = c.in_err-end.field-0.0 in
+    rw (passed_on _ bad c.from_residual-in_err-end.ensures.1)
+    (blamed_before old mid stays kind info c.requires tells known bad
+    (among_stays old mid stays kind info c.requires tells known followed.front c.loop-freed.from
+    (IfDamaged (Some bad) (BlamesTable kind info mid.cells)) followed.begins
+    (λ tells_too known_too begins. c.in_err-end.ensures.blamed tells_too known_too followed.front c.loop-freed.from
+    begins many)))

@@ -1,9 +1,10 @@
 use Rattle.std.proofs.Common.{◌<◌, length, refl, arith}
 use Rattle.std.proofs.lemmas.Bool.{false≢true}
 use Rattle.save_bytes.proofs.CallLemmas.{reads_then}
-use Rattle.entry_tables.proofs.EntryLemmas.{some_counted}
+use Rattle.entry_tables.proofs.EntryLemmas.{link_last, some_counted}
 use Rattle.entry_tables.proofs.CauseLemmas.{passed_error}
-use Rattle.name_buckets.proofs.LookLemmas.{link_stays}
+use Rattle.entry_tables.specs.Kinds.{link_offset}
+use Rattle.name_buckets.proofs.LookLemmas.{link_stays, entry_blamed}
 use Rattle.name_buckets.proofs.FreeLemmas.{HasCompared-more, compared_below, compared_found, compared_all}
 use Rattle.name_buckets.proofs.free.is_among.Goals as goal
 
@@ -52,3 +53,17 @@ returns-clause-among g c = λ tells known front last is_front many.
     let apart = compared_all front c.args.entry c.loop-step._step c.loop-step.from compared
     (omega (arith, many, c.loop-step-test.false)) in
     ((λ found. absurd (false≢true found)), (λ within. absurd (apart within)))
+
+pub returns-in_err-from-clause-blamed : goal.returns-in_err-from-clause-blamed
+returns-in_err-from-clause-blamed g c = λ tells known front last is_front many.
+    let old = g.S.Space.state c.args.space.now in
+    let kind = c.args.kind in
+    let before = c.loop-step.invariant in
+    let compared = before.compared tells known front last is_front many in
+    let more : c.loop-step._step < length front = omega (arith, many, c.loop-step-test.true) in
+    let below = compared_below is_front compared more (some_counted old kind c.args.info tells known) in
+    let bad = c.in_err-from.field-0.0 in
+    rw (passed_error _ bad c.from_residual.ensures.1)
+    (entry_blamed old (g.S.Space.state c.loop-step.space) before.reads.stays kind c.args.info c.requires tells known
+    c.loop-step.from (link_offset kind) 4 bad (omega (arith, link_last kind)) below
+    (rw c.link_offset.ensures at c.in_err-from.ensures.damaged))
