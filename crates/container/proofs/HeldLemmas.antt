@@ -17,7 +17,7 @@ use Rattle.page_image.specs.declared.state.ImageState.{ImageState}
 use Rattle.page_image.specs.Images.{IsDiskOf, IsHeldPiece, image_state}
 use Rattle.page_image.specs.Laws.{image_size_fits, Leaves-join}
 use Rattle.page_image.specs.declared.image.Image.{Image}
-use Rattle.page_image.specs.Spots.{ImageLands, LeavesTold}
+use Rattle.page_image.specs.Spots.{Leaves, ImageLands, LeavesTold}
 use Rattle.page_image.specs.Held.{ImageKeeps}
 use Rattle.page_image.specs.Held.{shown as shown_image}
 use Rattle.page_image.proofs.DiskLemmas.{disk_of-true}
@@ -27,6 +27,7 @@ use Rattle.part_store.specs.Parts.{IsFound}
 use Rattle.part_store.specs.Spots.{SamePart, PartSpot}
 use Rattle.part_store.specs.SpotLaws.{SamePart-same, PartSpot-same, SamePart-join, PartSpot-join}
 use Rattle.part_store.proofs.PartLemmas.{found_piece}
+use Rattle.container.specs.declared.open.Container.{Container}
 use Rattle.container.specs.declared.store.Store.{Store}
 use Rattle.container.specs.Stores.{state_of}
 use Rattle.container.specs.StoreHeld.{shown, SameStore, SameSecond, IsKept, ReadsImage, ContainerSpot, StoreKeeps, store_lands}
@@ -214,3 +215,14 @@ module _ {D : Type 0} (states : D → disks.State) where
     spot_join spot s t u h.0 h.1 k.1,
     Leaves-join (states s.disk.now) (states t.disk.now) (states u.disk.now) s.container.now.image t.container.now.image u.container.now.image spot h.2 k.2,
   )
+
+-- what a call on a store left of its image, where the container and the disk are known behind it
+pub leaves_as : {D : Type 0} (states : D → disks.State) (spot : Spot) (s t : Store D) (m n : Container) (d e : D) → m ≡ s.container.now → d ≡ s.disk.now
+    → n ≡ t.container.now → e ≡ t.disk.now
+    → Leaves spot (states s.disk.now) s.container.now.image (states t.disk.now) t.container.now.image
+    → Leaves spot (states d) m.image (states e) n.image
+leaves_as {D = D} states spot s t m n d e first disk last end h =
+    subst (λ (c : Container). Leaves spot (states d) c.image (states e) n.image) (sym first)
+    (subst (λ (a : D). Leaves spot (states a) s.container.now.image (states e) n.image) (sym disk)
+    (subst (λ (c : Container). Leaves spot (states s.disk.now) s.container.now.image (states e) c.image) (sym last)
+    (subst (λ (a : D). Leaves spot (states s.disk.now) s.container.now.image (states a) t.container.now.image) (sym end) h)))
