@@ -321,21 +321,20 @@ fn second_copy_is_chosen(rt: HostRuntime) -> Result<(), Fail> {
     Ok(())
 }
 
-// In sectors of 4,096 bytes an image is opened by 30 calls. The next read is to fail.
+// In sectors of 4,096 bytes an image is opened by four calls. The first bytes of the store and their path lie in six pages.
 #[test]
-fn store_makes_no_call(rt: HostRuntime) -> Result<(), Fail> {
+fn store_reads_the_pages_of_a_path_once(rt: HostRuntime) -> Result<(), Fail> {
     let alloc = rt.alloc();
     let image = sample(alloc, Sample::Single)?;
     let mut desk = MemDesk::wide(alloc, &image, &[])?;
     let mut container = Container::open(alloc, &mut desk, &ZeroSigner)?;
-    desk.fail(Call::Read, 30);
     let mut store = container.store(&mut desk);
     assert!(rt; store.len() == 34_816);
     let mut out = [0; 32];
     assert_eq!(rt; store.copy(0, &mut out), Ok(()));
     assert_eq!(rt; out, HEAD);
-    assert_eq!(rt; desk.call(29), Some(Call::Read));
-    assert_eq!(rt; desk.call(30), None);
+    assert_eq!(rt; desk.call(9), Some(Call::Read));
+    assert_eq!(rt; desk.call(10), None);
     Ok(())
 }
 

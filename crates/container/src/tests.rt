@@ -192,7 +192,7 @@ fn short_image_is_none(rt: HostRuntime) -> Result<(), Fail> {
     Ok(())
 }
 
-// In sectors of 4,096 bytes: the front, the table, and the image's 27 sectors.
+// In sectors of 4,096 bytes: the front, the table, and the image's first bytes.
 #[test]
 fn failed_call_is_the_last(rt: HostRuntime) -> Result<(), Fail> {
     let alloc = rt.alloc();
@@ -204,7 +204,7 @@ fn failed_call_is_the_last(rt: HostRuntime) -> Result<(), Fail> {
         Some(OpenFault::Disk)
     );
     assert_eq!(rt; desk.call(1), None);
-    for nth in 1..30 {
+    for nth in 1..4 {
         let mut desk = MemDesk::wide(alloc, &image, &[])?;
         desk.fail(Call::Read, nth);
         let fault = Container::open(alloc, &mut desk, &ZeroSigner).err();
@@ -215,7 +215,7 @@ fn failed_call_is_the_last(rt: HostRuntime) -> Result<(), Fail> {
     Ok(())
 }
 
-// The table of 604 bytes at 1,536 lies in two sectors of 512 bytes, and the image in 216.
+// The table of 604 bytes at 1,536 lies in two sectors of 512 bytes. Of the image one is read.
 #[test]
 fn nothing_is_written(rt: HostRuntime) -> Result<(), Fail> {
     let alloc = rt.alloc();
@@ -223,10 +223,10 @@ fn nothing_is_written(rt: HostRuntime) -> Result<(), Fail> {
     let mut desk = MemDesk::new(alloc, &image, &[])?;
     assert!(rt; Container::open(alloc, &mut desk, &ZeroSigner).is_ok());
     assert_eq!(rt; desk.call(0), Some(Call::Len));
-    for i in 1..220 {
+    for i in 1..5 {
         assert_eq!(rt; desk.call(i), Some(Call::Read), "at {i}");
     }
-    assert_eq!(rt; desk.call(220), None);
+    assert_eq!(rt; desk.call(5), None);
     assert_eq!(rt; desk.image(), image.as_slice());
     Ok(())
 }
