@@ -146,7 +146,9 @@ fn a_fault_leaves_the_chosen_copies(rt: HostRuntime) -> Result<(), Fail> {
                 desk.fail(call, nth);
                 // Bytes 4,000 to 4,199 lie in the first two blocks of level 3.
                 let result = change(&rt, rt.alloc(), &mut desk, 4000, &[7; 200])?;
-                assert_eq!(rt; result, Err(Bad::Disk));
+                if count(&desk, call) >= nth as usize {
+                    assert_eq!(rt; result, Err(Bad::Disk));
+                }
                 assert!(rt; has_chosen_copies(desk.image(), &old));
             }
         }
