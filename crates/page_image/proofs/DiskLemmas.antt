@@ -1,12 +1,12 @@
 -- What it says that a disk is that of an image.
-use Rattle.std.proofs.Common.{◌≡◌, ℕ, ◌+◌, ◌*◌, ◌/◌, ◌<◌, ◌≤◌, Bool, true, false, not, ◌||◌, eqb, ltb, IsTrue, List, length, get_or, Option, Some, None, refl, sym, ◌∙◌, ap, subst, arith, ⊎_elim}
+use Rattle.std.proofs.Common.{◌≡◌, ℕ, ◌*◌, ◌/◌, ◌<◌, ◌≤◌, true, false, not, ◌||◌, eqb, ltb, IsTrue, get_or, Option, Some, None, refl, sym, ◌∙◌, ap, subst, arith, ⊎_elim}
 use Rattle.std.proofs.lemmas.Bool.{and_parts, and_from, or_cases, or_left, or_right, not_from_true, not_from_false, cases_Bool, eqb-true, eq-eqb, lt-ltb, le-ltb, cases_lt}
 use Rattle.save_disk.specs.Trace.{Told, image_now}
 use Rattle.save_disk.specs.State as disks
-use Rattle.save_disk.specs.Tells.{tells, image_told, image_of, all_below}
+use Rattle.save_disk.specs.Tells.{tells, image_told, image_of}
 use Rattle.save_disk.proofs.Told.{all_below-at, all_below-all, tells-sure, tells-told, told_grain}
 use Rattle.page_image.specs.declared.state.ImageState.{ImageState}
-use Rattle.page_image.specs.Images.{is_held, byte_of, is_changed, Mirrors, IsDiskOf, is_mirrored_at, is_mirrored, is_disk_of, IsOpened}
+use Rattle.page_image.specs.Images.{is_held, byte_of, is_changed, IsDiskOf, is_mirrored_at, is_mirrored, is_disk_of, IsOpened}
 use Rattle.page_image.proofs.FrameLemmas.{byte_front, byte_unheld, changed_unheld}
 use Rattle.page_image.specs.Frames.{IsByteRead}
 use Rattle.page_image.specs.Spots.{SameImage}

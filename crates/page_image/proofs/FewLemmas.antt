@@ -1,12 +1,11 @@
 -- In how many pages an image differs from its disk.
-use Rattle.std.proofs.Common.{◌≡◌, ◌≢◌, ℕ, ◌<◌, ◌≤◌, ◌/◌, true, false, IsTrue, List, length, get_or, map, Option, Some, None, refl, sym, ◌∙◌, ap, arith, ⊎_elim}
+use Rattle.std.proofs.Common.{◌≡◌, ℕ, ◌<◌, ◌/◌, true, false, List, length, get_or, map, Option, Some, None, ◌∙◌, ap, arith, ⊎_elim}
 use Rattle.std.proofs.lemmas.List.{length-map, get_or-map}
 use Rattle.std.proofs.lemmas.Bool.{cases_Bool}
 use Rattle.save_disk.specs.State as disks
-use Rattle.save_disk.specs.Tells.{tells, image_told}
+use Rattle.save_disk.specs.Tells.{tells}
 use Rattle.page_image.specs.declared.state.ImageState.{ImageState}
-use Rattle.page_image.specs.Images.{frame_of, is_held, byte_of, is_changed, IsDiskOf, DiffersWithin}
-use Rattle.page_image.proofs.SectorLemmas.{sector_page}
+use Rattle.page_image.specs.Images.{frame_of, is_held, IsDiskOf, DiffersWithin}
 use Rattle.page_image.proofs.FrameLemmas.{held_in, held_frame, clean_unheld}
 use Rattle.page_image.proofs.DiskLemmas.{clean_told}
 

@@ -1,12 +1,11 @@
 -- What the frames of an image hold.
-use Rattle.std.proofs.Common.{◌≡◌, ◌≢◌, ◌⊎◌, ℕ, ◌+◌, ◌-◌, ◌*◌, ◌/◌, ◌%◌, ◌<◌, ◌≤◌, Bool, true, false, ◌&&◌, IsTrue, ltb, List, length, get_or}
-use Rattle.std.proofs.Common.{Option, Some, None, refl, sym, ◌∙◌, ap, subst, arith, inl, inr, ⊎_elim}
+use Rattle.std.proofs.Common.{◌≡◌, ℕ, ◌+◌, ◌*◌, ◌/◌, ◌%◌, ◌<◌, ◌≤◌, Bool, true, false, ◌&&◌, ltb, List, length, get_or}
+use Rattle.std.proofs.Common.{Option, Some, None, refl, sym, ◌∙◌, ap, arith, ⊎_elim}
 use Rattle.std.proofs.Math.Nat.{zero-mul}
 use Rattle.std.proofs.lemmas.List.{get_or_past}
-use Rattle.std.proofs.lemmas.Bool.{false≢true, cases_lt, cases_Bool, and_parts, and_from, and_left, and_right, ltb-true, lt-ltb, le-ltb, eqb-true, eq-eqb, ne_eqb}
-use Rattle.save_disk.specs.Trace.{Told, image_now}
+use Rattle.std.proofs.lemmas.Bool.{cases_lt, and_parts, and_left, and_right, ltb-true, lt-ltb, le-ltb, eqb-true, eq-eqb}
 use Rattle.save_disk.specs.State as disks
-use Rattle.save_disk.specs.Tells.{image_told, image_of}
+use Rattle.save_disk.specs.Tells.{image_told}
 use Rattle.page_image.specs.declared.state.ImageState.{ImageState}
 use Rattle.page_image.specs.Images.{is_page, frame_of, is_held, held_byte, byte_of, mark_of, is_changed_at, is_changed, IsHeldPiece}
 use Rattle.page_image.specs.WriteOuts.{IsSectorOf}

@@ -1,10 +1,10 @@
 -- What a write of the first 512 bytes leaves.
-use Rattle.std.proofs.Common.{◌≡◌, ◌≢◌, ◌⊎◌, ℕ, ◌+◌, ◌-◌, ◌*◌, ◌/◌, ◌<◌, ◌≤◌, Bool, true, false, IsTrue, List, [], ◌∷◌, length, get_or, Option, Some}
+use Rattle.std.proofs.Common.{◌≡◌, ◌≢◌, ◌⊎◌, ℕ, ◌+◌, ◌-◌, ◌*◌, ◌/◌, ◌<◌, ◌≤◌, true, false, IsTrue, List, [], ◌∷◌, length, get_or, Option, Some}
 use Rattle.std.proofs.Common.{refl, sym, ◌∙◌, ap, subst, arith, inl, inr, ⊎_elim}
 use Rattle.std.specs.Bool.{⊤}
 use Rattle.std.proofs.Math.Nat.{zero-mul}
-use Rattle.std.proofs.lemmas.Bool.{cases_lt, cases_eq, cases_Bool, eq-eqb}
-use Rattle.save_bytes.specs.Spots.{Spot, Place, Sector, Misses}
+use Rattle.std.proofs.lemmas.Bool.{cases_lt, cases_eq, cases_Bool}
+use Rattle.save_bytes.specs.Spots.{Place, Sector}
 use Rattle.save_disk.specs.Trace.{Event, Write, Told, image_now}
 use Rattle.save_disk.specs.State as disks
 use Rattle.save_disk.specs.Tells.{tells, image_told, image_of}
@@ -14,7 +14,7 @@ use Rattle.save_disk.proofs.Told.{tells-told, told_grain, now_size}
 use Rattle.save_disk.proofs.Growth.{grew_happens, grew_failed, came_from}
 use Rattle.page_image.specs.declared.state.ImageState.{ImageState}
 use Rattle.page_image.specs.Images.{is_held, held_byte, byte_of, is_changed, IsDiskOf, Mirrors}
-use Rattle.page_image.specs.Spots.{SameImage, SureAsBefore, SameImageSpot, Leaves, IsToldFor, ImageLands}
+use Rattle.page_image.specs.Spots.{SameImage, SureAsBefore}
 use Rattle.page_image.specs.Fronts.{IsSector0, LeavesBehind}
 use Rattle.page_image.specs.Puts.{IsFirstMarked, IsHeaded}
 use Rattle.page_image.proofs.SectorLemmas.{by_grain, some_grain, sector_page, front_sector}

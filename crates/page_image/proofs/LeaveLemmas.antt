@@ -1,20 +1,20 @@
 -- What a call leaves that reads pages anew.
-use Rattle.std.proofs.Common.{◌≡◌, ◌≢◌, ℕ, ◌+◌, ◌*◌, ◌/◌, ◌<◌, ◌≤◌, Bool, true, false, IsTrue, List, length, get_or, Option, Some, None, refl, sym, ◌∙◌, ap, subst, arith, inl, ⊎_elim}
+use Rattle.std.proofs.Common.{◌≡◌, ◌≢◌, ℕ, ◌/◌, ◌<◌, ◌≤◌, true, false, IsTrue, List, get_or, Option, Some, refl, sym, ◌∙◌, ap, subst, inl, ⊎_elim}
 use Rattle.std.specs.Bool.{⊤}
 use Rattle.std.proofs.lemmas.Bool.{cases_Bool, cases_lt}
-use Rattle.save_bytes.specs.Spots.{Spot, Place, Sector, Frame}
+use Rattle.save_bytes.specs.Spots.{Spot, Place, Sector}
 use Rattle.save_disk.specs.Trace.{Told, image_now}
 use Rattle.save_disk.specs.State as disks
 use Rattle.save_disk.specs.Tells.{tells, is_sure, image_told, image_of}
 use Rattle.save_disk.specs.Keeps.{HoldsAt}
 use Rattle.save_disk.proofs.Growth.{WritesOnly-quiet}
 use Rattle.page_image.specs.declared.state.ImageState.{ImageState}
-use Rattle.page_image.specs.Images.{is_held, held_byte, byte_of, is_changed, Mirrors, IsDiskOf, is_disk_of}
-use Rattle.page_image.specs.Frames.{IsByteRead, IsRefilled}
-use Rattle.page_image.specs.Spots.{SameImage, SameImageSpot, SureAsBefore, Leaves, IsToldFor, LeavesTold}
+use Rattle.page_image.specs.Images.{is_held, held_byte, byte_of, is_changed, Mirrors, IsDiskOf}
+use Rattle.page_image.specs.Frames.{IsRefilled}
+use Rattle.page_image.specs.Spots.{SameImage, IsToldFor, LeavesTold}
 use Rattle.page_image.specs.Laws.{SureFrom, sure_start, Leaves-join}
 use Rattle.page_image.proofs.FrameLemmas.{byte_front, byte_held, byte_unheld, clean_unheld}
-use Rattle.page_image.proofs.DiskLemmas.{disk_of-true, true-disk_of, clean_told, read_told}
+use Rattle.page_image.proofs.DiskLemmas.{true-disk_of, clean_told, read_told}
 
 -- reads are told as before
 sure_quiet : (number : ℕ) (o p : Option Told) → p ≡ o → SureFrom number o p

@@ -1,5 +1,5 @@
 -- What a lent piece shows, and what it leaves.
-use Rattle.std.proofs.Common.{◌≡◌, ℕ, ◌+◌, List, IsTrue, Option, Some, None, Ok, refl, sym, ◌∙◌, ap, subst, arith}
+use Rattle.std.proofs.Common.{◌≡◌, ℕ, ◌+◌, List, IsTrue, Some, None, Ok, refl, sym, ◌∙◌, ap, subst, arith}
 use Rattle.std.specs.Borrow.{Bor}
 use Rattle.save_bytes.specs.declared.space.Bad.TheVariants.{Disk}
 use Rattle.save_bytes.specs.Cells.{Byte}
@@ -12,7 +12,7 @@ use Rattle.save_disk.specs.State as disks
 use Rattle.save_disk.specs.Tells.{tells}
 use Rattle.page_image.specs.declared.state.ImageState.{ImageState}
 use Rattle.page_image.specs.declared.image.Image.{Image}
-use Rattle.page_image.specs.Images.{byte_of, IsHeldPiece, image_state}
+use Rattle.page_image.specs.Images.{IsHeldPiece, image_state}
 use Rattle.page_image.specs.Spots.{LeavesTold, IsToldFor, ImageLands}
 use Rattle.page_image.specs.Held.{shown, SameImageView, ImageKeeps}
 use Rattle.page_image.specs.Laws.{SameImage-shape}

@@ -1,11 +1,10 @@
 -- What a put leaves, page by page.
-use Rattle.std.proofs.Common.{◌≡◌, ◌≢◌, ◌⊎◌, ℕ, ◌+◌, ◌-◌, ◌*◌, ◌/◌, ◌%◌, ◌<◌, ◌≤◌, Bool, true, false, IsTrue, List, length, get_or, take, drop, Some}
+use Rattle.std.proofs.Common.{◌≡◌, ◌≢◌, ◌⊎◌, ℕ, ◌+◌, ◌-◌, ◌*◌, ◌/◌, ◌%◌, ◌<◌, ◌≤◌, true, false, IsTrue, List, length, get_or, take, drop}
 use Rattle.std.proofs.Common.{refl, sym, ◌∙◌, ap, subst, arith, inl, inr, ⊎_elim}
 use Rattle.std.specs.Bool.{⊤}
 use Rattle.std.proofs.lemmas.List.{get_or-take, get_or-drop, length-drop, length-take-le}
 use Rattle.std.proofs.lemmas.Bool.{cases_lt, cases_eq, cases_Bool}
 use Rattle.save_bytes.specs.Spots.{Spot, Place, Sector, Frame, Misses}
-use Rattle.save_disk.specs.Trace.{Told}
 use Rattle.save_disk.specs.State as disks
 use Rattle.save_disk.specs.Tells.{tells}
 use Rattle.save_disk.specs.Writes.{WritesOnly, WritesTo}
@@ -13,11 +12,11 @@ use Rattle.save_disk.specs.Keeps.{HoldsAt}
 use Rattle.save_disk.proofs.Growth.{WritesOnly-quiet, WritesOnly-join, WritesOnly-map, WritesOnly-all, WritesTo-first, WritesTo-later}
 use Rattle.save_disk.proofs.Telling.{steady_start}
 use Rattle.page_image.specs.declared.state.ImageState.{ImageState}
-use Rattle.page_image.specs.Images.{is_held, held_byte, byte_of, is_changed, Mirrors, IsDiskOf}
-use Rattle.page_image.specs.Spots.{SameImage, SameImageSpot, Leaves, LeavesTold, IsToldFor, ImageLands}
+use Rattle.page_image.specs.Images.{is_held, byte_of, is_changed, Mirrors, IsDiskOf}
+use Rattle.page_image.specs.Spots.{SameImage, SameImageSpot, LeavesTold, IsToldFor, ImageLands}
 use Rattle.page_image.specs.Allowed.{HoldsImage, IsOldOrNewSector}
-use Rattle.page_image.specs.Puts.{IsImagePut, IsPending}
-use Rattle.page_image.specs.PutFronts.{PutsSome, HasFirst, PutsFirst}
+use Rattle.page_image.specs.Puts.{IsImagePut}
+use Rattle.page_image.specs.PutFronts.{PutsSome, PutsFirst}
 use Rattle.page_image.specs.Laws.{sure_start, SameImage-same, SameImageSpot-same, SameImage-join, SameImageSpot-join}
 use Rattle.page_image.proofs.FrameLemmas.{byte_front, byte_held, byte_unheld}
 use Rattle.page_image.proofs.DiskLemmas.{true-disk_of}

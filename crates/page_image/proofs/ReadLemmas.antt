@@ -1,11 +1,11 @@
 -- Sectors of a page read one behind the other.
-use Rattle.std.proofs.Common.{◌≡◌, ℕ, ◌+◌, ◌-◌, ◌*◌, ◌/◌, ◌<◌, ◌≤◌, List, ◌++◌, length, get_or, take, IsTrue, Option, Some, sym, ◌∙◌, ap, subst, min, arith, ⊎_elim}
+use Rattle.std.proofs.Common.{◌≡◌, ℕ, ◌+◌, ◌-◌, ◌*◌, ◌/◌, ◌<◌, ◌≤◌, List, ◌++◌, length, get_or, take, IsTrue, sym, ◌∙◌, ap, subst, min, arith, ⊎_elim}
 use Rattle.std.proofs.lemmas.List.{places, take_all, take-append-le}
 use Rattle.std.proofs.Math.Nat.{add-mul}
 use Rattle.std.proofs.lemmas.Nat.{div-mul-add}
 use Rattle.std.proofs.lemmas.Bool.{cases_lt}
 use borrow.Rule.Slice.PartMut.{put_mid, mid_of}
-use Rattle.save_disk.specs.Trace.{Told, sector_of, image_now}
+use Rattle.save_disk.specs.Trace.{sector_of, image_now}
 use Rattle.save_disk.specs.State as disks
 use Rattle.save_disk.proofs.SectorBytes.{sector_of-byte}
 use Rattle.save_disk.proofs.Told.{read_sure}

@@ -1,13 +1,13 @@
 -- Frames that are emptied, read and settled.
-use Rattle.std.proofs.Common.{◌≡◌, ◌≢◌, ◌⊎◌, ℕ, ◌+◌, ◌-◌, ◌*◌, ◌/◌, ◌%◌, ◌<◌, ◌≤◌, Bool, true, false, IsTrue, List, length, get_or, set}
+use Rattle.std.proofs.Common.{◌≡◌, ◌≢◌, ℕ, ◌+◌, ◌*◌, ◌/◌, ◌%◌, ◌<◌, ◌≤◌, Bool, true, false, List, length, get_or, set}
 use Rattle.std.proofs.Common.{Option, Some, None, refl, sym, ◌∙◌, ap, subst, arith, inl, inr, ⊎_elim}
-use Rattle.std.proofs.lemmas.List.{get_or_past, get_or-set_same, get_or-set_other}
-use Rattle.std.proofs.lemmas.Bool.{false≢true, cases_lt, cases_eq, cases_Bool, eq-eqb, ne_eqb}
+use Rattle.std.proofs.lemmas.List.{get_or-set_same, get_or-set_other}
+use Rattle.std.proofs.lemmas.Bool.{cases_lt, cases_eq, cases_Bool, ne_eqb}
 use Rattle.save_disk.specs.State as disks
 use Rattle.page_image.specs.declared.state.ImageState.{ImageState}
 use Rattle.page_image.specs.Images.{is_page, frame_of, is_held, held_byte, mark_of, is_changed_at, is_changed}
 use Rattle.page_image.specs.Frames.{SameFrames, IsTouched, IsEmptied, IsSettled, IsFrameRead, IsByteRead, IsRefilled}
-use Rattle.page_image.proofs.FrameLemmas.{held_from, held_in, held_frame, changed_unheld, changed_unmarked, changed_alike}
+use Rattle.page_image.proofs.FrameLemmas.{held_from, held_in, changed_unheld, changed_unmarked, changed_alike}
 use Rattle.page_image.proofs.SectorLemmas.{sector_page}
 
 -- the sector at a number is as much changed, where the images have one grain

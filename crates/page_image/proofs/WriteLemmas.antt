@@ -1,5 +1,5 @@
 -- What a write of a changed sector leaves.
-use Rattle.std.proofs.Common.{◌≡◌, ◌≢◌, ◌⊎◌, ℕ, ◌+◌, ◌-◌, ◌*◌, ◌/◌, ◌%◌, ◌<◌, ◌≤◌, Bool, true, false, ◌&&◌, IsTrue, List, [], ◌∷◌, length}
+use Rattle.std.proofs.Common.{◌≡◌, ◌≢◌, ◌⊎◌, ℕ, ◌+◌, ◌-◌, ◌*◌, ◌/◌, ◌%◌, ◌<◌, ◌≤◌, true, false, ◌&&◌, IsTrue, List, [], ◌∷◌, length}
 use Rattle.std.proofs.Common.{get_or, eqb, Result, Ok, Err, OnErr, Option, Some, None, MatchOption, refl, sym, ◌∙◌, ap, subst, arith, inl, inr, ⊎_elim}
 use Rattle.std.specs.Bool.{⊤}
 use Rattle.std.specs.Option.{option_map}
@@ -8,7 +8,7 @@ use Rattle.std.proofs.lemmas.Bool.{cases_lt, cases_eq, cases_Bool, eq-eqb, ne_eq
 use Rattle.save_bytes.specs.Spots.{Spot, Place, Sector}
 use Rattle.save_disk.specs.Trace.{Event, Write, Told, with_sector, image_now}
 use Rattle.save_disk.specs.State as disks
-use Rattle.save_disk.specs.Tells.{image_told, image_of}
+use Rattle.save_disk.specs.Tells.{image_of}
 use Rattle.save_disk.specs.Writes.{OnlyWrites, GrewBy, one_if, writes_to, WritesTo}
 use Rattle.save_disk.specs.Keeps.{HoldsAt}
 use Rattle.save_disk.proofs.SectorBytes.{with_sector-before, with_sector-behind, with_sector-inside}
@@ -16,7 +16,7 @@ use Rattle.save_disk.proofs.Told.{told_grain, now_size}
 use Rattle.save_disk.proofs.Growth.{grew_happens, grew_failed, came_from, image_written, image_unchanged}
 use Rattle.page_image.specs.declared.state.ImageState.{ImageState}
 use Rattle.page_image.specs.Images.{is_held, held_byte, byte_of, is_changed, IsDiskOf, Mirrors, IsStored}
-use Rattle.page_image.specs.Spots.{SameImage, SureAsBefore, SameImageSpot, Leaves}
+use Rattle.page_image.specs.Spots.{SureAsBefore, SameImageSpot, Leaves}
 use Rattle.page_image.specs.Laws.{SureFrom}
 use Rattle.page_image.specs.Puts.{IsUnmarked}
 use Rattle.page_image.specs.WriteOuts.{IsOwnWrite, WritesEach, WritesSome, IsClean}

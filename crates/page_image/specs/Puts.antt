@@ -1,5 +1,5 @@
 -- What calls leave of what is held.
-use Rattle.std.specs.Prelude.{◌≡◌, ◌≢◌, ◌⊎◌, ℕ, ◌+◌, ◌-◌, ◌*◌, ◌/◌, ◌%◌, ◌<◌, ◌≤◌, true, false, List, length, slice_index}
+use Rattle.std.specs.Prelude.{◌≡◌, ◌≢◌, ℕ, ◌+◌, ◌/◌, ◌<◌, true, false, List, length, slice_index}
 use Rattle.save_disk.specs.State as disks
 use Rattle.save_disk.specs.Writes.{WritesTo}
 use Rattle.page_image.specs.declared.state.ImageState.{ImageState}

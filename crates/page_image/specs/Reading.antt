@@ -1,5 +1,5 @@
 -- How sectors of an image are read.
-use Rattle.std.specs.Prelude.{◌≡◌, ℕ, ◌+◌, ◌*◌, ◌/◌, ◌<◌, List, slice_index}
+use Rattle.std.specs.Prelude.{ℕ, ◌+◌, ◌*◌, ◌<◌, List, slice_index}
 use Rattle.save_disk.specs.State as disks
 use Rattle.page_image.specs.Frames.{IsByteRead}
 

@@ -1,4 +1,3 @@
-use Rattle.std.proofs.Common.{refl}
 use Rattle.page_image.proofs.RefillLemmas.{refilled_read, refilled_settled, settled_held}
 use Rattle.page_image.proofs.fetching.fetch.Goals as goal
 

@@ -1,4 +1,4 @@
-use Rattle.std.proofs.Common.{◌≡◌, ◌<◌, length, refl, sym, ◌∙◌, ap, arith}
+use Rattle.std.proofs.Common.{◌≡◌, length, refl, sym, ◌∙◌, ap, arith}
 use Rattle.save_bytes.specs.Spots.{Frame}
 use Rattle.save_bytes.proofs.SpaceLemmas.{Rose-later}
 use Rattle.save_disk.specs.State as disks
@@ -7,7 +7,7 @@ use Rattle.save_disk.proofs.Telling.{steady_start}
 use Rattle.page_image.specs.declared.state.ImageState.{ImageState}
 use Rattle.page_image.specs.Images.{IsDiskOf}
 use Rattle.page_image.specs.Frames.{IsTouched, IsRefilled}
-use Rattle.page_image.specs.Spots.{SameImage, LeavesTold}
+use Rattle.page_image.specs.Spots.{LeavesTold}
 use Rattle.page_image.proofs.DiskLemmas.{kept_disk}
 use Rattle.page_image.proofs.RefillLemmas.{refilled_touched, touched_held}
 use Rattle.page_image.proofs.LeaveLemmas.{refilled_leaves, tells_same, LeavesTold-join}

@@ -1,10 +1,10 @@
-use Rattle.std.proofs.Common.{◌≡◌, ◌≤◌, ◌<◌, ℕ, List, Option, Some, None, MatchOption, length, get_or, inl, inr, refl, sym, ◌∙◌, subst}
+use Rattle.std.proofs.Common.{◌≡◌, ◌≤◌, ◌<◌, ℕ, List, Option, Some, None, MatchOption, length, get_or, inl, inr, ◌∙◌, subst}
 use Rattle.std.specs.Option.{option_map}
 use Rattle.save_disk.specs.Trace.{Event, Write, Told}
 use Rattle.save_disk.specs.State as disks
 use Rattle.save_disk.proofs.Telling.{steady_join}
 use Rattle.page_image.specs.declared.state.ImageState.{ImageState}
-use Rattle.page_image.specs.Fronts.{IsFront, IsSector0, FailsFront}
+use Rattle.page_image.specs.Fronts.{IsFront, IsSector0}
 use Rattle.page_image.proofs.LeaveLemmas.{quiet_leaves}
 use Rattle.page_image.proofs.FrontLemmas.{leaves_front, leaves_front_failed}
 use Rattle.page_image.proofs.heading.write_front.Goals as goal

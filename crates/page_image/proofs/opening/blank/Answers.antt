@@ -1,4 +1,3 @@
-use Rattle.std.proofs.Common.{refl}
 use Rattle.page_image.proofs.FrameLemmas.{none_held}
 use Rattle.page_image.proofs.opening.blank.Goals as goal
 

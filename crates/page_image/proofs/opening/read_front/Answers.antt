@@ -1,4 +1,4 @@
-use Rattle.std.proofs.Common.{◌≡◌, ◌*◌, ◌+◌, ℕ, get_or, sym, ◌∙◌, subst, arith}
+use Rattle.std.proofs.Common.{◌≡◌, ◌*◌, ◌+◌, ℕ, get_or, sym, subst, arith}
 use Rattle.std.proofs.Math.Nat.{zero-mul}
 use Rattle.page_image.specs.Frames.{IsByteRead}
 use Rattle.page_image.proofs.ReadLemmas.{own_read}

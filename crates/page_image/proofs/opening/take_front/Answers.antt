@@ -1,4 +1,4 @@
-use Rattle.std.proofs.Common.{◌<◌, ◌≡◌, ℕ, List, take, get_or, ◌∙◌, ap, get_or-take}
+use Rattle.std.proofs.Common.{ℕ, List, get_or, ◌∙◌, ap, get_or-take}
 use Rattle.page_image.proofs.opening.take_front.Goals as goal
 
 pub returns : goal.returns

@@ -1,4 +1,4 @@
-use Rattle.std.proofs.Common.{◌≡◌, ◌≤◌, ◌+◌, ℕ, length, take, sym, subst, arith}
+use Rattle.std.proofs.Common.{◌≤◌, ℕ, length, take, subst, arith}
 use Rattle.std.proofs.lemmas.List.{length-take-le}
 use Rattle.save_bytes.specs.Spots.{Frame}
 use Rattle.page_image.specs.PutFronts.{PutsFirst}

@@ -1,6 +1,5 @@
 use Rattle.std.proofs.Common.{rules}
 use Rattle.save_disk.specs.MemDesks.{state_of}
-use Rattle.page_image.specs.Spots.{SameImage}
 use Rattle.page_image.proofs.DiskLemmas.{kept_disk}
 use Rattle.page_image.proofs.tests.byte_in.Goals as goal
 

@@ -1,4 +1,4 @@
-use Rattle.std.proofs.Common.{sym, ◌∙◌}
+use Rattle.std.proofs.Common.{sym}
 use Rattle.save_disk.proofs.Growth.{grew_happens}
 use Rattle.save_disk.specs.Trace.{Write}
 use Rattle.page_image.proofs.WriteLemmas.{on_err, SameBut-unmarked, leaves_written, leaves_failed, wrote_this, wrote_this_or_none}

@@ -1,10 +1,9 @@
-use Rattle.std.proofs.Common.{◌≡◌, ◌≢◌, ◌*◌, ◌≤◌, ◌<◌, ℕ, Bool, true, false, ◌&&◌, leb, ltb, List, refl, sym, ◌∙◌, ap, arith, ⊎_elim}
-use Rattle.std.proofs.lemmas.Bool.{cases_lt, cases_Bool, lt-ltb, le-ltb, le-leb}
+use Rattle.std.proofs.Common.{◌≡◌, ◌*◌, ◌≤◌, ◌<◌, ℕ, true, false, ◌∙◌, ap, arith, ⊎_elim}
+use Rattle.std.proofs.lemmas.Bool.{cases_lt}
 use Rattle.std.proofs.lemmas.Result.{IfOk-weaker, IfErr-weaker}
 use Rattle.save_bytes.specs.Spots.{Frame}
-use Rattle.save_disk.specs.Trace.{Event}
 use Rattle.save_disk.specs.State as disks
-use Rattle.save_disk.specs.Writes.{GrewBy, one_if, writes_to}
+use Rattle.save_disk.specs.Writes.{GrewBy}
 use Rattle.page_image.specs.declared.state.ImageState.{ImageState}
 use Rattle.page_image.specs.Images.{is_changed, is_changed_at}
 use Rattle.page_image.specs.WriteOuts.{WritesEach, WritesSome}

@@ -1,4 +1,4 @@
-use Rattle.std.proofs.Common.{ℕ, ◌+◌, ◌<◌, List, get_or, ◌∙◌, sym, ap, arith, zero-add}
+use Rattle.std.proofs.Common.{ℕ, ◌+◌, List, get_or, ◌∙◌, sym, ap, arith, zero-add}
 use Rattle.save_bytes.specs.Cells.{Byte}
 use Rattle.page_image.proofs.FrameLemmas.{byte_front}
 use Rattle.page_image.proofs.image.Image.header.Goals as goal

@@ -1,4 +1,4 @@
-use Rattle.std.proofs.Common.{ℕ, ◌+◌, ◌<◌, List, get_or, ◌∙◌, sym, ap, arith, zero-add}
+use Rattle.std.proofs.Common.{ℕ, ◌+◌, List, get_or, ◌∙◌, ap, arith, zero-add}
 use Rattle.std.proofs.lemmas.Result.{on_ok_weaker}
 use Rattle.save_bytes.specs.Cells.{Byte}
 use Rattle.page_image.proofs.DiskLemmas.{disk_of-true}

@@ -1,4 +1,4 @@
-use Rattle.std.proofs.Common.{◌≡◌, ℕ, length, refl, sym, ◌∙◌, ap, subst}
+use Rattle.std.proofs.Common.{ℕ, ◌∙◌, subst}
 use Rattle.page_image.specs.Images.{DiffersWithin}
 use Rattle.page_image.proofs.DiskLemmas.{disk_of-true, kept_disk}
 use Rattle.page_image.proofs.FewLemmas.{few_pages}

@@ -1,4 +1,4 @@
-use Rattle.std.proofs.Common.{ℕ, List, get_or, ◌∙◌, sym, ap, arith}
+use Rattle.std.proofs.Common.{ℕ, List, get_or, ◌∙◌, ap}
 use Rattle.page_image.proofs.FrameLemmas.{sector_of_later, sector_of_first}
 use Rattle.page_image.proofs.state.ImageState.copy_sector.Goals as goal
 

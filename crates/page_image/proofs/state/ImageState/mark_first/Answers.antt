@@ -1,7 +1,7 @@
 use Rattle.std.proofs.Common.{◌≡◌, ◌*◌, ◌/◌, ◌+◌, ◌%◌, ℕ, true, refl, sym, ◌∙◌, ap, arith}
 use Rattle.std.proofs.Math.Nat.{zero-mul}
 use Rattle.page_image.specs.Images.{frame_of, is_held}
-use Rattle.page_image.proofs.StateLemmas.{marked, marked_unheld}
+use Rattle.page_image.proofs.StateLemmas.{marked}
 use Rattle.page_image.proofs.state.ImageState.mark_first.Goals as goal
 
 pub returns-then-is_held : goal.returns-then-is_held

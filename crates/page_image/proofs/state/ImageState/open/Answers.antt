@@ -1,5 +1,4 @@
-use Rattle.std.proofs.Common.{◌≡◌, ◌<◌, ◌/◌, ℕ, List, IsTrue, get_or, sym, ◌∙◌, ap, subst}
-use Rattle.page_image.specs.Frames.{IsByteRead}
+use Rattle.std.proofs.Common.{◌/◌, ℕ, List, IsTrue, get_or, sym, ◌∙◌, ap, subst}
 use Rattle.page_image.proofs.DiskLemmas.{opened}
 use Rattle.page_image.proofs.state.ImageState.open.Goals as goal
 

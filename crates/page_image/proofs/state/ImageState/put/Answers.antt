@@ -1,4 +1,4 @@
-use Rattle.std.proofs.Common.{refl, arith}
+use Rattle.std.proofs.Common.{refl}
 use Rattle.page_image.proofs.FrameLemmas.{held_frame}
 use Rattle.page_image.proofs.StateLemmas.{marks_fit, image_put}
 use Rattle.page_image.proofs.state.ImageState.put.Goals as goal

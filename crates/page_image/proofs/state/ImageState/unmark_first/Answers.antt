@@ -1,4 +1,4 @@
-use Rattle.std.proofs.Common.{◌≡◌, ◌*◌, ◌/◌, ℕ, sym, ◌∙◌, ap, arith}
+use Rattle.std.proofs.Common.{◌≡◌, ◌*◌, ◌/◌, sym, ◌∙◌, ap, arith}
 use Rattle.std.proofs.Math.Nat.{zero-mul}
 use Rattle.page_image.specs.Images.{is_held}
 use Rattle.page_image.proofs.StateLemmas.{unmarked_unheld}
