@@ -1,5 +1,6 @@
 -- The list of freed entries, as far as it was followed.
-use Rattle.std.proofs.Common.{◌≡◌, ◌≢◌, ℕ, zero, suc, ◌+◌, ◌-◌, ◌<◌, ◌≤◌, List, [], ◌∷◌, ◌++◌, length, get_or, nat_eq, inl, inr, refl, sym, ◌∙◌, ap, subst, arith, add-one}
+use Rattle.std.proofs.Common.{◌≡◌, ◌≢◌, ℕ, zero, suc, ◌+◌, ◌-◌, ◌<◌, ◌≤◌, List, [], ◌∷◌}
+use Rattle.std.proofs.Common.{◌++◌, length, get_or, nat_eq, inl, inr, refl, sym, ◌∙◌, ap, subst, arith, add-one}
 use Rattle.std.proofs.Common.{length-append}
 use Rattle.std.specs.List.{All, Contains, IsDistinct}
 use Rattle.std.proofs.lemmas.Bool.{cases_lt}

@@ -77,7 +77,8 @@ module _ (d e f : disks.State) (i j : ImageState) (first s : ℕ) (upto : first 
       (λ (apart : s ≢ m). rw (apart-eqb s m apart) refl)
       (cases_eq s m)
 
-  each_more : (xs ys : List Event) → WritesEach d i (is_from_to first s) xs → WritesEach e j (λ m. eqb s m) ys → WritesEach d i (is_from_to first (s + 1)) (xs ++ ys)
+  each_more : (xs ys : List Event) → WritesEach d i (is_from_to first s) xs → WritesEach e j (λ m. eqb s m) ys
+      → WritesEach d i (is_from_to first (s + 1)) (xs ++ ys)
   each_more xs ys before_ step_ = record {
     own = OnlyWrites-append (IsOwnWrite d i) xs ys before_.own (own_before ys step_.own);
     count = λ m.

@@ -1,6 +1,8 @@
 -- What it says that a disk is that of an image.
-use Rattle.std.proofs.Common.{◌≡◌, ℕ, ◌*◌, ◌/◌, ◌<◌, ◌≤◌, true, false, not, ◌||◌, eqb, ltb, IsTrue, get_or, Option, Some, None, refl, sym, ◌∙◌, ap, subst, arith, ⊎_elim}
-use Rattle.std.proofs.lemmas.Bool.{and_parts, and_from, or_cases, or_left, or_right, not_from_true, not_from_false, cases_Bool, eqb-true, eq-eqb, lt-ltb, le-ltb, cases_lt}
+use Rattle.std.proofs.Common.{◌≡◌, ℕ, ◌*◌, ◌/◌, ◌<◌, ◌≤◌, true, false, not, ◌||◌, eqb, ltb}
+use Rattle.std.proofs.Common.{IsTrue, get_or, Option, Some, None, refl, sym, ◌∙◌, ap, subst, arith, ⊎_elim}
+use Rattle.std.proofs.lemmas.Bool.{and_parts, and_from, or_cases, or_left, or_right, not_from_true}
+use Rattle.std.proofs.lemmas.Bool.{not_from_false, cases_Bool, eqb-true, eq-eqb, lt-ltb, le-ltb, cases_lt}
 use Rattle.save_disk.specs.Trace.{Told, image_now}
 use Rattle.save_disk.specs.State as disks
 use Rattle.save_disk.specs.Tells.{tells, image_told, image_of}
@@ -31,7 +33,8 @@ mirrored-by : (d : disks.State) (i : ImageState) (told : Told) (x : ℕ)
 mirrored-by d i told x same =
     ⊎_elim
     (λ (front : x < 512).
-    or_left (ltb x 512) (not (told.sure (x / i.grain)) || (is_changed i (x / i.grain) || eqb (get_or (image_now told) x 0) (byte_of d i x))) (lt-ltb x 512 front))
+    or_left (ltb x 512) (not (told.sure (x / i.grain)) ||
+    (is_changed i (x / i.grain) || eqb (get_or (image_now told) x 0) (byte_of d i x))) (lt-ltb x 512 front))
     (λ (behind : 512 ≤ x).
     or_right (ltb x 512) (not (told.sure (x / i.grain)) || (is_changed i (x / i.grain) || eqb (get_or (image_now told) x 0) (byte_of d i x)))
     (⊎_elim

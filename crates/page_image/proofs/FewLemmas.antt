@@ -24,8 +24,11 @@ few_pages d i sound disk_of told = (
   λ x behind inside differs.
       ⊎_elim
       (λ (held : is_held i (x / 4096) ≡ true).
-      let below = held_frame i (x / 4096) held in
-      (frame_of i (x / 4096), omega (arith, length-map i.pages.items number), number-at i.pages.items (frame_of i (x / 4096)) (x / 4096) below (held_in i (x / 4096) held)))
+      let below = held_frame i (x / 4096) held in (
+        frame_of i (x / 4096),
+        omega (arith, length-map i.pages.items number),
+        number-at i.pages.items (frame_of i (x / 4096)) (x / 4096) below (held_in i (x / 4096) held),
+      ))
       (λ (none : is_held i (x / 4096) ≡ false). absurd (differs (clean_told d i x sound disk_of told behind inside (clean_unheld i x none))))
       (cases_Bool (is_held i (x / 4096))),
 )

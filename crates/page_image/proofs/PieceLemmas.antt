@@ -76,7 +76,8 @@ asked d is other = tt
 -- and so it reads
 module _ {D : Type 0} (states : D → disks.State) (s t : Image D) (same : SameImageView s t)
     (leaves : LeavesTold (states s.disk.now) s.image.now (states t.disk.now) t.image.now) where
-  pub reads_done : tells (states t.disk.now) ≡ tells (states s.disk.now) → Reads (shown states) (ImageKeeps states) (λ view. ImageLands view.image.now.grain) s t None
+  pub reads_done : tells (states t.disk.now) ≡ tells (states s.disk.now)
+      → Reads (shown states) (ImageKeeps states) (λ view. ImageLands view.image.now.grain) s t None
   reads_done told = record {
     stays = brought_stays (states s.disk.now) (states t.disk.now) s.image.now t.image.now leaves told;
     frame = (same, leaves Frame tt);

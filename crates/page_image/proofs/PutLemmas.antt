@@ -165,7 +165,8 @@ other_image d e i j sector written len grain same holds x inside from below =
     ap (λ (n : ℕ). get_or written (x - n) 0) (sym start) ∙ holds x (omega arith) (omega arith) (omega arith) ∙ same x inside page
 
 -- behind the first bytes of a put
-module _ (at : ℕ) (bytes : List ℕ) (done : ℕ) (d e f : disks.State) (i j k : ImageState) (first : PutsFirst at bytes done d i e j) (hold : SameImage e j f k) where
+module _ (at : ℕ) (bytes : List ℕ) (done : ℕ) (d e f : disks.State) (i j k : ImageState)
+    (first : PutsFirst at bytes done d i e j) (hold : SameImage e j f k) where
   same : SameImage d i e j
   same = first.some.hold
 
@@ -202,7 +203,8 @@ module _ (at : ℕ) (bytes : List ℕ) (done : ℕ) (d e f : disks.State) (i j k
     }
 
   -- the next ones are put, which lie in one page; what was put before lies in others
-  module _ (n : ℕ) (next : PutsFirst (at + done) (take n (drop done bytes)) n e j f k) (fits : done + n ≤ length bytes) (in_page : (at + done) % 4096 + n ≤ 4096)
+  module _ (n : ℕ) (next : PutsFirst (at + done) (take n (drop done bytes)) n e j f k) (fits : done + n ≤ length bytes)
+      (in_page : (at + done) % 4096 + n ≤ 4096)
       (fresh : (done ≡ 0) ⊎ ((at + done) % 4096 ≡ 0)) where
     abbrev part : List ℕ
     part = take n (drop done bytes)

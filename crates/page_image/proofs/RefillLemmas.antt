@@ -40,7 +40,9 @@ module _ (i j : ImageState) (slots : j.slots.items ≡ i.slots.items) where
 pub refilled_touched : (d : disks.State) (i j : ImageState) → IsTouched i j → IsRefilled d i j
 refilled_touched d i j h = record {
   same = h.same;
-  changed = λ s. as_sector i j s h.same.grain (changed_alike i j (s * i.grain) h.same.len (held (s * i.grain / 4096)) (λ is. same_mark i j h.slots (s * i.grain) h.changed));
+  changed = λ s. as_sector i j s h.same.grain
+      (changed_alike i j (s * i.grain) h.same.len (held (s * i.grain / 4096))
+      (λ is. same_mark i j h.slots (s * i.grain) h.changed));
   bytes = λ x below is. inl (sym (held (x / 4096)) ∙ is, same_bytes i j h.slots x h.bytes);
 } where
   held : (page : ℕ) → is_held j page ≡ is_held i page
@@ -114,7 +116,9 @@ module _ (d : disks.State) (frame : ℕ) (i j : ImageState) (h : IsFrameRead fra
   pub refilled_read : IsRefilled d i j
   refilled_read = record {
     same = h.same;
-    changed = λ s. as_sector i j s h.same.grain (changed_alike i j (s * i.grain) h.same.len (held (s * i.grain / 4096)) (λ is. same_mark i j h.slots (s * i.grain) h.changed));
+    changed = λ s. as_sector i j s h.same.grain
+        (changed_alike i j (s * i.grain) h.same.len (held (s * i.grain / 4096))
+        (λ is. same_mark i j h.slots (s * i.grain) h.changed));
     bytes = λ x below is.
         (let was : is_held i (x / 4096) ≡ true = sym (held (x / 4096)) ∙ is in
         inl (was, same_byte i j h.slots x (read_apart (frame_of i (x / 4096)) (x % 4096) (omega arith) (elsewhere (x / 4096) was))));
@@ -169,7 +173,8 @@ module _ (d : disks.State) (frame : ℕ) (i j : ImageState) (h : IsFrameRead fra
 
     mark_apart : (f n : ℕ) → n < 8 → f ≢ frame → get_or k.changed.items (f * 8 + n) false ≡ get_or i.changed.items (f * 8 + n) false
     mark_apart f n small away =
-        ⊎_elim (λ (low : f < frame). settled.before (f * 8 + n) (omega arith)) (λ (from : frame ≤ f). settled.behind (f * 8 + n) (omega arith)) (cases_lt f frame)
+        ⊎_elim (λ (low : f < frame). settled.before (f * 8 + n) (omega arith))
+        (λ (from : frame ≤ f). settled.behind (f * 8 + n) (omega arith)) (cases_lt f frame)
         ∙ ap (λ (l : List Bool). get_or l (f * 8 + n) false) h.changed
 
     other_mark : (x : ℕ) → x / 4096 ≢ page → is_held i (x / 4096) ≡ true → mark_of k x ≡ mark_of i x
@@ -196,7 +201,8 @@ module _ (d : disks.State) (frame : ℕ) (i j : ImageState) (h : IsFrameRead fra
         let place : page * 4096 + x % 4096 ≡ x = omega arith in
         let got : IsByteRead d i.grain (page * 4096 + x % 4096) (get_or j.bytes.items (frame * 4096 + x % 4096) 0) =
         read (x % 4096) (omega arith) (omega arith) in
-        subst (λ (b : ℕ). IsByteRead d i.grain x b) (sym (page_byte x here)) (subst (λ (y : ℕ). IsByteRead d i.grain y (get_or j.bytes.items (frame * 4096 + x % 4096) 0)) place got)
+        subst (λ (b : ℕ). IsByteRead d i.grain x b) (sym (page_byte x here))
+        (subst (λ (y : ℕ). IsByteRead d i.grain y (get_or j.bytes.items (frame * 4096 + x % 4096) 0)) place got)
 
     same_settled : SameFrames i k
     same_settled = record {

@@ -21,7 +21,8 @@ one_page i p q first second same =
     some_same p q (sym (held_in i p first) ∙ ap (λ (f : ℕ). get_or i.pages.items f None) same ∙ held_in i q second)
 
 -- two images in which the same pages lie in the same frames
-module _ (i j : ImageState) (len : j.len ≡ i.len) (grain : j.grain ≡ i.grain) (slots : j.slots.items ≡ i.slots.items) (pages : j.pages.items ≡ i.pages.items) where
+module _ (i j : ImageState) (len : j.len ≡ i.len) (grain : j.grain ≡ i.grain) (slots : j.slots.items ≡ i.slots.items)
+    (pages : j.pages.items ≡ i.pages.items) where
   frame_alike : (page : ℕ) → frame_of j page ≡ frame_of i page
   frame_alike page = ap (λ (l : List ℕ). get_or l page 0) slots
 

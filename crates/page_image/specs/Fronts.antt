@@ -9,7 +9,8 @@ use Rattle.page_image.specs.Spots.{Leaves, ImageLands, IsToldFor}
 
 -- behind its first 512 bytes this is sector 0 of the image, where the disk tells it or it is held
 abbrev pub IsSector0 : disks.State → ImageState → List ℕ → Type 0
-IsSector0 disk image bytes = IsTrue (tells disk) ⊎ (is_held image 0 ≡ true) → (k : ℕ) → 512 ≤ k → k < image.grain → k < image.len → slice_index bytes k ≡ byte_of disk image k
+IsSector0 disk image bytes = IsTrue (tells disk) ⊎ (is_held image 0 ≡ true) → (k : ℕ) → 512 ≤ k → k < image.grain
+    → k < image.len → slice_index bytes k ≡ byte_of disk image k
 
 -- sector 0 with other first 512 bytes, and the image's bytes behind them
 pub record IsFront (disk : disks.State) (image : ImageState) (front written : List ℕ) : Type 0 where

@@ -113,4 +113,5 @@ pub record IsOpened (disk : disks.State) (image : ImageState) : Type 0 where
 -- the bytes of an image behind the first 512 that are not those of the disk lie in so many pages
 abbrev pub DiffersWithin : ℕ → disks.State → ImageState → Type 0
 DiffersWithin most disk image = (pages : List ℕ) × (length pages ≤ most)
-    × ((x : ℕ) → 512 ≤ x → x < image.len → byte_of disk image x ≢ slice_index (image_told disk) x → (i : ℕ) × (i < length pages) × (slice_index pages i ≡ x / 4096))
+    × ((x : ℕ) → 512 ≤ x → x < image.len → byte_of disk image x ≢ slice_index (image_told disk) x
+    → (i : ℕ) × (i < length pages) × (slice_index pages i ≡ x / 4096))

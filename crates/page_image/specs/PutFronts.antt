@@ -18,12 +18,14 @@ pub record PutsSome (at n : ℕ) (disk : disks.State) (image : ImageState) (disk
   pub old_or_new : IsTrue (tells disk) → WritesOnly (IsOldOrNewSector disk image disk_new image_new) disk disk_new
 
 -- from the one image to the other the first bytes of these were put at a place, and no other byte is another
-pub record HasFirst (at : ℕ) (bytes : List ℕ) (done : ℕ) (disk : disks.State) (image : ImageState) (disk_new : disks.State) (image_new : ImageState) : Type 0 where
+pub record HasFirst (at : ℕ) (bytes : List ℕ) (done : ℕ) (disk : disks.State) (image : ImageState)
+    (disk_new : disks.State) (image_new : ImageState) : Type 0 where
   pub written : (k : ℕ) → k < done → byte_of disk_new image_new (at + k) ≡ slice_index bytes k
   pub others : (x : ℕ) → x < image.len → ((k : ℕ) → k < done → x ≢ at + k) → byte_of disk_new image_new x ≡ byte_of disk image x
 
 -- the first bytes of these were put
-pub record PutsFirst (at : ℕ) (bytes : List ℕ) (done : ℕ) (disk : disks.State) (image : ImageState) (disk_new : disks.State) (image_new : ImageState) : Type 0 where
+pub record PutsFirst (at : ℕ) (bytes : List ℕ) (done : ℕ) (disk : disks.State) (image : ImageState)
+    (disk_new : disks.State) (image_new : ImageState) : Type 0 where
   pub some : PutsSome at (length bytes) disk image disk_new image_new
   pub put : IsTrue (tells disk) → HasFirst at bytes done disk image disk_new image_new
   pub pending : IsPending at done disk disk_new image_new

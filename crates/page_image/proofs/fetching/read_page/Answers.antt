@@ -9,7 +9,8 @@ pub overflow_sub-count : goal.overflow_sub-count
 overflow_sub-count g c =
     let i = c.args.image.now in
     let inside : c.args.page < (i.len + 4095) / 4096 = (let layout = i.layout in omega (arith, c.requires.page)) in
-    let first = first_inside i.grain i.layout.known i.len c.args.page (c.args.page * (4096 / i.grain)) 0 c.sectors.result inside refl c.sectors.ensures.covers in
+    let first = first_inside i.grain i.layout.known i.len c.args.page (c.args.page * (4096 / i.grain)) 0 c.sectors.result
+    inside refl c.sectors.ensures.covers in
     omega (arith, c.min.ensures)
 
 pub returns-clause-read : goal.returns-clause-read

@@ -89,5 +89,6 @@ pub returns-clause-done : goal.returns-clause-done
 returns-clause-done g c =
     let before = c.loop-done.invariant in
     let all : c.loop-done.done ≡ length c.args.bytes.now = omega (arith, before.few, c.loop-done-test.false) in
-    subst (λ (n : ℕ). PutsFirst c.args.at c.args.bytes.now n (g.D.Disk.state c.args.disk.now) c.args.image.now (g.D.Disk.state c.loop-done.disk) c.loop-done.image)
+    subst (λ (n : ℕ). PutsFirst c.args.at c.args.bytes.now n (g.D.Disk.state c.args.disk.now) c.args.image.now
+    (g.D.Disk.state c.loop-done.disk) c.loop-done.image)
     all before.puts

@@ -10,7 +10,8 @@ use Rattle.save_top.proofs.peek.show.Goals as goal
 pub returns-in_err-place-clause-miss : goal.returns-in_err-place-clause-miss
 returns-in_err-place-clause-miss g c = λ sign image told holds.
     let p = err_from_is_err_and c.from_residual.result c.from_residual.ensures.1 in
-    rw (p.1, p.2) (miss_by sign image (g.D.Disk.state c.args.disk.now) c.args.container.now holds c.args.part c.args.block c.in_err-place.field-0.0 c.in_err-place.ensures.miss)
+    rw (p.1, p.2) (miss_by sign image (g.D.Disk.state c.args.disk.now) c.args.container.now holds c.args.part c.args.block
+    c.in_err-place.field-0.0 c.in_err-place.ensures.miss)
 
 pub fill-requires-clause-inside : goal.fill-requires-clause-inside
 fill-requires-clause-inside g c =

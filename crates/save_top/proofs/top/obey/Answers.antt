@@ -17,7 +17,8 @@ returns-in-Info-clause-known g c = end_done c.info.result c.info.ensures.known
 
 pub returns-in-Info-clause-says : goal.returns-in-Info-clause-says
 returns-in-Info-clause-says g c = λ told is fresh.
-    let reply = opened_reply _ told.start (g.D.Disk.state c.open.new.desk) c.in-Ok.container c.args.order Info (c.in-Ok.ensures.opened told is fresh) c.in-Info.is in
+    let reply = opened_reply _ told.start (g.D.Disk.state c.open.new.desk) c.in-Ok.container c.args.order Info
+    (c.in-Ok.ensures.opened told is fresh) c.in-Info.is in
     let text = ap (λ (header : Header). done (info_text header)) c.header.ensures in
     says_as _ (done (info_text c.header.result.now)) _ _ _ (reply ∙ sym text)
     (says_before _ _ _ _ _ _ c.in-Ok.ensures.quiet c.info.ensures.says)
@@ -28,7 +29,8 @@ returns-clause-says g c = λ told is fresh.
     let holds = c.in-Ok.ensures.opened told is fresh in
     let old = g.D.Disk.state c.args.desk.now in
     let sure = tells_same old (g.D.Disk.state c.open.new.desk) quiet c.in-Ok.ensures.steady.size (fresh_tells old told is fresh) in
-    let reply = opened_reply _ told.start (g.D.Disk.state c.open.new.desk) c.in-Ok.container c.args.order (Peek c.in-Peek.part c.in-Peek.block) holds c.in-Peek.is in
+    let reply = opened_reply _ told.start (g.D.Disk.state c.open.new.desk) c.in-Ok.container c.args.order
+    (Peek c.in-Peek.part c.in-Peek.block) holds c.in-Peek.is in
     says_as _ _ _ _ _ reply (says_before _ _ _ _ _ _ quiet (c.peek.ensures.says _ told.start sure holds))
 
 pub returns-in-Err-clause-silent : goal.returns-in-Err-clause-silent
