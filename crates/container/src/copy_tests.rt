@@ -1,14 +1,13 @@
 //! Changes of a part's double-copy tree, over the image on a disk: which sectors are written, and what a fault leaves.
 
-ghost use Rattle.std.specs.Prelude.{◌≡◌, ◌+◌, ◌≤◌, length, IfOk};
+ghost use Rattle.std.specs.Prelude.{◌≡◌, ◌+◌, ◌≤◌, length, IsTrue};
 ghost use Rattle.difi.specs.Contents.{view_size};
-ghost use Rattle.save_bytes.specs.Spots.{Hold};
 ghost use Rattle.dpfs_tree.specs.View.{CanViewContents};
-ghost use Rattle.page_image.specs.Images.{IsDiskOf};
+ghost use Rattle.page_image.specs.Held.{shown};
 
 use difi::Difi;
 use dpfs_tree::{DpfsState, DpfsView};
-use page_image::ImageState;
+use page_image::{Image, ImageState};
 use save_bytes::{Bad, Space};
 use save_disk::{Call, Disk, Failed, MemDesk};
 use save_samples::{Sample, sample};
@@ -39,7 +38,7 @@ fn put_and_seal<S: Space>(
 ) -> Result<u8, Bad>
     requires view { CanViewContents (S.state base.old).shape PART_AT difi.now state.old }
     requires inside { at + length new.now ≤ view_size difi.now }
-    ensures { S.keeps Hold base.old base.new }
+    ensures { (S.state base.new).shape ≡ (S.state base.old).shape }
 {
     let mut view = DpfsView::new(base, PART_AT, difi, state);
     match view.put(at, new) {
@@ -49,10 +48,9 @@ fn put_and_seal<S: Space>(
 }
 
 /// Writes out what was put, and keeps it.
-fn keep<D: Disk>(disk: &mut D, image: &mut ImageState) -> Result<(), Failed>
-    requires { IsDiskOf (D.state disk.old) image.old }
+fn keep<D: Disk>(base: &mut Image<'_, D>) -> Result<(), Failed>
+    requires { IsTrue (shown D.state base.old).shape.sound }
 {
-    let mut base = image.view(disk);
     match base.flush() {
         Ok(()) => base.sync(),
         Err(failed) => Err(failed),
@@ -78,8 +76,9 @@ fn change(
         return Ok(Err(Bad::Disk));
     };
     let mut state = DpfsState::new(alloc, &difi)?;
-    let selector = put_and_seal(&mut image.view(desk), &difi, &mut state, at, new);
-    match keep(desk, &mut image) {
+    let mut base = image.view(desk);
+    let selector = put_and_seal(&mut base, &difi, &mut state, at, new);
+    match keep(&mut base) {
         Ok(()) => Ok(selector),
         Err(Failed) => Ok(Err(Bad::Disk)),
     }
