@@ -33,20 +33,6 @@ module _ {A : Type 0} (states : A → State) (keeps : Spot → A → A → Type 
     reach = h.reach;
   }
 
-  -- and the other way round
-  pub Reads-refused : (s t : A) (part level block : ℕ) → Reads states keeps lands s t None
-      → Reads states keeps lands s t (Some (Damaged part level block))
-  Reads-refused s t part level block h = record {
-    stays = record {
-      space = record { shape = h.stays.space.shape; faults = h.stays.space.faults; cause = tt; told = h.stays.space.told; twins = h.stays.space.twins };
-      cells = h.stays.cells;
-    };
-    frame = h.frame;
-    sectors = h.sectors;
-    spots = h.spots;
-    reach = h.reach;
-  }
-
   module _ (join : (spot : Spot) (s t u : A) → keeps spot s t → keeps spot t u → keeps spot s u) where
     reach-join : (s t u : A) (refusal : Option Bad) → (states t).shape ≡ (states s).shape
         → LandsAsBefore (states s).shape.size (lands s) (lands t)
