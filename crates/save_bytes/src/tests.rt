@@ -226,6 +226,27 @@ fn pieces_are_no_longer_than_asked_and_stop_at_the_end(rt: HostRuntime) -> Resul
 }
 
 #[test]
+fn a_memory_counts_the_bytes_that_it_lent(rt: HostRuntime) -> Result<(), Fail> {
+    let cases: [(u64, usize, u64); 4] = [(0, 1, 1), (2, 3, 3), (4, 9, 3), (6, usize::MAX, 1)];
+    for (at, most, want) in cases {
+        let mut bytes = [10, 11, 12, 13, 14, 15, 16];
+        let mut space = MemSpace::new(&mut bytes, 4);
+        assert!(rt; at < 7 && 1 <= most);
+        assert_eq!(rt; space.lent(), 0);
+        let _ = space.piece(at, most)?;
+        assert_eq!(rt; space.lent(), want, "at {at}");
+        space.ready(at, 1)?;
+        space.put(at, &[1])?;
+        space.clear_ready(at)?;
+        space.clear(at)?;
+        assert_eq!(rt; space.lent(), want, "at {at}");
+        let _ = space.piece(0, 2)?;
+        assert_eq!(rt; space.lent(), want + 2, "at {at}");
+    }
+    Ok(())
+}
+
+#[test]
 fn a_put_shows_at_its_place_alone(rt: HostRuntime) -> Result<(), Fail> {
     let cases: [(u64, &[u8], [u8; 6]); 5] = [
         (0, &[7], [7, 1, 1, 1, 1, 1]),
