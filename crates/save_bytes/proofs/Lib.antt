@@ -1,3 +1,6 @@
+pub mod PathLemmas
+pub mod PathFaultLemmas
+pub mod PathCodeLemmas
 pub mod FieldLemmas
 pub mod ExtentLemmas
 pub mod MemoryLemmas

@@ -1,4 +1,7 @@
 pub mod Fields
+pub mod Paths
+pub mod PathFaults
+pub mod PathReading
 pub mod Cells
 pub mod CellNumbers
 pub mod State

@@ -3,7 +3,7 @@
 ghost use Rattle.std.specs.Prelude.{◌≡◌, ◌↔◌, replicate, IsTrue};
 
 /// Sixteen bytes. A shorter name is filled with zero bytes at its end.
-#[derive(Clone, Copy, Debug, PartialEq, Eq)]
+#[derive(Clone, Copy, Debug, Default, PartialEq, Eq)]
 pub struct Name(pub [u8; 16]);
 
 impl Name {
