@@ -8,14 +8,18 @@ mod descriptors;
 mod fields;
 mod filesystem;
 mod headers;
+mod holes;
 mod images;
 mod partition;
 mod which;
 
 pub use descriptors::{EXTERNAL_DIFI, LONE_DIFI, LONG_DIFI};
 pub use fields::put_digest;
+pub use holes::{Hole, HoleSpace};
 pub use images::sample;
 pub use which::Sample;
 
+#[cfg(test)]
+mod hole_tests;
 #[cfg(test)]
 mod tests;
