@@ -12,16 +12,16 @@ use Rattle.container_header.specs.Sound.{IsDescriptorPlace, IsPartition, IsSound
 use Rattle.container_header.specs.Raw.{other_table, flipped}
 
 -- none of the tests is met
-abbrev NoneHolds : List Bool → Type 0
+abbrev pub NoneHolds : List Bool → Type 0
 NoneHolds [] = Unit {0}
 NoneHolds (b ∷ bs) = (b ≡ false) × NoneHolds bs
 
-none_from : (n : ℕ) (bs : List Bool) → first_failing n bs ≡ None → NoneHolds bs
+pub none_from : (n : ℕ) (bs : List Bool) → first_failing n bs ≡ None → NoneHolds bs
 none_from n [] e = tt
 none_from n (true ∷ bs) e = cc
 none_from n (false ∷ bs) e = (refl, none_from (n + 1) bs e)
 
-none_to : (n : ℕ) (bs : List Bool) → NoneHolds bs → first_failing n bs ≡ None
+pub none_to : (n : ℕ) (bs : List Bool) → NoneHolds bs → first_failing n bs ≡ None
 none_to n [] h = refl
 none_to n (b ∷ bs) h = rw h.0 (none_to (n + 1) bs h.1)
 

@@ -1,0 +1,7 @@
+pub mod LayoutLemmas
+pub mod ListLaws
+pub mod OneTree
+pub mod SoftLemmas
+pub mod PlaceLemmas
+pub mod Kept
+pub mod FailLaws

@@ -1,0 +1,99 @@
+-- The conditions on where a filesystem lies, in the order in which a fault is named.
+use Rattle.std.specs.Prelude.{ℕ, ◌+◌, ◌*◌, ◌^◌, Bool, not, ◌||◌, ◌==◌, nat_lt, nat_le}
+use Rattle.std.specs.Prelude.{List, [], ◌∷◌, ◌++◌, Option, if◌then◌else◌}
+use Rattle.std.specs.List.{list_any, range_with_len}
+use Rattle.save_bytes.specs.declared.extent.Extent.{Extent}
+use Rattle.save_bytes.specs.Extents.{some_overlap}
+use Rattle.container_header.specs.Conditions.{first_failing}
+use Rattle.entry_tables.specs.declared.table.EntryKind.{EntryKind}
+use Rattle.entry_tables.specs.declared.table.EntryKind.TheVariants.{Dir, File}
+use Rattle.entry_tables.specs.Kinds.{entry_size, least_freed}
+use Rattle.entry_tables.specs.Tables.{Table, Tables}
+use Rattle.tree_rules.specs.declared.kind.TreeKind.{TreeKind}
+use Rattle.tree_rules.specs.Information.{Information, header_len, information_len, has_second, front_len}
+use Rattle.tree_rules.specs.Places.{TableAt, Plainly, InChain, Places, places_of}
+
+-- a test of either kind
+abbrev pub of_either : (EntryKind → Bool) → Bool
+of_either test = test Dir || test File
+
+-- n is not one of the numbers from low to high
+abbrev pub is_outside : ℕ → ℕ → ℕ → Bool
+is_outside low high n = nat_lt n low || nat_lt high n
+
+-- the size of a data block: a power of two from 512 to 65,536
+abbrev pub is_block_size : ℕ → Bool
+is_block_size n = list_any (λ log. n == 2 ^ log) (range_with_len 9 8)
+
+-- a range does not lie inside so many cells
+abbrev pub passes_end : ℕ → ℕ → ℕ → Bool
+passes_end end at size = nat_lt end (at + size)
+
+-- a table's beginning is out of place: entry 0 passes the first part's end, or the first data block is none, or there are
+-- too few or too many
+abbrev pub is_misplaced : ℕ → ℕ → EntryKind → TableAt → Bool
+is_misplaced front count kind (Plainly at) = passes_end front at (entry_size kind)
+is_misplaced front count kind (InChain first blocks) = nat_le count first || is_outside 1 count blocks
+
+-- the entries of a table have no room in the first part or in its data blocks
+abbrev pub is_too_long : ℕ → ℕ → EntryKind → Table → TableAt → Bool
+is_too_long front block kind t (Plainly at) = passes_end front at (t.most * entry_size kind)
+is_too_long front block kind t (InChain first blocks) = nat_lt (blocks * block) (t.most * entry_size kind)
+
+-- the most entries that a table may have room for, and the least
+abbrev pub is_bad_most : EntryKind → ℕ → Bool
+is_bad_most Dir most = is_outside 2 8194 most
+is_bad_most File most = is_outside 1 8193 most
+
+abbrev pub extent_from : ℕ → ℕ → Extent
+extent_from at size = record { at = at; size = size }
+
+-- a table that lies plainly
+abbrev pub plain_extent : EntryKind → Table → TableAt → List Extent
+plain_extent kind t (Plainly at) = extent_from at (t.most * entry_size kind) ∷ []
+plain_extent kind t (InChain first blocks) = []
+
+-- what lies in the first part: the header, the information, the buckets, the allocation table, and tables that lie plainly
+-- or the data blocks
+unfoldable pub taken_extents : Bool → Information → Places → Tables → List Extent
+taken_extents second info p t =
+    extent_from 0 header_len ∷ extent_from info.at information_len
+    ∷ extent_from (p.buckets_at Dir) (4 * p.buckets Dir) ∷ extent_from (p.buckets_at File) (4 * p.buckets File)
+    ∷ extent_from p.chain.table_at (8 * (p.chain.count + 1))
+    ∷ (plain_extent Dir (t.table Dir) (p.table Dir) ++ plain_extent File (t.table File) (p.table File)
+    ++ (if second then [] else extent_from p.chain.region_at (p.chain.count * p.chain.block) ∷ []))
+
+module _ (kind : TreeKind) (split : Option ℕ) (size : ℕ) (info : Information) where
+  abbrev front : ℕ
+  front = front_len split size
+
+  abbrev p : Places
+  p = places_of kind split info
+
+  -- 1: the information lies in the first part behind the header; 2: the size of a data block; 3: how many buckets there
+  -- are; 4: how many entries the allocation table has; 5: buckets, allocation table, data blocks and the beginning of each
+  -- table lie where they should
+  unfoldable pub place_faults : List Bool
+  place_faults =
+      (nat_lt info.at header_len || passes_end front info.at information_len)
+      ∷ not (is_block_size info.block)
+      ∷ of_either (λ table. is_outside 1 32768 (info.buckets table))
+      ∷ is_outside 1 131072 info.count
+      ∷ (of_either (λ table. passes_end front (info.buckets_at table) (4 * info.buckets table))
+      || (passes_end front info.chain_at (8 * (info.count + 1))
+      || (passes_end (if has_second kind split then size else front) p.chain.region_at (info.count * info.block)
+      || of_either (λ table. is_misplaced front info.count table (p.table table)))))
+      ∷ []
+
+  -- 6: the most entries; 7: their room; 8: how many were ever used; 9: nothing overlaps
+  unfoldable pub table_faults : Tables → List Bool
+  table_faults t =
+      of_either (λ table. is_bad_most table (t.table table).most)
+      ∷ of_either (λ table. is_too_long front info.block table (t.table table) (p.table table))
+      ∷ of_either (λ table. is_outside (least_freed table) (t.table table).most (t.table table).count)
+      ∷ some_overlap (taken_extents (has_second kind split) info p t)
+      ∷ []
+
+  -- the number of the first condition that fails
+  abbrev pub layout_fault : Tables → Option ℕ
+  layout_fault t = first_failing 1 (place_faults ++ table_faults t)
