@@ -23,7 +23,10 @@ use Rattle.entry_tables.proofs.LinkLemmas.{linked_distinct}
 use Rattle.tree_rules.specs.declared.kind.TreeKind.{TreeKind}
 use Rattle.tree_rules.specs.declared.kind.TreeKind.TheVariants.{Save, Vsxe}
 use Rattle.tree_rules.specs.Information.{information_in}
-use Rattle.tree_rules.specs.Places.{TableAt, Plainly, InChain, Places, places_of, tree_tables}
+use Rattle.tree_rules.specs.declared.information.TableAt.{TableAt}
+use Rattle.tree_rules.specs.declared.information.TableAt.TheVariants.{Plainly, InChain}
+use Rattle.tree_rules.specs.declared.information.Places.{Places}
+use Rattle.tree_rules.specs.Places.{places_of, tree_tables}
 use Rattle.tree_rules.specs.Lists.{Holder, Free, OfTable, OfFile, no_block, IsTableList, IsFileList, IsListOfFile}
 use Rattle.tree_rules.specs.Lists.{IsListOf}
 use Rattle.tree_rules.specs.Lists.IsFileList.{HasNone, HasSome}
@@ -35,6 +38,7 @@ use Rattle.tree_rules.specs.Fails.TreeFailsAt.{OfList, OfTwo, OfShort, OfTables,
 use Rattle.tree_rules.specs.Fails.BreaksAt.{BeforeTables, InTables}
 use Rattle.tree_rules.proofs.ListLaws.{one_table_list, one_chain}
 use Rattle.tree_rules.proofs.OneTree.{few_entries, tables_same}
+use Rattle.tree_rules.specs.Places.{table_lies}
 
 -- a holder's list as one that is linked, which has none where it begins with none
 pub record HasLinks (table : ℕ → ℕ → Cell) (count : ℕ) (lead : Lead) (first : ℕ) (list : List ℕ) : Type 0 where
@@ -89,7 +93,7 @@ module _ (kind : TreeKind) (table : ℕ → ℕ → Cell) (p : Places) (few : p.
       → HasLinks table p.chain.count (lead_of holder) (first_of kind table p t holder) (lists holder)
   links Free there = record { linked = (listed Free).linked; once = (listed Free).once }
   links (OfTable entries) there =
-      table_links table p.chain.count (p.table entries) (lists (OfTable entries)) (listed (OfTable entries))
+      table_links table p.chain.count (table_lies p entries) (lists (OfTable entries)) (listed (OfTable entries))
   links (OfFile e) there = links_of_file kind table p.chain few t e (lists (OfFile e)) ((listed (OfFile e)).0 there)
 
   unbroken : (lead : Lead) (first : ℕ) (list : List ℕ) → HasLinks table p.chain.count lead first list → (entry : ℕ)
@@ -156,7 +160,7 @@ module _ (kind : TreeKind) (size : ℕ) (split : Option ℕ) (cells : ℕ → Ce
   nothing_breaks number entry (InTables chains are none fails) =
       let few = few_entries kind size split cells lists h in
       let same : (entries : EntryKind) → chains entries ≡ table_chains lists entries =
-      λ entries. one_table_list (table_in cells p.chain) p.chain.count few (p.table entries) (chains entries)
+      λ entries. one_table_list (table_in cells p.chain) p.chain.count few (table_lies p entries) (chains entries)
       (lists (OfTable entries)) (are entries) (h.listed (OfTable entries)) in
       no_failure number entry (subst (λ (u : Tables). TreeFailsAt kind (table_in cells p.chain) p u number entry)
       (tables_same size p chains (table_chains lists) cells (same Dir) (same File)) fails)

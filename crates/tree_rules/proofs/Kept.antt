@@ -26,9 +26,13 @@ use Rattle.entry_tables.proofs.EntryLemmas.{link_last}
 use Rattle.std.proofs.lemmas.List.{append-nil}
 use Rattle.tree_rules.specs.declared.kind.TreeKind.{TreeKind}
 use Rattle.tree_rules.specs.declared.kind.TreeKind.TheVariants.{Save, Vsxe}
-use Rattle.tree_rules.specs.Information.{Information, information_at, information_in, IsLettered, header_len}
+use Rattle.tree_rules.specs.declared.information.Information.{Information}
+use Rattle.tree_rules.specs.Information.{information_at, information_in, IsLettered, header_len}
 use Rattle.tree_rules.specs.Information.{information_len, front_len, has_second, buckets_field, table_field}
-use Rattle.tree_rules.specs.Places.{TableAt, Plainly, InChain, Places, places_of, table_info, tables_extra, laid_cells}
+use Rattle.tree_rules.specs.declared.information.TableAt.{TableAt}
+use Rattle.tree_rules.specs.declared.information.TableAt.TheVariants.{Plainly, InChain}
+use Rattle.tree_rules.specs.declared.information.Places.{Places}
+use Rattle.tree_rules.specs.Places.{places_of, table_info, tables_extra, laid_cells}
 use Rattle.tree_rules.specs.Places.{tree_tables}
 use Rattle.tree_rules.specs.Sound.{HasLayout}
 use Rattle.tree_rules.specs.Lists.{Holder, Free, OfTable, OfFile, IsTableList, IsFileList, IsListOfFile, IsListOf}
@@ -39,6 +43,8 @@ use Rattle.tree_rules.specs.Structure.IsStructure.{InHeader, InInformation, InFi
 use Rattle.tree_rules.proofs.LayoutLemmas.{layout_from}
 use Rattle.tree_rules.proofs.SoftLemmas.{bytes_in-values, number_in-values, tables_same}
 use Rattle.tree_rules.proofs.PlaceLemmas.{listed_entries, laid_below}
+use Rattle.tree_rules.specs.Places.{table_lies}
+use Rattle.tree_rules.specs.Information.{table_fields}
 
 -- a byte that softens stays
 byte_stays : (cell new : Cell) → MaySoften cell new → IsByte cell → new ≡ cell
@@ -90,7 +96,7 @@ list_kept : (kind : TreeKind) (old new : ℕ → ℕ → Cell) (p : Places) (t :
     → IsListOf kind old p t holder list → IsListOf kind new p t holder list
 list_kept kind old new p t Free list kept read same h = free_kept old new p.chain.count list kept read same h
 list_kept kind old new p t (OfTable entries) list kept read same h =
-    table_list_kept old new p.chain.count (p.table entries) list kept h
+    table_list_kept old new p.chain.count (table_lies p entries) list kept h
 list_kept kind old new p t (OfFile e) list kept read same h =
     (λ used. list_of_file_kept kind old new p.chain t e list kept (h.0 used), h.1)
 
@@ -170,19 +176,13 @@ module _ (kind : TreeKind) (size : ℕ) (split : Option ℕ) (cells new : ℕ �
   field n x behind fits = number_in-values n cells new x (λ y low high.
       value_same y (InInformation (record { from = omega (arith, behind, low); before = omega (arith, high, fits) })))
 
-  information_same : information_at new info.at ≡ information_at cells info.at
-  unfolding information_at
-  information_same = λ i. record {
-    at = info.at;
-    block = field 4 (info.at + 4) (omega arith) (omega arith) i;
-    buckets_at = λ table. field 8 (info.at + buckets_field table) (omega arith) (omega (arith, buckets_fit table)) i;
-    buckets = λ table. field 4 (info.at + buckets_field table + 8) (omega arith) (omega (arith, buckets_fit table)) i;
-    chain_at = field 8 (info.at + 0x28) (omega arith) (omega arith) i;
-    count = field 4 (info.at + 0x30) (omega arith) (omega arith) i;
-    region_at = field 8 (info.at + 0x38) (omega arith) (omega arith) i;
-    table_at = λ table. field 8 (info.at + table_field table) (omega arith) (omega (arith, table_fits table)) i;
-    first = λ table. field 4 (info.at + table_field table) (omega arith) (omega (arith, table_fits table)) i;
-    blocks = λ table. field 4 (info.at + table_field table + 4) (omega arith) (omega (arith, table_fits table)) i;
+  fields_same : (table : EntryKind) → table_fields new info.at table ≡ table_fields cells info.at table
+  fields_same table = λ i. record {
+    buckets_at = field 8 (info.at + buckets_field table) (omega arith) (omega (arith, buckets_fit table)) i;
+    buckets = field 4 (info.at + buckets_field table + 8) (omega arith) (omega (arith, buckets_fit table)) i;
+    table_at = field 8 (info.at + table_field table) (omega arith) (omega (arith, table_fits table)) i;
+    first = field 4 (info.at + table_field table) (omega arith) (omega (arith, table_fits table)) i;
+    blocks = field 4 (info.at + table_field table + 4) (omega arith) (omega (arith, table_fits table)) i;
   } where
     buckets_fit : (table : EntryKind) → buckets_field table + 12 ≤ 0x68
     buckets_fit Dir = omega arith
@@ -191,6 +191,18 @@ module _ (kind : TreeKind) (size : ℕ) (split : Option ℕ) (cells new : ℕ �
     table_fits : (table : EntryKind) → table_field table + 8 ≤ 0x68
     table_fits Dir = omega arith
     table_fits File = omega arith
+
+  information_same : information_at new info.at ≡ information_at cells info.at
+  unfolding information_at
+  information_same = λ i. record {
+    at = info.at;
+    block = field 4 (info.at + 4) (omega arith) (omega arith) i;
+    dirs = fields_same Dir i;
+    files = fields_same File i;
+    chain_at = field 8 (info.at + 0x28) (omega arith) (omega arith) i;
+    count = field 4 (info.at + 0x30) (omega arith) (omega arith) i;
+    region_at = field 8 (info.at + 0x38) (omega arith) (omega arith) i;
+  }
 
   -- the words of the entries of a list
   words_kept : (holder : Holder) (entry : ℕ) → Contains (lists holder) entry

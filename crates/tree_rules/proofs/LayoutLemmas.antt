@@ -11,11 +11,17 @@ use Rattle.entry_tables.specs.declared.table.EntryKind.TheVariants.{Dir, File}
 use Rattle.entry_tables.specs.Kinds.{least_freed}
 use Rattle.entry_tables.specs.Tables.{Table, Tables}
 use Rattle.tree_rules.specs.declared.kind.TreeKind.{TreeKind}
-use Rattle.tree_rules.specs.Information.{Information, front_len}
-use Rattle.tree_rules.specs.Places.{TableAt, Plainly, InChain, Places, places_of}
+use Rattle.tree_rules.specs.declared.information.Information.{Information}
+use Rattle.tree_rules.specs.Information.{front_len}
+use Rattle.tree_rules.specs.declared.information.TableAt.{TableAt}
+use Rattle.tree_rules.specs.declared.information.TableAt.TheVariants.{Plainly, InChain}
+use Rattle.tree_rules.specs.declared.information.Places.{Places}
+use Rattle.tree_rules.specs.Places.{places_of}
 use Rattle.tree_rules.specs.Layout.{of_either, is_outside, is_block_size, passes_end, is_misplaced, is_too_long}
 use Rattle.tree_rules.specs.Layout.{is_bad_most, place_faults, table_faults, layout_fault}
 use Rattle.tree_rules.specs.Sound.{LiesBetween, IsTablePlace, HasTableRoom, least_most, largest_most, HasLayout}
+use Rattle.tree_rules.specs.Places.{table_lies}
+use Rattle.tree_rules.specs.Information.{fields_on}
 
 between_from : (low high n : ℕ) → is_outside low high n ≡ false → LiesBetween low high n
 between_from low high n h =
@@ -116,17 +122,19 @@ module _ (kind : TreeKind) (split : Option ℕ) (size : ℕ) (info : Information
         log_between = power.between;
         block = power.is;
         buckets = λ table. between_from 1 32768 _
-            (either_from (λ table. is_outside 1 32768 (info.buckets table)) h.1.1.0 table);
+            (either_from (λ table. is_outside 1 32768 ((fields_on info table).buckets)) h.1.1.0 table);
         count = between_from 1 131072 _ h.1.1.1.0;
         buckets_inside = λ table. ltb-false _ _
-            (either_from (λ table. passes_end front (info.buckets_at table) (4 * info.buckets table)) inside.0 table);
+            (either_from (λ table. passes_end front ((fields_on info table).buckets_at)
+            (4 * (fields_on info table).buckets)) inside.0 table);
         chain_inside = ltb-false _ _ chain.0;
         region_inside = ltb-false _ _ region.0;
-        tables_placed = λ table. place_from front info.count table (p.table table)
-            (either_from (λ table. is_misplaced front info.count table (p.table table)) region.1 table);
+        tables_placed = λ table. place_from front info.count table (table_lies p table)
+            (either_from (λ table. is_misplaced front info.count table (table_lies p table)) region.1 table);
         most = λ table. most_from table _ (either_from (λ table. is_bad_most table (t.table table).most) rest.0 table);
-        room = λ table. room_from front info.block table (t.table table) (p.table table)
-            (either_from (λ table. is_too_long front info.block table (t.table table) (p.table table)) rest.1.0 table);
+        room = λ table. room_from front info.block table (t.table table) (table_lies p table)
+            (either_from (λ table. is_too_long front info.block table (t.table table) (table_lies p table)) rest.1.0
+            table);
         counts = λ table. between_from _ _ _ (either_from
             (λ table. is_outside (least_freed table) (t.table table).most (t.table table).count) rest.1.1.0 table);
         taken_apart = rest.1.1.1.0;
@@ -144,22 +152,23 @@ module _ (kind : TreeKind) (split : Option ℕ) (size : ℕ) (info : Information
         (
           ap not (power_to info.block h.log h.log_between h.block),
           (
-            either_to (λ table. is_outside 1 32768 (info.buckets table))
+            either_to (λ table. is_outside 1 32768 ((fields_on info table).buckets))
                 (λ table. between_to 1 32768 _ (h.buckets table)),
             (
               between_to 1 131072 _ h.count,
               (
                 or_from _ _
-                    (either_to (λ table. passes_end front (info.buckets_at table) (4 * info.buckets table))
+                    (either_to (λ table. passes_end front ((fields_on info table).buckets_at)
+                    (4 * (fields_on info table).buckets))
                     (λ table. le-ltb _ _ (h.buckets_inside table)))
                     (or_from _ _ (le-ltb _ _ h.chain_inside) (or_from _ _ (le-ltb _ _ h.region_inside)
-                    (either_to (λ table. is_misplaced front info.count table (p.table table))
-                    (λ table. place_to front info.count table (p.table table) (h.tables_placed table))))),
+                    (either_to (λ table. is_misplaced front info.count table (table_lies p table))
+                    (λ table. place_to front info.count table (table_lies p table) (h.tables_placed table))))),
                 (
                   either_to (λ table. is_bad_most table (t.table table).most) (λ table. most_to table _ (h.most table)),
                   (
-                    either_to (λ table. is_too_long front info.block table (t.table table) (p.table table))
-                        (λ table. room_to front info.block table (t.table table) (p.table table) (h.room table)),
+                    either_to (λ table. is_too_long front info.block table (t.table table) (table_lies p table))
+                        (λ table. room_to front info.block table (t.table table) (table_lies p table) (h.room table)),
                     (
                       either_to (λ table. is_outside (least_freed table) (t.table table).most (t.table table).count)
                           (λ table. between_to _ _ _ (h.counts table)),

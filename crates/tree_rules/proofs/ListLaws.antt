@@ -19,9 +19,12 @@ use Rattle.std.proofs.lemmas.List.Elements.{Contains-append_cases}
 use Rattle.std.proofs.lemmas.Bool.{cases_lt, cases_eq}
 use Rattle.tree_rules.specs.declared.kind.TreeKind.{TreeKind}
 use Rattle.tree_rules.specs.declared.kind.TreeKind.TheVariants.{Save, Vsxe}
-use Rattle.tree_rules.specs.Places.{TableAt, Plainly, InChain, Places}
+use Rattle.tree_rules.specs.declared.information.TableAt.{TableAt}
+use Rattle.tree_rules.specs.declared.information.TableAt.TheVariants.{Plainly, InChain}
+use Rattle.tree_rules.specs.declared.information.Places.{Places}
 use Rattle.tree_rules.specs.Lists.{Holder, Free, OfTable, OfFile, IsTableList, IsFileList, IsListOfFile, IsListOf}
 use Rattle.tree_rules.specs.Lists.IsFileList.{HasNone, HasSome}
+use Rattle.tree_rules.specs.Places.{table_lies}
 
 module _ (table : ℕ → ℕ → Cell) (count : ℕ) (few : count < 2 ^ 31) where
   one_free : (xs ys : List ℕ) → IsFreeList table count xs → IsFreeList table count ys → xs ≡ ys
@@ -99,7 +102,7 @@ module _ (kind : TreeKind) (table : ℕ → ℕ → Cell) (p : Places) (few : p.
   pub one_list_of : (holder : Holder) (xs ys : List ℕ) → IsListOf kind table p t holder xs
       → IsListOf kind table p t holder ys → xs ≡ ys
   one_list_of Free xs ys h k = one_free table p.chain.count few xs ys h k
-  one_list_of (OfTable entries) xs ys h k = one_table_list table p.chain.count few (p.table entries) xs ys h k
+  one_list_of (OfTable entries) xs ys h k = one_table_list table p.chain.count few (table_lies p entries) xs ys h k
   one_list_of (OfFile e) xs ys h k =
       ⊎_elim
       (λ (used : used_entries (t.table File) e). one_list_of_file kind table p.chain few t e xs ys (h.0 used)

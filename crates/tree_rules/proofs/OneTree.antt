@@ -7,12 +7,15 @@ use Rattle.entry_tables.specs.declared.table.EntryKind.TheVariants.{Dir, File}
 use Rattle.entry_tables.specs.Tables.{tables_in}
 use Rattle.chain_space.specs.Laid.{Extra, laid_place}
 use Rattle.tree_rules.specs.declared.kind.TreeKind.{TreeKind}
-use Rattle.tree_rules.specs.Information.{Information, information_in}
-use Rattle.tree_rules.specs.Places.{Places, places_of, table_info, tables_extra, laid_cells, tree_tables}
+use Rattle.tree_rules.specs.declared.information.Information.{Information}
+use Rattle.tree_rules.specs.Information.{information_in}
+use Rattle.tree_rules.specs.declared.information.Places.{Places}
+use Rattle.tree_rules.specs.Places.{places_of, table_info, tables_extra, laid_cells, tree_tables}
 use Rattle.tree_rules.specs.Lists.{Holder, OfTable}
 use Rattle.tree_rules.specs.Trees.{table_chains, IsConsistentTree}
 use Rattle.tree_rules.proofs.LayoutLemmas.{layout_from}
 use Rattle.tree_rules.proofs.ListLaws.{one_table_list, one_list_of}
+use Rattle.tree_rules.specs.Places.{table_lies}
 
 extra_same : (p : Places) (one other : EntryKind → List ℕ) → one Dir ≡ other Dir → one File ≡ other File
     → tables_extra p one ≡ tables_extra p other
@@ -48,7 +51,7 @@ module _ (kind : TreeKind) (size : ℕ) (split : Option ℕ) (cells : ℕ → Ce
       let few = few_entries lists h in
       let table = table_in cells p.chain in
       let of_table : (entries : EntryKind) → lists (OfTable entries) ≡ others (OfTable entries) =
-      λ entries. one_table_list table p.chain.count few (p.table entries) (lists (OfTable entries))
+      λ entries. one_table_list table p.chain.count few (table_lies p entries) (lists (OfTable entries))
       (others (OfTable entries)) (h.listed (OfTable entries)) (k.listed (OfTable entries)) in
       let same = tables_same size p (table_chains lists) (table_chains others) cells (of_table Dir) (of_table File) in
       one_list_of kind table p few (tree_tables size p (table_chains lists) cells) (h.orderly.freed File) holder

@@ -22,10 +22,14 @@ use Rattle.entry_tables.specs.Used.{used_entries}
 use Rattle.entry_tables.specs.Rules.{HasFreedList}
 use Rattle.tree_rules.specs.declared.kind.TreeKind.{TreeKind}
 use Rattle.tree_rules.specs.declared.kind.TreeKind.TheVariants.{Save, Vsxe}
-use Rattle.tree_rules.specs.Places.{TableAt, Plainly, InChain, Places, blocks_in_chain, table_blocks, tables_extra}
+use Rattle.tree_rules.specs.declared.information.TableAt.{TableAt}
+use Rattle.tree_rules.specs.declared.information.TableAt.TheVariants.{Plainly, InChain}
+use Rattle.tree_rules.specs.declared.information.Places.{Places}
+use Rattle.tree_rules.specs.Places.{blocks_in_chain, table_blocks, tables_extra}
 use Rattle.tree_rules.specs.Lists.{Holder, Free, OfTable, OfFile, IsTableList, IsFileList, IsListOfFile, IsListOf}
 use Rattle.tree_rules.specs.Lists.IsFileList.{HasNone, HasSome}
 use Rattle.tree_rules.proofs.ListLaws.{used_or_not}
+use Rattle.tree_rules.specs.Places.{table_lies}
 
 All-range : (P : ℕ → Type 0) (a n : ℕ) → ((x : ℕ) → a ≤ x → x < a + n → P x) → All P (range_with_len a n)
 All-range P a n holds = All-from_get_or P (range_with_len a n) 0 (λ i less.
@@ -72,7 +76,7 @@ pub listed_entries : (kind : TreeKind) (table : ℕ → ℕ → Cell) (p : Place
     → All (IsEntry p.chain.count) list
 listed_entries kind table p t freed Free list h = linked_entries table p.chain.count _ _ list h.linked
 listed_entries kind table p t freed (OfTable entries) list h =
-    table_entries table p.chain.count (p.table entries) list h
+    table_entries table p.chain.count (table_lies p entries) list h
 listed_entries kind table p t freed (OfFile e) list h =
     ⊎_elim
     (λ (used : used_entries (t.table File) e). entries_of_file kind table p.chain t e list (h.0 used))
@@ -103,10 +107,10 @@ laid_below size p chains all some wide inside x =
     ⊎_elim
     (λ (front : x < size). rw (lt-ltb x size front) front)
     (λ (behind : size ≤ x).
-    let blocks = table_blocks (p.table Dir) (chains Dir) ++ table_blocks (p.table File) (chains File) in
+    let blocks = table_blocks p.dirs.table (chains Dir) ++ table_blocks p.files.table (chains File) in
     let few = block_few p.chain.count some blocks
-    (All-append (λ block. block < p.chain.count) _ _ (blocks_few p.chain.count (p.table Dir) (chains Dir) (all Dir))
-    (blocks_few p.chain.count (p.table File) (chains File) (all File))) ((x - size) / p.chain.block) in
+    (All-append (λ block. block < p.chain.count) _ _ (blocks_few p.chain.count p.dirs.table (chains Dir) (all Dir))
+    (blocks_few p.chain.count p.files.table (chains File) (all File))) ((x - size) / p.chain.block) in
     rw (le-ltb x size behind) (place_below _ few))
     (cases_lt x size) where
       place_below : (block : ℕ) → block < p.chain.count

@@ -18,9 +18,13 @@ use Rattle.entry_tables.specs.Fails.{RuleFailsAt}
 use Rattle.tree_rules.specs.declared.kind.TreeKind.{TreeKind}
 use Rattle.tree_rules.specs.declared.kind.TreeKind.TheVariants.{Save, Vsxe}
 use Rattle.tree_rules.specs.Information.{information_in}
-use Rattle.tree_rules.specs.Places.{TableAt, Plainly, InChain, Places, places_of, tree_tables}
+use Rattle.tree_rules.specs.declared.information.TableAt.{TableAt}
+use Rattle.tree_rules.specs.declared.information.TableAt.TheVariants.{Plainly, InChain}
+use Rattle.tree_rules.specs.declared.information.Places.{Places}
+use Rattle.tree_rules.specs.Places.{places_of, tree_tables}
 use Rattle.tree_rules.specs.Layout.{layout_fault}
 use Rattle.tree_rules.specs.Lists.{Holder, Free, OfTable, OfFile, no_block, IsTableList}
+use Rattle.tree_rules.specs.Places.{table_lies}
 
 -- the number that names the allocation table
 abbrev pub allocation_number : ℕ
@@ -42,7 +46,7 @@ file_first Vsxe start = 0
 
 abbrev pub first_of : TreeKind → (ℕ → ℕ → Cell) → Places → Tables → Holder → ℕ
 first_of kind table p t Free = index_of (word_v table 0)
-first_of kind table p t (OfTable entries) = table_first (p.table entries)
+first_of kind table p t (OfTable entries) = table_first (table_lies p entries)
 first_of kind table p t (OfFile e) = file_first kind (t.start e)
 
 -- a holder there is: a file is a used entry
@@ -74,7 +78,7 @@ pub record IsReachedBy (kind : TreeKind) (table : ℕ → ℕ → Cell) (p : Pla
 pub record IsShortTable (table : ℕ → ℕ → Cell) (p : Places) (entries : EntryKind) (entry : ℕ) : Type 0 where
   pub blocks : ℕ
   pub first : ℕ
-  pub lies : p.table entries ≡ InChain first blocks
+  pub lies : table_lies p entries ≡ InChain first blocks
   pub named : entry ≡ first + 1
   pub list : List ℕ
   pub chain : IsChain table p.chain.count (first + 1) list
@@ -109,7 +113,7 @@ pub data BreaksAt (kind : TreeKind) (size : ℕ) (split : Option ℕ) (cells : �
       → ((entries : EntryKind)
       → IsTableList (table_in cells (places_of kind split (information_in cells)).chain)
       (places_of kind split (information_in cells)).chain.count
-      ((places_of kind split (information_in cells)).table entries) (chains entries))
+      (table_lies (places_of kind split (information_in cells)) entries) (chains entries))
       → layout_fault kind split size (information_in cells)
       (tree_tables size (places_of kind split (information_in cells)) chains cells) ≡ None
       → TreeFailsAt kind (table_in cells (places_of kind split (information_in cells)).chain)

@@ -5,6 +5,8 @@ use Rattle.save_bytes.specs.CellNumbers.{bytes_in, number_in}
 use Rattle.entry_tables.specs.declared.table.EntryKind.{EntryKind}
 use Rattle.entry_tables.specs.declared.table.EntryKind.TheVariants.{Dir, File}
 use Rattle.tree_rules.specs.declared.kind.TreeKind.{TreeKind}
+use Rattle.tree_rules.specs.declared.information.Information.{Information}
+use Rattle.tree_rules.specs.declared.information.TableFields.{TableFields}
 use Rattle.tree_rules.specs.declared.kind.TreeKind.TheVariants.{Save, Vsxe}
 
 -- the four bytes that a header begins with: SAVE or VSXE
@@ -29,18 +31,10 @@ pub record IsLettered (kind : TreeKind) (cells : ℕ → Cell) : Type 0 where
   pub letters : bytes_in cells 0 4 ≡ letters_of kind
   pub version : number_in 4 cells 4 ≡ version_of_tree kind
 
--- the fields of the information; those of a table say where it lies plainly, or which data blocks it has
-pub record Information : Type 0 where
-  pub at : ℕ
-  pub block : ℕ
-  pub buckets_at : EntryKind → ℕ
-  pub buckets : EntryKind → ℕ
-  pub chain_at : ℕ
-  pub count : ℕ
-  pub region_at : ℕ
-  pub table_at : EntryKind → ℕ
-  pub first : EntryKind → ℕ
-  pub blocks : EntryKind → ℕ
+-- what the information says of a table and its buckets
+abbrev pub fields_on : Information → EntryKind → TableFields
+fields_on info Dir = info.dirs
+fields_on info File = info.files
 
 -- where the fields on the buckets and on the table of a kind begin
 abbrev pub buckets_field : EntryKind → ℕ
@@ -51,19 +45,26 @@ abbrev pub table_field : EntryKind → ℕ
 table_field Dir = 0x48
 table_field File = 0x58
 
+-- the fields on a table, in the information from a place on
+abbrev pub table_fields : (ℕ → Cell) → ℕ → EntryKind → TableFields
+table_fields cells at kind = record {
+  buckets_at = number_in 8 cells (at + buckets_field kind);
+  buckets = number_in 4 cells (at + buckets_field kind + 8);
+  table_at = number_in 8 cells (at + table_field kind);
+  first = number_in 4 cells (at + table_field kind);
+  blocks = number_in 4 cells (at + table_field kind + 4);
+}
+
 -- the information from a place on
 unfoldable pub information_at : (ℕ → Cell) → ℕ → Information
 information_at cells at = record {
   at = at;
   block = number_in 4 cells (at + 4);
-  buckets_at = λ kind. number_in 8 cells (at + buckets_field kind);
-  buckets = λ kind. number_in 4 cells (at + buckets_field kind + 8);
+  dirs = table_fields cells at Dir;
+  files = table_fields cells at File;
   chain_at = number_in 8 cells (at + 0x28);
   count = number_in 4 cells (at + 0x30);
   region_at = number_in 8 cells (at + 0x38);
-  table_at = λ kind. number_in 8 cells (at + table_field kind);
-  first = λ kind. number_in 4 cells (at + table_field kind);
-  blocks = λ kind. number_in 4 cells (at + table_field kind + 4);
 }
 
 -- the header names its place

@@ -10,8 +10,14 @@ use Rattle.entry_tables.specs.declared.table.EntryKind.TheVariants.{Dir, File}
 use Rattle.entry_tables.specs.Kinds.{entry_size, least_freed}
 use Rattle.entry_tables.specs.Tables.{Table, Tables}
 use Rattle.tree_rules.specs.declared.kind.TreeKind.{TreeKind}
-use Rattle.tree_rules.specs.Information.{Information, header_len, information_len, has_second, front_len}
-use Rattle.tree_rules.specs.Places.{TableAt, Plainly, InChain, Places, places_of}
+use Rattle.tree_rules.specs.declared.information.Information.{Information}
+use Rattle.tree_rules.specs.Information.{header_len, information_len, has_second, front_len}
+use Rattle.tree_rules.specs.declared.information.TableAt.{TableAt}
+use Rattle.tree_rules.specs.declared.information.TableAt.TheVariants.{Plainly, InChain}
+use Rattle.tree_rules.specs.declared.information.Places.{Places}
+use Rattle.tree_rules.specs.Places.{places_of}
+use Rattle.tree_rules.specs.Places.{table_lies}
+use Rattle.tree_rules.specs.Information.{fields_on}
 
 -- a test of either kind
 abbrev pub of_either : (EntryKind → Bool) → Bool
@@ -58,9 +64,9 @@ plain_extent kind t (InChain first blocks) = []
 unfoldable pub taken_extents : Bool → Information → Places → Tables → List Extent
 taken_extents second info p t =
     extent_from 0 header_len ∷ extent_from info.at information_len
-    ∷ extent_from (p.buckets_at Dir) (4 * p.buckets Dir) ∷ extent_from (p.buckets_at File) (4 * p.buckets File)
+    ∷ extent_from p.dirs.buckets_at (4 * p.dirs.buckets) ∷ extent_from p.files.buckets_at (4 * p.files.buckets)
     ∷ extent_from p.chain.table_at (8 * (p.chain.count + 1))
-    ∷ (plain_extent Dir (t.table Dir) (p.table Dir) ++ plain_extent File (t.table File) (p.table File)
+    ∷ (plain_extent Dir (t.table Dir) p.dirs.table ++ plain_extent File (t.table File) p.files.table
     ++ (if second then [] else extent_from p.chain.region_at (p.chain.count * p.chain.block) ∷ []))
 
 module _ (kind : TreeKind) (split : Option ℕ) (size : ℕ) (info : Information) where
@@ -77,19 +83,19 @@ module _ (kind : TreeKind) (split : Option ℕ) (size : ℕ) (info : Information
   place_faults =
       (nat_lt info.at header_len || passes_end front info.at information_len)
       ∷ not (is_block_size info.block)
-      ∷ of_either (λ table. is_outside 1 32768 (info.buckets table))
+      ∷ of_either (λ table. is_outside 1 32768 ((fields_on info table).buckets))
       ∷ is_outside 1 131072 info.count
-      ∷ (of_either (λ table. passes_end front (info.buckets_at table) (4 * info.buckets table))
+      ∷ (of_either (λ table. passes_end front ((fields_on info table).buckets_at) (4 * (fields_on info table).buckets))
       || (passes_end front info.chain_at (8 * (info.count + 1))
       || (passes_end (if has_second kind split then size else front) p.chain.region_at (info.count * info.block)
-      || of_either (λ table. is_misplaced front info.count table (p.table table)))))
+      || of_either (λ table. is_misplaced front info.count table (table_lies p table)))))
       ∷ []
 
   -- 6: the most entries; 7: their room; 8: how many were ever used; 9: nothing overlaps
   unfoldable pub table_faults : Tables → List Bool
   table_faults t =
       of_either (λ table. is_bad_most table (t.table table).most)
-      ∷ of_either (λ table. is_too_long front info.block table (t.table table) (p.table table))
+      ∷ of_either (λ table. is_too_long front info.block table (t.table table) (table_lies p table))
       ∷ of_either (λ table. is_outside (least_freed table) (t.table table).most (t.table table).count)
       ∷ some_overlap (taken_extents (has_second kind split) info p t)
       ∷ []

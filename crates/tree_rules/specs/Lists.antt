@@ -9,7 +9,10 @@ use Rattle.entry_tables.specs.Tables.{Tables}
 use Rattle.entry_tables.specs.Used.{used_entries}
 use Rattle.tree_rules.specs.declared.kind.TreeKind.{TreeKind}
 use Rattle.tree_rules.specs.declared.kind.TreeKind.TheVariants.{Save, Vsxe}
-use Rattle.tree_rules.specs.Places.{TableAt, Plainly, InChain, Places}
+use Rattle.tree_rules.specs.declared.information.TableAt.{TableAt}
+use Rattle.tree_rules.specs.declared.information.TableAt.TheVariants.{Plainly, InChain}
+use Rattle.tree_rules.specs.declared.information.Places.{Places}
+use Rattle.tree_rules.specs.Places.{table_lies}
 
 -- who has a list of allocation entries
 pub data Holder : Type 0 where
@@ -40,6 +43,6 @@ IsListOfFile Vsxe table chain t e list = list ≡ []
 -- the list of each holder
 abbrev pub IsListOf : TreeKind → (ℕ → ℕ → Cell) → Places → Tables → Holder → List ℕ → Type 0
 IsListOf kind table p t Free list = IsFreeList table p.chain.count list
-IsListOf kind table p t (OfTable entries) list = IsTableList table p.chain.count (p.table entries) list
+IsListOf kind table p t (OfTable entries) list = IsTableList table p.chain.count (table_lies p entries) list
 IsListOf kind table p t (OfFile e) list = (used_entries (t.table File) e → IsListOfFile kind table p.chain t e list)
     × (¬ used_entries (t.table File) e → list ≡ [])

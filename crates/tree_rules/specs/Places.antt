@@ -1,28 +1,36 @@
 -- Where the parts of a filesystem lie in a store of cells.
 use Rattle.std.specs.Prelude.{ℕ, ◌+◌, ◌-◌, ◌*◌, Option, List, ◌++◌, take, map, if◌then◌else◌}
 use Rattle.save_bytes.specs.Cells.{Cell}
-use Rattle.chain_nodes.specs.declared.info.ChainInfo.{ChainInfo}
 use Rattle.chain_space.specs.Laid.{Extra, extra_of, laid_place}
 use Rattle.entry_tables.specs.declared.table.EntryKind.{EntryKind}
 use Rattle.entry_tables.specs.declared.table.EntryKind.TheVariants.{Dir, File}
 use Rattle.entry_tables.specs.declared.table.TableInfo.{TableInfo}
 use Rattle.entry_tables.specs.Tables.{Tables, tables_in}
 use Rattle.tree_rules.specs.declared.kind.TreeKind.{TreeKind}
-use Rattle.tree_rules.specs.Information.{Information, has_second, front_len}
+use Rattle.tree_rules.specs.declared.information.Information.{Information}
+use Rattle.tree_rules.specs.Information.{has_second, front_len}
+use Rattle.tree_rules.specs.declared.information.TableFields.{TableFields}
+use Rattle.tree_rules.specs.declared.information.TableAt.{TableAt}
+use Rattle.tree_rules.specs.declared.information.TablePlace.{TablePlace}
+use Rattle.tree_rules.specs.declared.information.Places.{Places}
+use Rattle.tree_rules.specs.declared.information.TableAt.TheVariants.{Plainly}
+use Rattle.tree_rules.specs.declared.information.TableAt.TheVariants.{InChain}
+use Rattle.std.specs.Prelude.{Bool}
 
--- a table of entries lies plainly in the first part, or in the first data blocks of a chain
-pub data TableAt : Type 0 where
-  Plainly : (at : ℕ) → TableAt
-  InChain : (first blocks : ℕ) → TableAt
+-- where a table lies
+abbrev pub table_lies : Places → EntryKind → TableAt
+table_lies p Dir = p.dirs.table
+table_lies p File = p.files.table
 
--- the allocation table with the data blocks, the buckets, and the tables of entries
-pub record Places : Type 0 where
-  pub chain : ChainInfo
-  pub buckets_at : EntryKind → ℕ
-  pub buckets : EntryKind → ℕ
-  pub table : EntryKind → TableAt
+-- with a second part a table lies plainly, otherwise in a chain
+abbrev pub place_from : Bool → TableFields → TablePlace
+place_from second fields = record {
+  buckets_at = fields.buckets_at;
+  buckets = fields.buckets;
+  table = if second then Plainly fields.table_at else InChain fields.first fields.blocks;
+}
 
--- where the information says; with a second part the data blocks are all of it, and the tables lie plainly
+-- where the information says; the data blocks are all of a second part
 unfoldable pub places_of : TreeKind → Option ℕ → Information → Places
 places_of kind split info = record {
   chain = record {
@@ -31,10 +39,8 @@ places_of kind split info = record {
     region_at = if has_second kind split then front_len split 0 else info.region_at;
     block = info.block;
   };
-  buckets_at = info.buckets_at;
-  buckets = info.buckets;
-  table = λ table. if has_second kind split then Plainly (info.table_at table)
-      else InChain (info.first table) (info.blocks table);
+  dirs = place_from (has_second kind split) info.dirs;
+  files = place_from (has_second kind split) info.files;
 }
 
 -- how many data blocks a table has
@@ -50,14 +56,14 @@ table_start behind (InChain first blocks) = behind
 
 abbrev pub table_info : ℕ → Places → EntryKind → TableInfo
 table_info size p Dir = record {
-  buckets_at = p.buckets_at Dir;
-  buckets = p.buckets Dir;
-  table_at = table_start size (p.table Dir);
+  buckets_at = p.dirs.buckets_at;
+  buckets = p.dirs.buckets;
+  table_at = table_start size p.dirs.table;
 }
 table_info size p File = record {
-  buckets_at = p.buckets_at File;
-  buckets = p.buckets File;
-  table_at = table_start (size + blocks_in_chain (p.table Dir) * p.chain.block) (p.table File);
+  buckets_at = p.files.buckets_at;
+  buckets = p.files.buckets;
+  table_at = table_start (size + blocks_in_chain p.dirs.table * p.chain.block) p.files.table;
 }
 
 -- the data blocks of a table, by its chain's entries: entry i has data block i - 1
@@ -66,7 +72,7 @@ table_blocks table chain = map (λ entry. entry - 1) (take (blocks_in_chain tabl
 
 abbrev pub tables_extra : Places → (EntryKind → List ℕ) → Extra
 tables_extra p chains = extra_of p.chain.region_at p.chain.block
-    (table_blocks (p.table Dir) (chains Dir) ++ table_blocks (p.table File) (chains File))
+    (table_blocks p.dirs.table (chains Dir) ++ table_blocks p.files.table (chains File))
 
 -- the cells, and behind them those of the tables' data blocks, by their chains
 unfoldable pub laid_cells : ℕ → Places → (EntryKind → List ℕ) → (ℕ → Cell) → ℕ → Cell

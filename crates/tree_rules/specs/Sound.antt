@@ -6,9 +6,14 @@ use Rattle.entry_tables.specs.declared.table.EntryKind.TheVariants.{Dir, File}
 use Rattle.entry_tables.specs.Kinds.{entry_size, least_freed}
 use Rattle.entry_tables.specs.Tables.{Table, Tables}
 use Rattle.tree_rules.specs.declared.kind.TreeKind.{TreeKind}
-use Rattle.tree_rules.specs.Information.{Information, header_len, information_len, has_second, front_len}
-use Rattle.tree_rules.specs.Places.{TableAt, Plainly, InChain, Places}
+use Rattle.tree_rules.specs.declared.information.Information.{Information}
+use Rattle.tree_rules.specs.Information.{header_len, information_len, has_second, front_len}
+use Rattle.tree_rules.specs.declared.information.TableAt.{TableAt}
+use Rattle.tree_rules.specs.declared.information.TableAt.TheVariants.{Plainly, InChain}
+use Rattle.tree_rules.specs.declared.information.Places.{Places}
 use Rattle.tree_rules.specs.Layout.{taken_extents}
+use Rattle.tree_rules.specs.Places.{table_lies}
+use Rattle.tree_rules.specs.Information.{fields_on}
 
 -- n is one of the numbers from low to high
 pub record LiesBetween (low high n : ℕ) : Type 0 where
@@ -42,14 +47,16 @@ pub record HasLayout (kind : TreeKind) (split : Option ℕ) (size : ℕ) (info :
   pub log : ℕ
   pub log_between : LiesBetween 9 16 log
   pub block : info.block ≡ 2 ^ log
-  pub buckets : (table : EntryKind) → LiesBetween 1 32768 (info.buckets table)
+  pub buckets : (table : EntryKind) → LiesBetween 1 32768 ((fields_on info table).buckets)
   pub count : LiesBetween 1 131072 info.count
-  pub buckets_inside : (table : EntryKind) → info.buckets_at table + 4 * info.buckets table ≤ front_len split size
+  pub buckets_inside : (table : EntryKind) → (fields_on info table).buckets_at + 4 *
+      (fields_on info table).buckets ≤ front_len split size
   pub chain_inside : info.chain_at + 8 * (info.count + 1) ≤ front_len split size
   pub region_inside : p.chain.region_at + info.count * info.block
       ≤ (if has_second kind split then size else front_len split size)
-  pub tables_placed : (table : EntryKind) → IsTablePlace (front_len split size) info.count table (p.table table)
+  pub tables_placed : (table : EntryKind) → IsTablePlace (front_len split size) info.count table (table_lies p table)
   pub most : (table : EntryKind) → LiesBetween (least_most table) (largest_most table) (t.table table).most
-  pub room : (table : EntryKind) → HasTableRoom (front_len split size) info.block table (t.table table) (p.table table)
+  pub room : (table : EntryKind) → HasTableRoom (front_len split size) info.block table (t.table table)
+      (table_lies p table)
   pub counts : (table : EntryKind) → LiesBetween (least_freed table) (t.table table).most (t.table table).count
   pub taken_apart : some_overlap (taken_extents (has_second kind split) info p t) ≡ false

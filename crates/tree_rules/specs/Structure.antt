@@ -8,8 +8,10 @@ use Rattle.entry_tables.specs.declared.table.EntryKind.{EntryKind}
 use Rattle.entry_tables.specs.Tables.{Tables}
 use Rattle.entry_tables.specs.Layout.{LiesWithin, IsOfTable}
 use Rattle.tree_rules.specs.declared.kind.TreeKind.{TreeKind}
-use Rattle.tree_rules.specs.Information.{Information, information_in, header_len, information_len}
-use Rattle.tree_rules.specs.Places.{Places, places_of, table_info, tables_extra, tree_tables}
+use Rattle.tree_rules.specs.declared.information.Information.{Information}
+use Rattle.tree_rules.specs.Information.{information_in, header_len, information_len}
+use Rattle.tree_rules.specs.declared.information.Places.{Places}
+use Rattle.tree_rules.specs.Places.{places_of, table_info, tables_extra, tree_tables}
 use Rattle.tree_rules.specs.Lists.{Holder}
 use Rattle.tree_rules.specs.Trees.{table_chains, IsConsistentTree}
 

@@ -8,9 +8,11 @@ use Rattle.entry_tables.specs.Tables.{Tables}
 use Rattle.entry_tables.specs.Rules.{IsOrderly}
 use Rattle.entry_tables.specs.Layout.{IsNeeded}
 use Rattle.tree_rules.specs.declared.kind.TreeKind.{TreeKind}
-use Rattle.tree_rules.specs.Information.{Information, IsLettered, information_in, header_len, information_len}
+use Rattle.tree_rules.specs.declared.information.Information.{Information}
+use Rattle.tree_rules.specs.Information.{IsLettered, information_in, header_len, information_len}
 use Rattle.tree_rules.specs.Information.{front_len}
-use Rattle.tree_rules.specs.Places.{Places, places_of, table_info, laid_cells, tree_tables}
+use Rattle.tree_rules.specs.declared.information.Places.{Places}
+use Rattle.tree_rules.specs.Places.{places_of, table_info, laid_cells, tree_tables}
 use Rattle.tree_rules.specs.Layout.{layout_fault}
 use Rattle.tree_rules.specs.Lists.{Holder, OfTable, IsListOf}
 

@@ -1,9 +1,11 @@
 //! What it is that the cells of a store hold a tree of directories and files.
 #![tactic(auto)]
 
+mod information;
 mod kind;
 mod laws;
 
+pub use information::{Information, Places, TableAt, TableFields, TablePlace};
 pub use kind::TreeKind;
 pub use laws::{
     no_condition_fails_where_all_lies_as_it_should, no_rule_fails_where_a_tree_is_held,
