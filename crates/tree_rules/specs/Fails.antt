@@ -104,8 +104,8 @@ pub data TreeFailsAt (kind : TreeKind) (table : ℕ → ℕ → Cell) (p : Place
   OfWrongFile : kind ≡ Save → number ≡ table_number File → used_entries (t.table File) entry
       → IsWrongFile table p.chain (t.start entry) (t.wide entry) → TreeFailsAt kind table p t number entry
 
--- A rule fails at an entry of the cells: whatever the tables are, or where the tables have their chains and no condition
--- on where all lies fails.
+-- A rule fails at an entry of the cells: whatever the tables are, or where the tables have their chains and no
+-- condition on where all lies fails.
 pub data BreaksAt (kind : TreeKind) (size : ℕ) (split : Option ℕ) (cells : ℕ → Cell) (number entry : ℕ) : Type 0 where
   BeforeTables : ((t : Tables) → TreeFailsAt kind (table_in cells (places_of kind split (information_in cells)).chain)
       (places_of kind split (information_in cells)) t number entry) → BreaksAt kind size split cells number entry

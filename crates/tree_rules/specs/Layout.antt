@@ -35,8 +35,8 @@ is_block_size n = list_any (λ log. n == 2 ^ log) (range_with_len 9 8)
 abbrev pub passes_end : ℕ → ℕ → ℕ → Bool
 passes_end end at size = nat_lt end (at + size)
 
--- a table's beginning is out of place: entry 0 passes the first part's end, or the first data block is none, or there are
--- too few or too many
+-- a table's beginning is out of place: entry 0 passes the first part's end, or the first data block is none, or there
+-- are too few or too many
 abbrev pub is_misplaced : ℕ → ℕ → EntryKind → TableAt → Bool
 is_misplaced front count kind (Plainly at) = passes_end front at (entry_size kind)
 is_misplaced front count kind (InChain first blocks) = nat_le count first || is_outside 1 count blocks
@@ -59,8 +59,8 @@ abbrev pub plain_extent : EntryKind → Table → TableAt → List Extent
 plain_extent kind t (Plainly at) = extent_from at (t.most * entry_size kind) ∷ []
 plain_extent kind t (InChain first blocks) = []
 
--- what lies in the first part: the header, the information, the buckets, the allocation table, and tables that lie plainly
--- or the data blocks
+-- what lies in the first part: the header, the information, the buckets, the allocation table, and tables that lie
+-- plainly or the data blocks
 unfoldable pub taken_extents : Bool → Information → Places → Tables → List Extent
 taken_extents second info p t =
     extent_from 0 header_len ∷ extent_from info.at information_len
@@ -69,37 +69,35 @@ taken_extents second info p t =
     ∷ (plain_extent Dir (t.table Dir) p.dirs.table ++ plain_extent File (t.table File) p.files.table
     ++ (if second then [] else extent_from p.chain.region_at (p.chain.count * p.chain.block) ∷ []))
 
-module _ (kind : TreeKind) (split : Option ℕ) (size : ℕ) (info : Information) where
-  abbrev front : ℕ
-  front = front_len split size
+-- 1: the information lies in the first part behind the header; 2: the size of a data block; 3: how many buckets there
+-- are; 4: how many entries the allocation table has; 5: buckets, allocation table, data blocks and the beginning of
+-- each table lie where they should
+unfoldable pub place_faults : TreeKind → Option ℕ → ℕ → Information → List Bool
+place_faults kind split size info =
+    let front = front_len split size in
+    let p = places_of kind split info in
+    (nat_lt info.at header_len || passes_end front info.at information_len)
+    ∷ not (is_block_size info.block)
+    ∷ of_either (λ table. is_outside 1 32768 ((fields_on info table).buckets))
+    ∷ is_outside 1 131072 info.count
+    ∷ (of_either (λ table. passes_end front ((fields_on info table).buckets_at) (4 * (fields_on info table).buckets))
+    || (passes_end front info.chain_at (8 * (info.count + 1))
+    || (passes_end (if has_second kind split then size else front) p.chain.region_at (info.count * info.block)
+    || of_either (λ table. is_misplaced front info.count table (table_lies p table)))))
+    ∷ []
 
-  abbrev p : Places
-  p = places_of kind split info
+-- 6: the most entries; 7: their room; 8: how many were ever used; 9: nothing overlaps
+unfoldable pub table_faults : TreeKind → Option ℕ → ℕ → Information → Tables → List Bool
+table_faults kind split size info t =
+    let front = front_len split size in
+    let p = places_of kind split info in
+    of_either (λ table. is_bad_most table (t.table table).most)
+    ∷ of_either (λ table. is_too_long front info.block table (t.table table) (table_lies p table))
+    ∷ of_either (λ table. is_outside (least_freed table) (t.table table).most (t.table table).count)
+    ∷ some_overlap (taken_extents (has_second kind split) info p t)
+    ∷ []
 
-  -- 1: the information lies in the first part behind the header; 2: the size of a data block; 3: how many buckets there
-  -- are; 4: how many entries the allocation table has; 5: buckets, allocation table, data blocks and the beginning of each
-  -- table lie where they should
-  unfoldable pub place_faults : List Bool
-  place_faults =
-      (nat_lt info.at header_len || passes_end front info.at information_len)
-      ∷ not (is_block_size info.block)
-      ∷ of_either (λ table. is_outside 1 32768 ((fields_on info table).buckets))
-      ∷ is_outside 1 131072 info.count
-      ∷ (of_either (λ table. passes_end front ((fields_on info table).buckets_at) (4 * (fields_on info table).buckets))
-      || (passes_end front info.chain_at (8 * (info.count + 1))
-      || (passes_end (if has_second kind split then size else front) p.chain.region_at (info.count * info.block)
-      || of_either (λ table. is_misplaced front info.count table (table_lies p table)))))
-      ∷ []
-
-  -- 6: the most entries; 7: their room; 8: how many were ever used; 9: nothing overlaps
-  unfoldable pub table_faults : Tables → List Bool
-  table_faults t =
-      of_either (λ table. is_bad_most table (t.table table).most)
-      ∷ of_either (λ table. is_too_long front info.block table (t.table table) (table_lies p table))
-      ∷ of_either (λ table. is_outside (least_freed table) (t.table table).most (t.table table).count)
-      ∷ some_overlap (taken_extents (has_second kind split) info p t)
-      ∷ []
-
-  -- the number of the first condition that fails
-  abbrev pub layout_fault : Tables → Option ℕ
-  layout_fault t = first_failing 1 (place_faults ++ table_faults t)
+-- the number of the first condition that fails
+abbrev pub layout_fault : TreeKind → Option ℕ → ℕ → Information → Tables → Option ℕ
+layout_fault kind split size info t =
+    first_failing 1 (place_faults kind split size info ++ table_faults kind split size info t)

@@ -24,7 +24,8 @@ pub data Holder : Type 0 where
 abbrev pub no_block : ℕ
 no_block = 0x80000000
 
--- a table that lies plainly has no chain; that of another begins with its first data block, and has as many as it should
+-- a table that lies plainly has no chain; that of another begins with its first data block, and has as many as it
+-- should
 abbrev pub IsTableList : (ℕ → ℕ → Cell) → ℕ → TableAt → List ℕ → Type 0
 IsTableList table count (Plainly at) list = list ≡ []
 IsTableList table count (InChain first blocks) list = IsChain table count (first + 1) list × (blocks ≤ length list)

@@ -48,8 +48,8 @@ abbrev pub blocks_in_chain : TableAt → ℕ
 blocks_in_chain (Plainly at) = 0
 blocks_in_chain (InChain first blocks) = blocks
 
--- Behind the store's cells those of the tables' data blocks lie once more, the directories' first. So each table lies in
--- one piece: plainly, or from here on.
+-- Behind the store's cells those of the tables' data blocks lie once more, the directories' first. So each table lies
+-- in one piece: plainly, or from here on.
 abbrev pub table_start : ℕ → TableAt → ℕ
 table_start behind (Plainly at) = at
 table_start behind (InChain first blocks) = behind

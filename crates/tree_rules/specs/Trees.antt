@@ -20,9 +20,9 @@ use Rattle.tree_rules.specs.Lists.{Holder, OfTable, IsListOf}
 abbrev pub table_chains : (Holder → List ℕ) → EntryKind → List ℕ
 table_chains lists table = lists (OfTable table)
 
--- The cells hold a tree with these lists. The header and the information say where all lies, which meets each condition;
--- each list is as it should be, and no allocation entry is in two; the tables and buckets are orderly; and all bytes that
--- are needed are bytes.
+-- The cells hold a tree with these lists. The header and the information say where all lies, which meets each
+-- condition; each list is as it should be, and no allocation entry is in two; the tables and buckets are orderly; and
+-- all bytes that are needed are bytes.
 pub record IsTreeOf (kind : TreeKind) (size : ℕ) (split : Option ℕ) (cells : ℕ → Cell) (info : Information)
     (lists : Holder → List ℕ) (p : Places) (t : Tables) : Type 0 where
   pub inside : front_len split size ≤ size
