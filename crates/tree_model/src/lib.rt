@@ -1,0 +1,13 @@
+//! A tree as a plain map: what it is, what it answers to each command, and the texts of its refusals.
+#![tactic(auto)]
+
+mod command;
+mod listing;
+mod refusal;
+
+pub use command::{Command, Room, Target};
+pub use listing::{Listing, Row};
+pub use refusal::{FsFault, Full, Refusal};
+
+#[cfg(test)]
+mod tests;
