@@ -1,22 +1,24 @@
 -- Why calls on entries are refused.
-use Rattle.std.proofs.Common.{◌≡◌, ℕ, ◌+◌, ◌<◌, ◌≤◌, IsTrue, Result, Ok, Err, Some, ap, subst, sym, arith}
+use Rattle.std.proofs.Common.{◌≡◌, ℕ, ◌+◌, ◌<◌, ◌≤◌, IsTrue, Result, Ok, Err, Some, refl, ap, subst, sym, arith}
 use Rattle.std.specs.Prelude.{⊤}
 use Rattle.std.specs.Result.{IsErrAnd}
 use Rattle.save_bytes.specs.declared.space.Bad.{Bad}
 use Rattle.save_bytes.specs.State.{Shape, State}
-use Rattle.save_bytes.specs.Answers.{IsFirstFault, IsRead}
+use Rattle.save_bytes.specs.Answers.{IsFirstFault, IsRead, IsFirstSpoilt, IsReady}
 use Rattle.save_bytes.specs.Refusals.{IfDamaged, NeverDamaged}
 use Rattle.entry_tables.specs.declared.table.EntryKind.{EntryKind}
+use Rattle.entry_tables.specs.declared.table.EntryKind.TheVariants.{File}
 use Rattle.entry_tables.specs.declared.table.TableInfo.{TableInfo}
 use Rattle.entry_tables.specs.declared.table.EntryFault.{EntryFault}
 use Rattle.entry_tables.specs.declared.table.EntryFault.TheVariants as fault
 use Rattle.entry_tables.specs.Kinds.{entry_size, link_offset}
-use Rattle.entry_tables.specs.Tables.{table_in, entry_place, bucket_place}
+use Rattle.entry_tables.specs.Tables.{HasEntry, table_in, entry_place, bucket_place}
 use Rattle.entry_tables.specs.Used.{used_entries}
 use Rattle.entry_tables.specs.Layout.{TellsEntryTable, IsNeeded, OfZero, OfBucket, OfUsed, OfFreed, HasLink, LinksFreed, LinksBucket, LinksNext}
 use Rattle.entry_tables.specs.Layout.{BlamesNeeded, IsReadAt, AtZero, AtPlace, BlamesRead}
 use Rattle.entry_tables.specs.Causes.{IfRuleBroken, HasEntryCause}
-use Rattle.entry_tables.proofs.EntryLemmas.{link_last, entry_long}
+use Rattle.entry_tables.proofs.EntryLemmas.{used_entry, link_last, entry_long}
+use Rattle.entry_tables.specs.Changes.{CanChangeTables}
 use Rattle.save_bytes.proofs.SpaceLemmas.{IfDamaged-map}
 
 -- an error is passed on as it is
@@ -152,3 +154,31 @@ module _ (s : State) (kind : EntryKind) (info : TableInfo) (entry : ℕ) where
       (λ tells has. IfDamaged-map (Some bad)
       (λ part level block h. record { place = h.place; needed = link_place h.place has h.read; blames = h.blames })
       (damaged tells.told)) plain)
+
+-- a spoilt cell of a used entry is one that is needed
+pub spoilt_entry : (s : State) (kind : EntryKind) (info : TableInfo) (entry offset n part level block : ℕ)
+    → offset + n ≤ entry_size kind → used_entries (table_in s.cells kind info) entry
+    → IsFirstSpoilt s.cells (entry_place kind info entry + offset) n part level block
+    → BlamesNeeded kind info s.cells part level block
+spoilt_entry s kind info entry offset n part level block fits used first = record {
+  place = entry_place kind info entry + offset + first.k;
+  needed = OfUsed entry used (record { from = omega arith; before = omega (arith, first.within, fits) });
+  blames = rw first.spoilt (refl, refl, refl);
+}
+
+-- a put of a file's fields is refused where one of their cells is spoilt
+pub fields_cause : {A : Type 0} (s : State) (dirs files : TableInfo) (entry : ℕ) (result : Result A EntryFault) (bad : Bad)
+    → IsErrAnd result (λ found. found ≡ fault.Bad bad)
+    → (CanChangeTables s dirs files → HasEntry (table_in s.cells File files) entry
+    → IsReady s (entry_place File files entry + 0x1C) 12 (Some bad))
+    → (IsTrue s.shape.plain → NeverDamaged (Some bad))
+    → HasEntryCause s File files (CanChangeTables s dirs files × used_entries (table_in s.cells File files) entry)
+    (λ table place. ⊥) result
+fields_cause s dirs files entry result bad is ready plain =
+    rw (passed_on result bad is)
+    (bad_cause s File files (CanChangeTables s dirs files × used_entries (table_in s.cells File files) entry)
+    (λ table place. ⊥) bad
+    (λ tells both. IfDamaged-map (Some bad)
+    (λ part level block. spoilt_entry s File files entry 0x1C 12 part level block (omega arith) both.1)
+    ((ready both.0 (used_entry s File files tells (both.0.counts File) entry both.1)).damaged tells.told))
+    plain)

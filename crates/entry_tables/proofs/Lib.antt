@@ -4,3 +4,8 @@ pub mod LinkLemmas
 pub mod FailLemmas
 pub mod StayLemmas
 pub mod CauseLemmas
+pub mod ChangeLemmas
+pub mod ValueLemmas
+pub mod WordLemmas
+pub mod SetLemmas
+pub mod OrderlyLemmas

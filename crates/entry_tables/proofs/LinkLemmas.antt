@@ -135,7 +135,7 @@ LeadsTo-distinct next from (x ∷ xs) e leads apart =
     (LeadsTo-distinct next (next x) xs e leads.2 apart_tail)
 
 -- so are those of a list that ends
-linked_apart : (next : ℕ → ℕ) (from : ℕ) (list : List ℕ) → LeadsToEnd next from list → ¬ Contains list 0
+pub linked_apart : (next : ℕ → ℕ) (from : ℕ) (list : List ℕ) → LeadsToEnd next from list → ¬ Contains list 0
 linked_apart next from [] linked (k, h, is) = omega (arith, h)
 linked_apart next from (x ∷ xs) linked (zero, h, is) = linked.1 (sym linked.0 ∙ linked.0 ∙ is)
 linked_apart next from (x ∷ xs) linked (suc k, h, is) = linked_apart next (next x) xs linked.2 (k, omega (arith, h), is)

@@ -17,9 +17,10 @@ pub record LiesWithin (at n x : ℕ) : Type 0 where
 abbrev pub HasCounts : (ℕ → Cell) → TableInfo → Type 0
 HasCounts cells info = (k : ℕ) → k < 8 → IsByte (cells (info.table_at + k))
 
--- a table and its buckets lie in a sound space: the buckets, and of the entries entry 0
+-- a table and its buckets lie in a sound space, of which each place may be written: the buckets, and of the entries entry 0
 pub record HasEntryTable (shape : Shape) (kind : EntryKind) (info : TableInfo) : Type 0 where
   pub sound : IsTrue shape.sound
+  pub first : shape.first ≡ 0
   pub some : 1 ≤ info.buckets
   pub buckets : info.buckets_at + 4 * info.buckets ≤ shape.size
   pub zero : info.table_at + entry_size kind ≤ shape.size

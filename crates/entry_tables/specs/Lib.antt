@@ -7,3 +7,5 @@ pub mod Rules
 pub mod Fails
 pub mod Layout
 pub mod Causes
+pub mod Words
+pub mod Changes

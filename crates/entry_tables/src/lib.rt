@@ -5,11 +5,13 @@ mod fields;
 mod hash;
 mod reads;
 mod table;
+mod word;
 
 pub use fields::{counts_in, fields_in, head_in, link_in, name_in, word_in};
 pub use hash::bucket;
 pub use reads::{Counts, entry_bytes, entry_word, read_counts};
 pub use table::{EntryFault, EntryKind, FileFields, TableInfo};
+pub use word::{Word, info_for, ready_word, set_fields_in, set_word};
 
 #[cfg(test)]
 mod tests;

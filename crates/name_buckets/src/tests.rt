@@ -94,6 +94,15 @@ fn free_of_orderly<S: Space>(entries: &mut Entries<S>, kind: EntryKind) -> Resul
     entries.free(kind)
 }
 
+/// Changes the fields of a file's entry in the tables in these bytes.
+fn set_fields_of(bytes: &mut [u8], entry: u32, fields: FileFields) -> Result<(), EntryFault>
+    requires { 1584 ≤ length bytes.old }
+{
+    let mut space = MemSpace::new(bytes, 512);
+    let mut entries = Entries::new(&mut space, DIRS, FILES);
+    entries.set_fields(entry, fields)
+}
+
 fn answer<S: Space>(entries: &mut Entries<S>, call: Call) -> Reply
     requires tables { HoldsTables S.state entries.old }
     requires buckets { (kind : EntryKind) → (place_of entries.old kind).buckets ≡ 9 }
@@ -176,6 +185,23 @@ fn the_entries_of_a_tree_are_read(rt: HostRuntime) {
     ] {
         assert_eq!(rt; reply_to(&mut bytes, call), want);
     }
+}
+
+// Entry 1 of the files begins at 1,584: its words 0x1C and 0x20 at 1,612 and 1,616.
+#[test]
+fn a_files_fields_change_and_no_other_byte(rt: HostRuntime) {
+    let fields = FileFields {
+        start: 0x8000_0000,
+        wide: 0x0102_0304_0506_0708,
+    };
+    let mut want = tree();
+    set_u32(&mut want, 1612, 0x8000_0000);
+    set_u64(&mut want, 1616, 0x0102_0304_0506_0708);
+    let mut bytes = tree();
+    assert_eq!(rt; set_fields_of(&mut bytes, 1, fields), Ok(()));
+    assert_eq!(rt; bytes.as_slice(), want.as_slice());
+    let read = reply_to(&mut bytes, Call::Fields(1));
+    assert_eq!(rt; read, Reply::Fields(Ok(fields)));
 }
 
 #[test]

@@ -2,23 +2,27 @@
 
 ghost use Rattle.std.specs.Prelude.{◌≡◌, ◌<◌, IsTrue, IfOk, OnOk, ⊤};
 ghost use Rattle.entry_tables.specs.declared.table.EntryKind.TheVariants.{Dir, File};
+ghost use Rattle.save_bytes.specs.Answers.{IsReady};
 ghost use Rattle.save_bytes.specs.Refusals.{IfDamaged};
+ghost use Rattle.save_bytes.specs.Writes.{IsWithin};
 ghost use Rattle.entry_tables.specs.Kinds.{table_number, bucket_table};
 ghost use Rattle.entry_tables.specs.Hash.{bucket_number};
 ghost use Rattle.entry_tables.specs.Tables.{HasEntry, info_of};
 ghost use Rattle.entry_tables.specs.Used.{used_entries};
-ghost use Rattle.entry_tables.specs.Rules.{HasFreedList, HasBucketLists};
+ghost use Rattle.entry_tables.specs.Rules.{HasFreedList, HasBucketLists, IsOrderly};
+ghost use Rattle.entry_tables.specs.Words.{with_fields};
 ghost use Rattle.entry_tables.specs.Fails.{NamesWrongly, IsBrokenBucket};
 ghost use Rattle.entry_tables.specs.Layout.{HasCounts, HasEntryTables, HasLink, BlamesTable};
 ghost use Rattle.entry_tables.specs.Causes.{bad_of, HasEntryCause};
 ghost use Rattle.name_buckets.specs.Replies.{IsFoundEntry, IsRoom, IsFirstChild, IsNextChild};
 ghost use Rattle.name_buckets.specs.Held.{space_of, tables_of, place_of, HoldsTables, TellsTableOf, IsEntriesIn, ReadsEntries};
+ghost use Rattle.name_buckets.specs.Held.{CanChange, fields_place, ChangesEntries};
 
 use crate::find::find_in;
 use crate::free::free_in;
 use entry_tables::{
     Counts, EntryFault, EntryKind, FileFields, TableInfo, counts_in, fields_in, head_in, link_in,
-    name_in, word_in,
+    name_in, set_fields_in, word_in,
 };
 use save_bytes::{Name, Space};
 
@@ -194,6 +198,32 @@ impl<'a, S: Space> Entries<'a, S> {
         let files = self.files;
         let space = &mut *self.space;
         fields_in(space, files, entry)
+    }
+
+    /// Changes what a file's entry says of its contents, and nothing else of either table. `Damaged` comes exactly where
+    /// one of these twelve bytes is spoilt, and then nothing changes; after the first byte only `Disk` can come.
+    pub fn set_fields(&mut self, entry: u32, fields: FileFields) -> Result<(), EntryFault>
+        requires { HoldsTables S.state self.old }
+        ensures set { CanChange S.state self.old → HasEntry ((tables_of S.state self.old).table File) entry
+            → OnOk result (tables_of S.state self.new
+            ≡ with_fields (tables_of S.state self.old) entry fields.start fields.wide) }
+        ensures orderly { CanChange S.state self.old → HasEntry ((tables_of S.state self.old).table File) entry
+            → IsOrderly (tables_of S.state self.old) → OnOk result (IsOrderly (tables_of S.state self.new)) }
+        ensures still { CanChange S.state self.old → HasEntry ((tables_of S.state self.old).table File) entry
+            → OnOk result (CanChange S.state self.new) }
+        ensures exact { CanChange S.state self.old → HasEntry ((tables_of S.state self.old).table File) entry
+            → IsReady (space_of S.state self.old) (fields_place self.old entry) 12 (bad_of result) }
+        ensures cause { HasEntryCause (space_of S.state self.old) File (place_of self.old File)
+            (CanChange S.state self.old × used_entries ((tables_of S.state self.old).table File) entry) (λ _ _. ⊥) result }
+        ensures changes { ChangesEntries S.state S.keeps S.lands
+            (CanChange S.state self.old × HasEntry ((tables_of S.state self.old).table File) entry)
+            (IsWithin (fields_place self.old entry) 12) self.old self.new (bad_of result) }
+    {
+        let dirs = self.dirs;
+        let files = self.files;
+        let space = &mut *self.space;
+        set_fields_in(space, dirs, files, entry, fields)?;
+        Ok(())
     }
 
     /// How many entries of a kind can still be added. It is answered only where the freed entries of this kind have the

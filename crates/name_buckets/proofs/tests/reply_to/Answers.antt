@@ -1,4 +1,4 @@
-use Rattle.std.proofs.Common.{◌≤◌, length, ap, lit≤, arith}
+use Rattle.std.proofs.Common.{◌≤◌, length, refl, ap, lit≤, arith}
 use Rattle.entry_tables.specs.declared.table.TableInfo.{TableInfo}
 use Rattle.entry_tables.specs.declared.table.EntryKind.TheVariants.{Dir, File}
 use Rattle.name_buckets.proofs.tests.reply_to.Goals as goal
@@ -8,12 +8,12 @@ new-entries-requires c Dir =
     let same = ap length c.new-space.ensures.memory.bytes_now in
     let buckets_end : 172 ≤ length c.new-space.result.bytes.now = omega (arith, same, c.requires) in
     let zero_end : 1064 ≤ length c.new-space.result.bytes.now = omega (arith, same, c.requires) in
-    record { sound = c.new-space.ensures.sound; some = lit≤ tt; buckets = buckets_end; zero = zero_end }
+    record { sound = c.new-space.ensures.sound; first = refl; some = lit≤ tt; buckets = buckets_end; zero = zero_end }
 new-entries-requires c File =
     let same = ap length c.new-space.ensures.memory.bytes_now in
     let buckets_end : 208 ≤ length c.new-space.result.bytes.now = omega (arith, same, c.requires) in
     let zero_end : 1584 ≤ length c.new-space.result.bytes.now = omega (arith, same, c.requires) in
-    record { sound = c.new-space.ensures.sound; some = lit≤ tt; buckets = buckets_end; zero = zero_end }
+    record { sound = c.new-space.ensures.sound; first = refl; some = lit≤ tt; buckets = buckets_end; zero = zero_end }
 
 pub answer-requires-clause-buckets : goal.answer-requires-clause-buckets
 answer-requires-clause-buckets c Dir = ap (λ (info : TableInfo). info.buckets) c.new-entries.ensures.holds.same_dirs
