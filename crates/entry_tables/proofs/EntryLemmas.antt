@@ -88,3 +88,10 @@ module _ (cells : ℕ → Cell) (kind : EntryKind) (info : TableInfo) (e : ℕ) 
       field_is 4 cells (entry_place kind info e + 0) (link_offset kind)
       (entry_place kind info e + link_offset kind) bytes are (omega (arith, long, link_last kind)) (omega arith)
       ∙ link_there cells kind info e below
+
+  pub sibling_read : HasEntry (table_in cells kind info) e
+      → number_at 4 bytes 0x14 ≡ (table_in cells kind info).sibling e
+  sibling_read has =
+      field_is 4 cells (entry_place kind info e + 0) 0x14 (entry_place kind info e + 0x14) bytes are
+      (omega (arith, long, entry_long kind)) (omega arith)
+      ∙ sym (field_there (table_in cells kind info) e (number_in 4 cells (entry_place kind info e + 0x14)) 0 has)

@@ -9,3 +9,5 @@ pub mod ValueLemmas
 pub mod WordLemmas
 pub mod SetLemmas
 pub mod OrderlyLemmas
+pub mod EditLemmas
+pub mod QuietLemmas

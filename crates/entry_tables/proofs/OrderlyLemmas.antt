@@ -1,8 +1,7 @@
 -- The rules hold after a change.
-use Rattle.std.proofs.Common.{◌≡◌, ℕ, List}
-use Rattle.entry_tables.specs.declared.table.EntryKind.{EntryKind}
+use Rattle.std.proofs.Common.{ℕ}
 use Rattle.entry_tables.specs.Tables.{Tables}
-use Rattle.entry_tables.specs.Rules.{IsPlacedEntry, IsChildList, IsOrderly}
+use Rattle.entry_tables.specs.Rules.{IsOrderly}
 use Rattle.entry_tables.specs.Words.{with_fields}
 
 -- of a file's fields no rule speaks
@@ -16,7 +15,8 @@ fields_orderly t e start wide rules = record {
         was.0,
         record {
           leads = was.1.leads;
-          children = λ f within. (let child = was.1.children f within in record { entry = child.entry; parent = child.parent });
+          children = λ f within. (let child = was.1.children f within in
+              record { entry = child.entry; parent = child.parent });
           all = λ f child. was.1.all f (record { entry = child.entry; parent = child.parent });
         },
       ));

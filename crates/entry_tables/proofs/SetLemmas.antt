@@ -1,10 +1,10 @@
 -- What a put of one word makes of the tables.
-use Rattle.std.proofs.Common.{◌≡◌, ◌≢◌, ◌⊎◌, ℕ, ◌+◌, ◌-◌, ◌*◌, ◌<◌, ◌≤◌, ◌==◌, nat_lt, Bool, true, false, if◌then◌else◌}
+use Rattle.std.proofs.Common.{◌≡◌, ◌≢◌, ◌⊎◌, ℕ, ◌+◌, ◌-◌, ◌*◌, ◌<◌, ◌≤◌, nat_lt, if◌then◌else◌}
 use Rattle.std.proofs.Common.{IsTrue, Option, Some, None, refl, sym, ◌∙◌, ap, subst, arith, inl, inr, ⊎_elim}
 use Rattle.std.proofs.lemmas.Bool.{cases_eq, lt-ltb, cond-true}
 use Rattle.save_bytes.specs.declared.space.Bad.{Bad}
 use Rattle.save_bytes.specs.Cells.{Cell, IsByte}
-use Rattle.save_bytes.specs.CellNumbers.{bytes_in, number_in}
+use Rattle.save_bytes.specs.CellNumbers.{number_in}
 use Rattle.save_bytes.specs.State.{Shape, State, CanPut}
 use Rattle.save_bytes.specs.Stays.{SameTwins, SameSpace}
 use Rattle.save_bytes.specs.Refusals.{UnlessDisk, IfDone}
@@ -16,17 +16,19 @@ use Rattle.entry_tables.specs.declared.table.TableInfo.{TableInfo}
 use Rattle.entry_tables.specs.declared.word.Word.{Word}
 use Rattle.entry_tables.specs.declared.word.Word.TheVariants.{Head, Link, Sibling, First, Count}
 use Rattle.entry_tables.specs.Kinds.{least_freed, entry_size, link_offset, child_offset}
-use Rattle.entry_tables.specs.Tables.{Table, HasEntry, Tables, most_in, is_entry, entry_place, bucket_place, table_in}
+use Rattle.entry_tables.specs.Tables.{HasEntry, Tables, most_in, is_entry, entry_place, bucket_place, table_in}
 use Rattle.entry_tables.specs.Tables.{info_of, tables_in}
 use Rattle.entry_tables.specs.Layout.{HasCounts, HasEntryTables}
-use Rattle.entry_tables.specs.Words.{with_at, at_kind, HasWord, tables_with, with_fields, word_place, WordFits}
-use Rattle.entry_tables.specs.Changes.{Area, EntriesOf, BucketsOf, IsPlaceIn, CanChangeTables, IsBounded, IsWordSet}
+use Rattle.entry_tables.specs.Words.{with_at, HasWord, word_of, tables_with, with_fields, word_place, WordFits}
+use Rattle.entry_tables.specs.Changes.{Area, EntriesOf, BucketsOf, IsAreaPlace, CanChangeTables, IsBounded, IsWordSet}
 use Rattle.entry_tables.specs.Changes.{AreFieldsSet}
-use Rattle.entry_tables.proofs.EntryLemmas.{link_last, entry_long, field_there}
-use Rattle.entry_tables.proofs.ValueLemmas.{IsRunIn, place_below, entry_run, bucket_run, can_put_run, still_byte, same_spot, kind_same, bucket_same}
+use Rattle.entry_tables.proofs.EntryLemmas.{link_last, entry_long, field_there, link_there, head_there}
+use Rattle.entry_tables.proofs.ValueLemmas.{IsRunIn, place_below, entry_run, bucket_run, can_put_run, still_byte}
+use Rattle.entry_tables.proofs.ValueLemmas.{same_spot, kind_same, bucket_same}
 use Rattle.entry_tables.proofs.WordLemmas.{SameFields, fields_same, tables_same, with_at-reads, at_kind-reads, Misses}
-use Rattle.entry_tables.proofs.WordLemmas.{HeadMisses, child_inside, some_most, count_kept, most_kept, head_kept}
-use Rattle.entry_tables.proofs.WordLemmas.{parent_kept, names_kept, sibling_kept, link_kept, first_kept, start_kept, wide_kept}
+use Rattle.entry_tables.proofs.WordLemmas.{child_inside, some_most, count_kept, most_kept, head_kept}
+use Rattle.entry_tables.proofs.WordLemmas.{parent_kept, names_kept, sibling_kept, link_kept, first_kept, start_kept}
+use Rattle.entry_tables.proofs.WordLemmas.{wide_kept}
 
 link_late : (kind : EntryKind) → 0x24 ≤ link_offset kind
 link_late Dir = omega arith
@@ -83,7 +85,8 @@ module _ (s : State) (dirs files : TableInfo) (tables : HasEntryTables s.shape d
     Far other f offset m = kind ≡ other → f ≡ e → (offset + m ≤ off) ⊎ (off + n ≤ offset)
 
     run : IsRunIn s.cells dirs files (EntriesOf kind) (entry_place kind (info_of dirs files kind) e + off) n
-    run = entry_run s dirs files tables can kind e off n (entry_place kind (info_of dirs files kind) e + off) below fits refl
+    run = entry_run s dirs files tables can kind e off n (entry_place kind
+        (info_of dirs files kind) e + off) below fits refl
 
     missed : (other : EntryKind) (f offset m : ℕ) → offset + m ≤ entry_size other → Far other f offset m
         → Misses dirs files (EntriesOf kind) (entry_place kind (info_of dirs files kind) e + off) n other f offset m
@@ -287,12 +290,15 @@ module _ (s : State) (dirs files : TableInfo) (tables : HasEntryTables s.shape d
         sibling = with_at e value (table_in s.cells kind (info_of dirs files kind)).sibling;
       }
       mine = fields_same _ _ (record {
-        count = count_is s dirs files tables can kind e 0x14 4 below fits later new soft kind (λ same met. inl (omega arith));
+        count = count_is s dirs files tables can kind e 0x14 4 below fits later new soft kind (λ same met. inl
+            (omega arith));
         most = most_is s dirs files tables can kind e 0x14 4 below fits later new soft kind;
         buckets = refl;
         head = head_is s dirs files tables can kind e 0x14 4 below fits later new soft kind;
-        parent = λ f. parent_is s dirs files tables can kind e 0x14 4 below fits later new soft kind f (λ same met. inl (omega arith));
-        name = λ f. name_is s dirs files tables can kind e 0x14 4 below fits later new soft kind f (λ same met. inl (omega arith));
+        parent = λ f. parent_is s dirs files tables can kind e 0x14 4 below fits later new soft kind f
+            (λ same met. inl (omega arith));
+        name = λ f. name_is s dirs files tables can kind e 0x14 4 below fits later new soft kind f (λ same met. inl
+            (omega arith));
         sibling = λ f. with_at-reads e f value (table_in s.cells kind (info_of dirs files kind)).sibling
             ((table_in new kind (info_of dirs files kind)).sibling f) (λ here. put f here)
             (λ differs. sibling_is s dirs files tables can kind e 0x14 4 below fits later new soft kind f
@@ -307,14 +313,16 @@ module _ (s : State) (dirs files : TableInfo) (tables : HasEntryTables s.shape d
       → tables_in new dirs files ≡ tables_with (tables_in s.cells dirs files) (First kind dir) value
   unfolding Far
   first_set dir has soft is = tables_same _ _
-      (λ other. table_is s dirs files tables can Dir dir (child_offset kind) 4 below fits later new soft other (passes other))
+      (λ other. table_is s dirs files tables can Dir dir (child_offset kind) 4 below fits later new soft other
+      (passes other))
       (λ child. at_kind-reads (λ other f. (d : ℕ) → (tables_in new dirs files).first other d ≡ f d) kind
       (with_at dir value ((tables_in s.cells dirs files).first kind)) (tables_in s.cells dirs files).first
       (λ d. with_at-reads dir d value ((tables_in s.cells dirs files).first kind)
       ((tables_in new dirs files).first kind d) (λ here. put d here)
       (λ differs. first_is s dirs files tables can Dir dir (child_offset kind) 4 below fits later new soft kind d
       (λ same met. absurd (differs met))))
-      (λ other differs d. first_is s dirs files tables can Dir dir (child_offset kind) 4 below fits later new soft other d
+      (λ other differs d. first_is s dirs files tables can Dir dir
+      (child_offset kind) 4 below fits later new soft other d
       (λ same met. child_apart kind other differs)) child)
       (λ f. start_is s dirs files tables can Dir dir (child_offset kind) 4 below fits later new soft f (λ same. (cc)))
       (λ f. wide_is s dirs files tables can Dir dir (child_offset kind) 4 below fits later new soft f (λ same. (cc)))
@@ -329,10 +337,12 @@ module _ (s : State) (dirs files : TableInfo) (tables : HasEntryTables s.shape d
       later zero = inl (omega (arith, child_late kind))
 
       put : (d : ℕ) → d ≡ dir → (tables_in new dirs files).first kind d ≡ value
-      put d here = rw here (field_put s dirs files tables can Dir dir (child_offset kind) 4 below fits later new soft Dir dir
+      put d here = rw here (field_put s dirs files tables can Dir dir
+          (child_offset kind) 4 below fits later new soft Dir dir
           (number_in 4 new (entry_place Dir dirs dir + child_offset kind)) value 0 has is)
 
-      passes : (other : EntryKind) → Passes s dirs files tables can Dir dir (child_offset kind) 4 below fits later new soft other
+      passes : (other : EntryKind) → Passes s dirs files tables can Dir dir
+          (child_offset kind) 4 below fits later new soft other
       passes other = record {
         count = λ same met. inl (omega (arith, child_late kind));
         parent = λ f same met. inl (omega (arith, child_late kind));
@@ -349,8 +359,10 @@ module _ (s : State) (dirs files : TableInfo) (tables : HasEntryTables s.shape d
       (at_kind-reads (λ other t. table_in new other (info_of dirs files other) ≡ t) kind
       (record (table_in s.cells kind (info_of dirs files kind)) { count = value })
       (λ other. table_in s.cells other (info_of dirs files other)) mine
-      (λ other differs. table_is s dirs files tables can kind 0 0 4 below fits later new there other (other_passes s dirs files tables can kind 0 0 4 below fits later new there other differs)))
-      (λ child dir. first_is s dirs files tables can kind 0 0 4 below fits later new there child dir (λ same met. inr (omega (arith, child_late child))))
+      (λ other differs. table_is s dirs files tables can kind 0 0 4 below fits later new there other
+      (other_passes s dirs files tables can kind 0 0 4 below fits later new there other differs)))
+      (λ child dir. first_is s dirs files tables can kind 0 0 4 below fits later new there child dir (λ same met. inr
+      (omega (arith, child_late child))))
       (λ f. start_is s dirs files tables can kind 0 0 4 below fits later new there f (λ same met. inr (omega arith)))
       (λ f. wide_is s dirs files tables can kind 0 0 4 below fits later new there f (λ same met. inr (omega arith)))
     where
@@ -369,7 +381,8 @@ module _ (s : State) (dirs files : TableInfo) (tables : HasEntryTables s.shape d
       later : ◌≡◌ {A = ℕ} 0 0 → (8 ≤ 0) ⊎ (0 + 4 ≤ 4)
       later zero = inr (omega arith)
 
-      mine : table_in new kind (info_of dirs files kind) ≡ record (table_in s.cells kind (info_of dirs files kind)) { count = value }
+      mine : table_in new kind (info_of dirs files kind)
+          ≡ record (table_in s.cells kind (info_of dirs files kind)) { count = value }
       mine = fields_same _ _ (record {
         count = is;
         most = most_is s dirs files tables can kind 0 0 4 below fits later new there kind;
@@ -377,11 +390,15 @@ module _ (s : State) (dirs files : TableInfo) (tables : HasEntryTables s.shape d
         head = head_is s dirs files tables can kind 0 0 4 below fits later new there kind;
         parent = λ f. ⊎_elim
             (λ (zero_is : f ≡ 0). rw zero_is refl)
-            (λ (differs : f ≢ 0). parent_is s dirs files tables can kind 0 0 4 below fits later new there kind f (λ same met. absurd (differs met)))
+            (λ (differs : f ≢ 0). parent_is s dirs files tables can kind 0 0 4 below fits later new there kind f
+            (λ same met. absurd (differs met)))
             (cases_eq f 0);
-        name = λ f. name_is s dirs files tables can kind 0 0 4 below fits later new there kind f (λ same met. inr (omega arith));
-        sibling = λ f. sibling_is s dirs files tables can kind 0 0 4 below fits later new there kind f (λ same met. inr (omega arith));
-        link = λ f. link_is s dirs files tables can kind 0 0 4 below fits later new there kind f (λ same met. inr (omega (arith, link_late kind)));
+        name = λ f. name_is s dirs files tables can kind 0 0 4 below fits later new there kind f (λ same met. inr
+            (omega arith));
+        sibling = λ f. sibling_is s dirs files tables can kind 0 0 4 below fits later new there kind f
+            (λ same met. inr (omega arith));
+        link = λ f. link_is s dirs files tables can kind 0 0 4 below fits later new there kind f (λ same met. inr
+            (omega (arith, link_late kind)));
       })
 
   head_set : (bucket : ℕ) → bucket < (info_of dirs files kind).buckets
@@ -397,14 +414,19 @@ module _ (s : State) (dirs files : TableInfo) (tables : HasEntryTables s.shape d
       (fields_same _ _ (mine kind (with_at bucket value (table_in s.cells kind (info_of dirs files kind)).head)
       (λ b. with_at-reads bucket b value (table_in s.cells kind (info_of dirs files kind)).head
       ((table_in new kind (info_of dirs files kind)).head b) (λ here. put b here)
-      (λ differs. head_kept s dirs files tables can (BucketsOf kind) (bucket_place (info_of dirs files kind) bucket) 4 run new soft quiet kind b (λ same k less met.
+      (λ differs. head_kept s dirs files tables can (BucketsOf kind) (bucket_place
+      (info_of dirs files kind) bucket) 4 run new soft quiet kind b (λ same k less met.
       differs (omega (arith, less, met.0, met.1)))))))
       (λ other differs. fields_same _ _ (mine other (table_in s.cells other (info_of dirs files other)).head
-      (λ b. head_kept s dirs files tables can (BucketsOf kind) (bucket_place (info_of dirs files kind) bucket) 4 run new soft quiet other b
+      (λ b. head_kept s dirs files tables can (BucketsOf kind) (bucket_place
+      (info_of dirs files kind) bucket) 4 run new soft quiet other b
       (λ same. absurd (differs (bucket_same kind other same)))))))
-      (λ child dir. first_kept s dirs files tables can (BucketsOf kind) (bucket_place (info_of dirs files kind) bucket) 4 run new soft quiet child dir (λ same. (cc)))
-      (λ f. start_kept s dirs files tables can (BucketsOf kind) (bucket_place (info_of dirs files kind) bucket) 4 run new soft quiet f (λ same. (cc)))
-      (λ f. wide_kept s dirs files tables can (BucketsOf kind) (bucket_place (info_of dirs files kind) bucket) 4 run new soft quiet f (λ same. (cc)))
+      (λ child dir. first_kept s dirs files tables can (BucketsOf kind) (bucket_place
+      (info_of dirs files kind) bucket) 4 run new soft quiet child dir (λ same. (cc)))
+      (λ f. start_kept s dirs files tables can (BucketsOf kind) (bucket_place
+      (info_of dirs files kind) bucket) 4 run new soft quiet f (λ same. (cc)))
+      (λ f. wide_kept s dirs files tables can (BucketsOf kind) (bucket_place
+      (info_of dirs files kind) bucket) 4 run new soft quiet f (λ same. (cc)))
     where
       run : IsRunIn s.cells dirs files (BucketsOf kind) (bucket_place (info_of dirs files kind) bucket) 4
       run = bucket_run s dirs files tables can kind bucket below
@@ -423,33 +445,44 @@ module _ (s : State) (dirs files : TableInfo) (tables : HasEntryTables s.shape d
           → SameFields (table_in new other (info_of dirs files other))
           (record (table_in s.cells other (info_of dirs files other)) { head = head })
       mine other head heads = record {
-        count = count_kept s dirs files tables can (BucketsOf kind) (bucket_place (info_of dirs files kind) bucket) 4 run new soft other (λ same. (cc));
-        most = most_kept s dirs files tables can (BucketsOf kind) (bucket_place (info_of dirs files kind) bucket) 4 run new soft quiet other;
+        count = count_kept s dirs files tables can (BucketsOf kind) (bucket_place
+            (info_of dirs files kind) bucket) 4 run new soft other (λ same. (cc));
+        most = most_kept s dirs files tables can (BucketsOf kind) (bucket_place
+            (info_of dirs files kind) bucket) 4 run new soft quiet other;
         buckets = refl;
         head = heads;
-        parent = λ f. parent_kept s dirs files tables can (BucketsOf kind) (bucket_place (info_of dirs files kind) bucket) 4 run new soft quiet other f (λ same. (cc));
-        name = λ f. names_kept s dirs files tables can (BucketsOf kind) (bucket_place (info_of dirs files kind) bucket) 4 run new soft quiet other f (λ same. (cc));
-        sibling = λ f. sibling_kept s dirs files tables can (BucketsOf kind) (bucket_place (info_of dirs files kind) bucket) 4 run new soft quiet other f (λ same. (cc));
-        link = λ f. link_kept s dirs files tables can (BucketsOf kind) (bucket_place (info_of dirs files kind) bucket) 4 run new soft quiet other f (λ same. (cc));
+        parent = λ f. parent_kept s dirs files tables can (BucketsOf kind) (bucket_place
+            (info_of dirs files kind) bucket) 4 run new soft quiet other f (λ same. (cc));
+        name = λ f. names_kept s dirs files tables can (BucketsOf kind) (bucket_place
+            (info_of dirs files kind) bucket) 4 run new soft quiet other f (λ same. (cc));
+        sibling = λ f. sibling_kept s dirs files tables can (BucketsOf kind) (bucket_place
+            (info_of dirs files kind) bucket) 4 run new soft quiet other f (λ same. (cc));
+        link = λ f. link_kept s dirs files tables can (BucketsOf kind) (bucket_place
+            (info_of dirs files kind) bucket) 4 run new soft quiet other f (λ same. (cc));
       }
 
 -- one put of a word changes that word alone
 pub word_set : (s : State) (dirs files : TableInfo) → HasEntryTables s.shape dirs files
     → CanChangeTables s dirs files → (value : ℕ) (new : ℕ → Cell) (word : Word)
     → HasWord (tables_in s.cells dirs files) word
-    → ChangesWithin s (IsWithin (word_place dirs files word) 4) new → number_in 4 new (word_place dirs files word) ≡ value
+    → ChangesWithin s (IsWithin (word_place dirs files word) 4) new
+    → number_in 4 new (word_place dirs files word) ≡ value
     → tables_in new dirs files ≡ tables_with (tables_in s.cells dirs files) word value
-word_set s dirs files tables can value new (Head kind bucket) has = head_set s dirs files tables can kind value new bucket has
+word_set s dirs files tables can value new (Head kind bucket) has = head_set s dirs files tables can kind value new
+    bucket has
 word_set s dirs files tables can value new (Link kind e) has = link_set s dirs files tables can kind value new e has
-word_set s dirs files tables can value new (Sibling kind e) has = sibling_set s dirs files tables can kind value new e has
-word_set s dirs files tables can value new (First kind dir) has = first_set s dirs files tables can kind value new dir has
+word_set s dirs files tables can value new (Sibling kind e) has = sibling_set s dirs files tables can kind value new e
+    has
+word_set s dirs files tables can value new (First kind dir) has = first_set s dirs files tables can kind value new dir
+    has
 word_set s dirs files tables can value new (Count kind) has = count_set s dirs files tables can kind value new
 
 -- and one of a file's fields changes these alone
 pub fields_set : (s : State) (dirs files : TableInfo) (tables : HasEntryTables s.shape dirs files)
     (can : CanChangeTables s dirs files) (new : ℕ → Cell) (e start wide : ℕ) → HasEntry (table_in s.cells File files) e
     → ChangesWithin s (IsWithin (entry_place File files e + 0x1C) 12) new
-    → number_in 4 new (entry_place File files e + 0x1C) ≡ start → number_in 8 new (entry_place File files e + 0x20) ≡ wide
+    → number_in 4 new (entry_place File files e + 0x1C) ≡ start
+    → number_in 8 new (entry_place File files e + 0x20) ≡ wide
     → tables_in new dirs files ≡ with_fields (tables_in s.cells dirs files) e start wide
 unfolding Far
 fields_set s dirs files tables can new e start wide has soft start_there wide_there = tables_same _ _
@@ -457,10 +490,12 @@ fields_set s dirs files tables can new e start wide has soft start_there wide_th
     (λ child dir. first_is s dirs files tables can File e 0x1C 12 below fits later new soft child dir (λ same. (cc)))
     (λ f. with_at-reads e f start (tables_in s.cells dirs files).start ((tables_in new dirs files).start f)
     (λ here. put_start f here)
-    (λ differs. start_is s dirs files tables can File e 0x1C 12 below fits later new soft f (λ same met. absurd (differs met))))
+    (λ differs. start_is s dirs files tables can File e 0x1C 12 below fits later new soft f (λ same met. absurd
+    (differs met))))
     (λ f. with_at-reads e f wide (tables_in s.cells dirs files).wide ((tables_in new dirs files).wide f)
     (λ here. put_wide f here)
-    (λ differs. wide_is s dirs files tables can File e 0x1C 12 below fits later new soft f (λ same met. absurd (differs met))))
+    (λ differs. wide_is s dirs files tables can File e 0x1C 12 below fits later new soft f (λ same met. absurd
+    (differs met))))
   where
     below : e < most_in s.cells files
     below = has.below
@@ -488,8 +523,8 @@ fields_set s dirs files tables can new e start wide has soft start_there wide_th
       link = λ f same met. inr (subst (λ (k : EntryKind). 0x28 ≤ link_offset k) same (omega arith));
     }
 
--- no word but a count changes how many entries there are
-most_with : (t : Tables) (word : Word) (value : ℕ) (kind : EntryKind)
+-- no word changes how many entries there can be
+pub most_with : (t : Tables) (word : Word) (value : ℕ) (kind : EntryKind)
     → ((tables_with t word value).table kind).most ≡ (t.table kind).most
 most_with t (Head Dir bucket) value Dir = refl
 most_with t (Head Dir bucket) value File = refl
@@ -508,6 +543,27 @@ most_with t (Count Dir) value Dir = refl
 most_with t (Count Dir) value File = refl
 most_with t (Count File) value Dir = refl
 most_with t (Count File) value File = refl
+
+-- nor how many buckets
+pub buckets_with : (t : Tables) (word : Word) (value : ℕ) (kind : EntryKind)
+    → ((tables_with t word value).table kind).buckets ≡ (t.table kind).buckets
+buckets_with t (Head Dir bucket) value Dir = refl
+buckets_with t (Head Dir bucket) value File = refl
+buckets_with t (Head File bucket) value Dir = refl
+buckets_with t (Head File bucket) value File = refl
+buckets_with t (Link Dir e) value Dir = refl
+buckets_with t (Link Dir e) value File = refl
+buckets_with t (Link File e) value Dir = refl
+buckets_with t (Link File e) value File = refl
+buckets_with t (Sibling Dir e) value Dir = refl
+buckets_with t (Sibling Dir e) value File = refl
+buckets_with t (Sibling File e) value Dir = refl
+buckets_with t (Sibling File e) value File = refl
+buckets_with t (First other dir) value kind = refl
+buckets_with t (Count Dir) value Dir = refl
+buckets_with t (Count Dir) value File = refl
+buckets_with t (Count File) value Dir = refl
+buckets_with t (Count File) value File = refl
 
 -- and a count lies between its bounds
 count_with : (t : Tables) (word : Word) (value : ℕ) → IsBounded t word value → (kind : EntryKind)
@@ -546,15 +602,24 @@ pub record IsCounted (count : ℕ) (kind : EntryKind) (most : ℕ) : Type 0 wher
 module _ (s : State) (dirs files : TableInfo) (tables : HasEntryTables s.shape dirs files)
     (can : CanChangeTables s dirs files) where
   -- a word lies in an area
-  word_run : (word : Word) → HasWord (tables_in s.cells dirs files) word
+  pub word_run : (word : Word) → HasWord (tables_in s.cells dirs files) word
       → (area : Area) × IsRunIn s.cells dirs files area (word_place dirs files word) 4
   word_run (Head kind bucket) has = (BucketsOf kind, bucket_run s dirs files tables can kind bucket has)
-  word_run (Link kind e) has =
-      (EntriesOf kind, entry_run s dirs files tables can kind e (link_offset kind) 4 _ has (omega (arith, link_last kind)) refl)
-  word_run (Sibling kind e) has =
-      (EntriesOf kind, entry_run s dirs files tables can kind e 0x14 4 _ has.below (omega (arith, entry_long kind)) refl)
-  word_run (First kind dir) has =
-      (EntriesOf Dir, entry_run s dirs files tables can Dir dir (child_offset kind) 4 _ has.below (child_inside kind) refl)
+  word_run (Link kind e) has = (
+    EntriesOf kind,
+    entry_run s dirs files tables can kind e (link_offset kind) 4 _ has (omega
+        (arith, link_last kind)) refl,
+  )
+  word_run (Sibling kind e) has = (
+    EntriesOf kind,
+    entry_run s dirs files tables can kind e 0x14 4 _ has.below (omega
+        (arith, entry_long kind)) refl,
+  )
+  word_run (First kind dir) has = (
+    EntriesOf Dir,
+    entry_run s dirs files tables can Dir dir (child_offset kind) 4 _ has.below
+        (child_inside kind) refl,
+  )
   word_run (Count kind) has = (
     EntriesOf kind,
     entry_run s dirs files tables can kind 0 0 4 _ (some_most s dirs files tables can kind)
@@ -562,7 +627,8 @@ module _ (s : State) (dirs files : TableInfo) (tables : HasEntryTables s.shape d
   )
 
   -- so it may be put
-  pub word_can_put : (word : Word) → HasWord (tables_in s.cells dirs files) word → CanPut s (word_place dirs files word) 4
+  pub word_can_put : (word : Word) → HasWord (tables_in s.cells dirs files) word
+      → CanPut s (word_place dirs files word) 4
   word_can_put word has =
       let lies = word_run word has in
       can_put_run s dirs files tables can lies.0 (word_place dirs files word) 4 lies.1
@@ -576,7 +642,7 @@ module _ (s : State) (dirs files : TableInfo) (tables : HasEntryTables s.shape d
   word_fits (Count kind) has = tt
 
   zero_place : (kind : EntryKind) (k : ℕ) → k < 8
-      → IsPlaceIn s.cells dirs files (EntriesOf kind) ((info_of dirs files kind).table_at + k)
+      → IsAreaPlace s.cells dirs files (EntriesOf kind) ((info_of dirs files kind).table_at + k)
   zero_place kind k less = (
     0,
     some_most s dirs files tables can kind,
@@ -590,17 +656,20 @@ module _ (s : State) (dirs files : TableInfo) (tables : HasEntryTables s.shape d
       → IsRunIn s.cells dirs files (EntriesOf File) (entry_place File files e + 0x1C) 12
   fields_run e has = entry_run s dirs files tables can File e 0x1C 12 _ has.below (omega arith) refl
 
-  pub fields_can_put : (e : ℕ) → HasEntry (table_in s.cells File files) e → CanPut s (entry_place File files e + 0x1C) 12
+  pub fields_can_put : (e : ℕ) → HasEntry (table_in s.cells File files) e
+      → CanPut s (entry_place File files e + 0x1C) 12
   fields_can_put e has =
       can_put_run s dirs files tables can (EntriesOf File) (entry_place File files e + 0x1C) 12 (fields_run e has)
 
   -- after bytes were put into an area, which left the mosts and the counts between their bounds
   module _ (t : State) (done : SameSpaceDone s t) (area : Area) (at n : ℕ) (run : IsRunIn s.cells dirs files area at n)
       (soft : ChangesWithin s (IsWithin at n) t.cells) (bytes : (k : ℕ) → k < n → IsByte (t.cells (at + k)))
-      (most : (kind : EntryKind) → most_in t.cells (info_of dirs files kind) ≡ most_in s.cells (info_of dirs files kind))
+      (most : (kind : EntryKind) → most_in t.cells (info_of dirs files kind)
+      ≡ most_in s.cells (info_of dirs files kind))
       (counted : (kind : EntryKind) → IsCounted (table_in t.cells kind (info_of dirs files kind)).count kind
       (most_in s.cells (info_of dirs files kind))) where
-    same_places : (other : Area) (x : ℕ) → IsPlaceIn t.cells dirs files other x → IsPlaceIn s.cells dirs files other x
+    same_places : (other : Area) (x : ℕ) → IsAreaPlace t.cells dirs files other x
+        → IsAreaPlace s.cells dirs files other x
     same_places (EntriesOf kind) x (e, below, within) = (e, omega (arith, below, most kind), within)
     same_places (BucketsOf kind) x within = within
 
@@ -633,7 +702,8 @@ module _ (s : State) (dirs files : TableInfo) (tables : HasEntryTables s.shape d
           done.twins.is_fixed x (place_below s dirs files tables can other x was) ∙ can.free other x was);
     }
 
-  module _ (t : State) (word : Word) (value : ℕ) (has : HasWord (tables_in s.cells dirs files) word) (done : SameSpaceDone s t)
+  module _ (t : State) (word : Word) (value : ℕ) (has : HasWord (tables_in s.cells dirs files) word)
+      (done : SameSpaceDone s t)
       (soft : ChangesWithin s (IsWithin (word_place dirs files word) 4) t.cells)
       (bytes : (k : ℕ) → k < 4 → IsByte (t.cells (word_place dirs files word + k)))
       (put : tables_in t.cells dirs files ≡ tables_with (tables_in s.cells dirs files) word value) where
@@ -653,7 +723,8 @@ module _ (s : State) (dirs files : TableInfo) (tables : HasEntryTables s.shape d
       can = λ bounded.
           (let lies = word_run word has in
           still t done lies.0 (word_place dirs files word) 4 lies.1 soft bytes
-          (λ kind. ap (λ (t : Tables). (t.table kind).most) put ∙ most_with (tables_in s.cells dirs files) word value kind)
+          (λ kind. ap (λ (t : Tables). (t.table kind).most) put
+          ∙ most_with (tables_in s.cells dirs files) word value kind)
           (count_still bounded));
     }
 
@@ -683,7 +754,8 @@ module _ (s : State) (dirs files : TableInfo) (tables : HasEntryTables s.shape d
       → UnlessDisk refusal (ChangesWithin s (IsWithin (word_place dirs files word) 4) t.cells)
       → IfDone refusal (IsWordSet s t dirs files word value)
   word_done P p t word value None has space is bytes soft =
-      word_is_set t word value has (record { shape = space.shape; told = space.told p; twins = space.twins p }) soft bytes
+      word_is_set t word value has (record { shape = space.shape; told = space.told p; twins = space.twins p }) soft
+      bytes
       (word_set s dirs files tables can value t.cells word has soft is)
   word_done P p t word value (Some bad) has space is bytes soft = tt
 
@@ -696,7 +768,8 @@ module _ (s : State) (dirs files : TableInfo) (tables : HasEntryTables s.shape d
       → IfDone refusal (AreFieldsSet s t dirs files e start wide)
   fields_done P p t e start wide None has space start_is wide_is bytes soft =
       let place : entry_place File files e + 0x1C + 4 ≡ entry_place File files e + 0x20 = omega arith in
-      fields_are_set t e start wide has (record { shape = space.shape; told = space.told p; twins = space.twins p }) soft
+      fields_are_set t e start wide has (record { shape = space.shape; told = space.told p; twins = space.twins p })
+      soft
       bytes start_is (rw place at wide_is)
   fields_done P p t e start wide (Some bad) has space start_is wide_is bytes soft = tt
 
@@ -712,3 +785,16 @@ pub word_outside : (s : State) (dirs files : TableInfo) (word : Word) (len : ℕ
     → ¬ (CanChangeTables s dirs files × HasWord (tables_in s.cells dirs files) word)
 word_outside s dirs files word len tables long outside (can, has) =
     outside (rw long (word_fits s dirs files tables can word has))
+
+-- a word that was read is the one of the tables
+pub word_read : (cells : ℕ → Cell) (dirs files : TableInfo) (word : Word) → HasWord (tables_in cells dirs files) word
+    → number_in 4 cells (word_place dirs files word) ≡ word_of (tables_in cells dirs files) word
+word_read cells dirs files (Head kind bucket) has = head_there cells kind (info_of dirs files kind) bucket has
+word_read cells dirs files (Link kind e) has = link_there cells kind (info_of dirs files kind) e has
+word_read cells dirs files (Sibling kind e) has =
+    sym (field_there (table_in cells kind (info_of dirs files kind)) e
+    (number_in 4 cells (entry_place kind (info_of dirs files kind) e + 0x14)) 0 has)
+word_read cells dirs files (First kind dir) has =
+    sym (field_there (table_in cells Dir dirs) dir (number_in 4 cells
+    (entry_place Dir dirs dir + child_offset kind)) 0 has)
+word_read cells dirs files (Count kind) has = refl

@@ -1,14 +1,15 @@
 -- What stands in tables and buckets after some of their bytes were put.
-use Rattle.std.proofs.Common.{◌≡◌, ◌≢◌, ◌⊎◌, ℕ, zero, suc, ◌+◌, ◌-◌, ◌*◌, ◌<◌, ◌≤◌, List, length, get_or, refl, sym, ◌∙◌, ap, arith, add-zero, ⊎_elim}
+use Rattle.std.proofs.Common.{◌≡◌, ◌⊎◌, ℕ, zero, suc, ◌+◌, ◌-◌, ◌*◌, ◌<◌, ◌≤◌, List, length, refl, sym, ◌∙◌, ap}
+use Rattle.std.proofs.Common.{arith, add-zero, ⊎_elim}
 use Rattle.std.proofs.Common.{◌++◌, take, drop, length-append, length-take-le}
 use Rattle.save_bytes.proofs.FieldLemmas.{number_at-append, number_at-take}
 use Rattle.std.proofs.Math.Nat.{add-suc, suc-add}
 use Rattle.std.proofs.lemmas.Bool.{cases_lt}
 use Rattle.save_bytes.specs.Fields.{number_at, with_bytes}
-use Rattle.save_bytes.specs.Cells.{Cell, Byte, Blank, Spoilt, IsByte}
+use Rattle.save_bytes.specs.Cells.{Cell, Byte, Blank, Spoilt, IsByte, IsUnspoilt}
 use Rattle.save_bytes.specs.CellNumbers.{value_of, bytes_in, number_in}
 use Rattle.save_bytes.specs.State.{State, CanPut}
-use Rattle.save_bytes.specs.Puts.{HasPut}
+use Rattle.save_bytes.specs.Puts.{IsDeeper, HasPut}
 use Rattle.save_bytes.specs.Writes.{IsWithin}
 use Rattle.save_bytes.specs.Within.{MaySoften, ChangesWithin}
 use Rattle.save_bytes.proofs.CellLemmas.{number_in-is}
@@ -20,7 +21,7 @@ use Rattle.entry_tables.specs.Kinds.{entry_size}
 use Rattle.entry_tables.specs.Tables.{most_in, entry_place, bucket_place, info_of}
 use Rattle.entry_tables.specs.Layout.{HasEntryTables}
 use Rattle.entry_tables.proofs.ByteLemmas.{field_is}
-use Rattle.entry_tables.specs.Changes.{Area, EntriesOf, BucketsOf, IsPlaceIn, CanChangeTables}
+use Rattle.entry_tables.specs.Changes.{Area, EntriesOf, BucketsOf, IsAreaPlace, CanChangeTables}
 
 -- the same values give the same bytes
 pub bytes_in-values : (one other : ℕ → Cell) (at n : ℕ)
@@ -55,12 +56,12 @@ bucket_same kind other same = ap kind_of same
 
 -- a run of bytes lies in an area, and where another does there too, they do not meet
 pub record IsRunIn (cells : ℕ → Cell) (dirs files : TableInfo) (area : Area) (at n : ℕ) : Type 0 where
-  pub inside : (k : ℕ) → k < n → IsPlaceIn cells dirs files area (at + k)
+  pub inside : (k : ℕ) → k < n → IsAreaPlace cells dirs files area (at + k)
 
 module _ (s : State) (dirs files : TableInfo) (tables : HasEntryTables s.shape dirs files)
     (can : CanChangeTables s dirs files) where
   -- places of tables lie in the space
-  pub place_below : (area : Area) (x : ℕ) → IsPlaceIn s.cells dirs files area x → x < s.shape.size
+  pub place_below : (area : Area) (x : ℕ) → IsAreaPlace s.cells dirs files area x → x < s.shape.size
   place_below (EntriesOf kind) x (e, below, within) =
       omega (arith, within.before, (can.tells kind).entries (can.counts kind) e below)
   place_below (BucketsOf kind) x within = omega (arith, within.before, (tables kind).buckets)
@@ -92,7 +93,7 @@ module _ (s : State) (dirs files : TableInfo) (tables : HasEntryTables s.shape d
 
     module _ (new : ℕ → Cell) (soft : ChangesWithin s (IsWithin at n) new) where
       -- a place elsewhere has the same value
-      pub value_kept : (other : Area) (x : ℕ) → IsPlaceIn s.cells dirs files other x
+      pub value_kept : (other : Area) (x : ℕ) → IsAreaPlace s.cells dirs files other x
           → (area ≡ other → ¬ IsWithin at n x) → value_of (new x) ≡ value_of (s.cells x)
       value_kept other x place misses =
           value_softens (s.cells x) (new x)
@@ -103,7 +104,8 @@ module _ (s : State) (dirs files : TableInfo) (tables : HasEntryTables s.shape d
           misses is.0 (rw is.1 at within))))
 
       pub bytes_kept : (other : Area) (place m : ℕ) → IsRunIn s.cells dirs files other place m
-          → (area ≡ other → (k : ℕ) → k < m → ¬ IsWithin at n (place + k)) → bytes_in new place m ≡ bytes_in s.cells place m
+          → (area ≡ other → (k : ℕ) → k < m → ¬ IsWithin at n (place + k))
+          → bytes_in new place m ≡ bytes_in s.cells place m
       bytes_kept other place m lies misses =
           bytes_in-values new s.cells place m
           (λ k less. value_kept other (place + k) (lies.inside k less) (λ same. misses same k less))
@@ -131,7 +133,8 @@ number_put s at bytes new n value fits long is put =
     sym (number_in-is n new at bytes long (λ k less. put.written (at + k) k (omega (arith, less, fits)) less refl)) ∙ is
 
 pub field_put_at : (s : State) (at : ℕ) (bytes : List ℕ) (new : ℕ → Cell) (n offset value : ℕ)
-    → at + length bytes ≤ s.shape.size → offset + n ≤ length bytes → number_at n bytes offset ≡ value → HasPut s at bytes new
+    → at + length bytes ≤ s.shape.size → offset + n ≤ length bytes → number_at n bytes offset ≡ value
+    → HasPut s at bytes new
     → number_in n new (at + offset) ≡ value
 field_put_at s at bytes new n offset value fits inside is put =
     sym (field_is n new at offset (at + offset) bytes
@@ -148,22 +151,41 @@ byte_softens (Byte value) new is soft = rw soft tt
 byte_softens (Blank part level block) new is soft = absurd is
 byte_softens (Spoilt part level block) new is soft = absurd is
 
+unspoilt_byte : (cell : Cell) → IsByte cell → IsUnspoilt cell
+unspoilt_byte (Byte value) is = tt
+unspoilt_byte (Blank part level block) is = tt
+unspoilt_byte (Spoilt part level block) is = is
+
+unspoilt_softens : (cell new : Cell) → IsUnspoilt cell → MaySoften cell new → IsUnspoilt new
+unspoilt_softens (Byte value) new is soft = rw soft tt
+unspoilt_softens (Blank part level block) new is soft =
+    ⊎_elim
+    (λ (same : new ≡ Blank part level block). rw same tt)
+    (λ (other : (new ≡ Byte 0) ⊎ IsDeeper part level new). ⊎_elim
+    (λ (zero_byte : new ≡ Byte 0). rw zero_byte tt)
+    (λ (more : IsDeeper part level new). rw more.3 tt) other)
+    soft
+unspoilt_softens (Spoilt part level block) new is soft = absurd is
+
 module _ (s : State) (dirs files : TableInfo) (tables : HasEntryTables s.shape dirs files)
     (can : CanChangeTables s dirs files) (area : Area) (at n : ℕ) (run : IsRunIn s.cells dirs files area at n)
     (new : ℕ → Cell) (soft : ChangesWithin s (IsWithin at n) new)
     (written : (k : ℕ) → k < n → IsByte (new (at + k))) where
-  kept_byte : (other : Area) (x : ℕ) → IsPlaceIn s.cells dirs files other x → ¬ IsWithin at n x → IsByte (s.cells x)
-      → IsByte (new x)
-  kept_byte other x place out is =
-      byte_softens (s.cells x) (new x) is
-      (soft x (place_below s dirs files tables can other x place) (λ (y, below, within, same).
+  softened : (other : Area) (x : ℕ) → IsAreaPlace s.cells dirs files other x → ¬ IsWithin at n x
+      → MaySoften (s.cells x) (new x)
+  softened other x place out =
+      soft x (place_below s dirs files tables can other x place) (λ (y, below, within, same).
       (let there : at + (y - at) ≡ y = omega (arith, within.0) in
       let here = can.apart area other y x
       (rw there at (run.inside (y - at) (omega (arith, within.0, within.1)))) place (sym same) in
-      out (rw here.1 at within))))
+      out (rw here.1 at within)))
+
+  kept_byte : (other : Area) (x : ℕ) → IsAreaPlace s.cells dirs files other x → ¬ IsWithin at n x → IsByte (s.cells x)
+      → IsByte (new x)
+  kept_byte other x place out is = byte_softens (s.cells x) (new x) is (softened other x place out)
 
   -- a byte of the tables is one still
-  pub still_byte : (other : Area) (x : ℕ) → IsPlaceIn s.cells dirs files other x → IsByte (s.cells x) → IsByte (new x)
+  pub still_byte : (other : Area) (x : ℕ) → IsAreaPlace s.cells dirs files other x → IsByte (s.cells x) → IsByte (new x)
   still_byte other x place is =
       ⊎_elim
       (λ (before : x < at). kept_byte other x place (λ within. omega (arith, before, within.0)) is)
@@ -172,5 +194,21 @@ module _ (s : State) (dirs files : TableInfo) (tables : HasEntryTables s.shape d
       let there : at + (x - at) ≡ x = omega (arith, from) in
       rw there at (written (x - at) (omega (arith, from, inside))))
       (λ (behind : at + n ≤ x). kept_byte other x place (λ within. omega (arith, behind, within.1)) is)
+      (cases_lt x (at + n)))
+      (cases_lt x at)
+
+  -- and what is not spoilt is not spoilt now
+  pub still_unspoilt : (other : Area) (x : ℕ) → IsAreaPlace s.cells dirs files other x → IsUnspoilt (s.cells x)
+      → IsUnspoilt (new x)
+  still_unspoilt other x place is =
+      ⊎_elim
+      (λ (before : x < at).
+      unspoilt_softens (s.cells x) (new x) is (softened other x place (λ within. omega (arith, before, within.0))))
+      (λ (from : at ≤ x). ⊎_elim
+      (λ (inside : x < at + n).
+      let there : at + (x - at) ≡ x = omega (arith, from) in
+      unspoilt_byte (new x) (rw there at (written (x - at) (omega (arith, from, inside)))))
+      (λ (behind : at + n ≤ x).
+      unspoilt_softens (s.cells x) (new x) is (softened other x place (λ within. omega (arith, behind, within.1))))
       (cases_lt x (at + n)))
       (cases_lt x at)

@@ -1,8 +1,8 @@
 -- What one word more does to tables: that word alone is another.
-use Rattle.std.proofs.Common.{◌≡◌, ◌≢◌, ◌⊎◌, ℕ, ◌+◌, ◌*◌, ◌<◌, ◌≤◌, ◌==◌, nat_lt, Bool, true, false, if◌then◌else◌, List, []}
-use Rattle.std.proofs.Common.{length, refl, sym, ◌∙◌, ap, subst, arith, inl, inr, ⊎_elim}
+use Rattle.std.proofs.Common.{◌≡◌, ◌≢◌, ℕ, ◌+◌, ◌<◌, ◌≤◌, nat_lt, Bool, true, false, if◌then◌else◌, []}
+use Rattle.std.proofs.Common.{refl, sym, arith, ⊎_elim}
 use Rattle.std.proofs.Math.Path.{fun_ext}
-use Rattle.std.proofs.lemmas.Bool.{cases_eq, ltb-true, lt-ltb, cond-true, eq-eqb, ne_eqb, and_parts}
+use Rattle.std.proofs.lemmas.Bool.{cases_eq, ltb-true, eq-eqb, ne_eqb, and_parts}
 use Rattle.save_bytes.specs.Cells.{Cell}
 use Rattle.save_bytes.specs.CellNumbers.{bytes_in, number_in}
 use Rattle.save_bytes.specs.State.{State}
@@ -11,16 +11,14 @@ use Rattle.save_bytes.specs.Within.{ChangesWithin}
 use Rattle.entry_tables.specs.declared.table.EntryKind.{EntryKind}
 use Rattle.entry_tables.specs.declared.table.EntryKind.TheVariants.{Dir, File}
 use Rattle.entry_tables.specs.declared.table.TableInfo.{TableInfo}
-use Rattle.entry_tables.specs.declared.word.Word.{Word}
-use Rattle.entry_tables.specs.declared.word.Word.TheVariants.{Head, Link, Sibling, First, Count}
 use Rattle.entry_tables.specs.Kinds.{entry_size, link_offset, child_offset}
-use Rattle.entry_tables.specs.Tables.{Table, HasEntry, Tables, most_in, is_entry, entry_place, bucket_place, table_in}
+use Rattle.entry_tables.specs.Tables.{Table, Tables, most_in, is_entry, entry_place, bucket_place, table_in}
 use Rattle.entry_tables.specs.Tables.{info_of, tables_in}
 use Rattle.entry_tables.specs.Layout.{HasEntryTables}
-use Rattle.entry_tables.specs.Words.{with_at, at_kind, HasWord, tables_with, with_fields, word_place}
-use Rattle.entry_tables.specs.Changes.{Area, EntriesOf, BucketsOf, IsPlaceIn, CanChangeTables}
+use Rattle.entry_tables.specs.Words.{with_at, at_kind}
+use Rattle.entry_tables.specs.Changes.{Area, EntriesOf, BucketsOf, CanChangeTables}
 use Rattle.entry_tables.proofs.EntryLemmas.{link_last, entry_long, least_some}
-use Rattle.entry_tables.proofs.ValueLemmas.{IsRunIn, entry_run, bucket_run, number_kept, bytes_kept, same_spot, kind_same, bucket_same}
+use Rattle.entry_tables.proofs.ValueLemmas.{IsRunIn, entry_run, bucket_run, number_kept, bytes_kept}
 
 -- two tables have the same fields
 pub record SameFields (one other : Table) : Type 0 where
@@ -138,7 +136,8 @@ module _ (s : State) (dirs files : TableInfo) (tables : HasEntryTables s.shape d
         (omega arith) misses
 
     module _ (quiet : (kind : EntryKind) → Misses dirs files area at n kind 0 4 4) where
-      pub most_kept : (kind : EntryKind) → most_in new (info_of dirs files kind) ≡ most_in s.cells (info_of dirs files kind)
+      pub most_kept : (kind : EntryKind) → most_in new (info_of dirs files kind)
+          ≡ most_in s.cells (info_of dirs files kind)
       most_kept kind =
           part_kept kind 0 4 4 ((info_of dirs files kind).table_at + 4) (some_most kind)
           (omega (arith, entry_long kind)) (omega arith) (quiet kind)
@@ -154,7 +153,8 @@ module _ (s : State) (dirs files : TableInfo) (tables : HasEntryTables s.shape d
           (λ here. same (entry_below kind e here)))
 
       pub head_kept : (kind : EntryKind) (b : ℕ) → HeadMisses dirs files area at n kind b
-          → (table_in new kind (info_of dirs files kind)).head b ≡ (table_in s.cells kind (info_of dirs files kind)).head b
+          → (table_in new kind (info_of dirs files kind)).head b
+          ≡ (table_in s.cells kind (info_of dirs files kind)).head b
       head_kept kind b misses =
           read_same (nat_lt b (info_of dirs files kind).buckets) 0
           (number_in 4 new (bucket_place (info_of dirs files kind) b))
@@ -173,7 +173,8 @@ module _ (s : State) (dirs files : TableInfo) (tables : HasEntryTables s.shape d
           (omega (arith, entry_long kind)) (omega arith) misses)
 
       pub names_kept : (kind : EntryKind) (e : ℕ) → Misses dirs files area at n kind e 4 16
-          → (table_in new kind (info_of dirs files kind)).name e ≡ (table_in s.cells kind (info_of dirs files kind)).name e
+          → (table_in new kind (info_of dirs files kind)).name e
+          ≡ (table_in s.cells kind (info_of dirs files kind)).name e
       names_kept kind e misses =
           field_kept kind e [] (bytes_in new (entry_place kind (info_of dirs files kind) e + 4) 16)
           (bytes_in s.cells (entry_place kind (info_of dirs files kind) e + 4) 16)
@@ -189,13 +190,15 @@ module _ (s : State) (dirs files : TableInfo) (tables : HasEntryTables s.shape d
           (omega (arith, entry_long kind)) refl misses)
 
       pub link_kept : (kind : EntryKind) (e : ℕ) → Misses dirs files area at n kind e (link_offset kind) 4
-          → (table_in new kind (info_of dirs files kind)).link e ≡ (table_in s.cells kind (info_of dirs files kind)).link e
+          → (table_in new kind (info_of dirs files kind)).link e
+          ≡ (table_in s.cells kind (info_of dirs files kind)).link e
       link_kept kind e misses =
           rw (most_kept kind)
           (read_same (nat_lt e (most_in s.cells (info_of dirs files kind))) 0
           (number_in 4 new (entry_place kind (info_of dirs files kind) e + link_offset kind))
           (number_in 4 s.cells (entry_place kind (info_of dirs files kind) e + link_offset kind))
-          (λ here. part_kept kind e (link_offset kind) 4 (entry_place kind (info_of dirs files kind) e + link_offset kind)
+          (λ here. part_kept kind e (link_offset kind) 4 (entry_place kind
+          (info_of dirs files kind) e + link_offset kind)
           (ltb-true e (most_in s.cells (info_of dirs files kind)) here) (omega (arith, link_last kind)) refl misses))
 
       pub first_kept : (kind : EntryKind) (dir : ℕ) → Misses dirs files area at n Dir dir (child_offset kind) 4

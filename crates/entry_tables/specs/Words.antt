@@ -1,12 +1,13 @@
 -- The words of tables and buckets that calls change, and tables in which one of them is another.
-use Rattle.std.specs.Prelude.{ℕ, ◌+◌, ◌*◌, ◌<◌, ◌≤◌, ◌==◌, if◌then◌else◌, ⊤}
+use Rattle.std.specs.Prelude.{ℕ, ◌+◌, ◌*◌, ◌<◌, ◌≤◌, ◌==◌, if◌then◌else◌, List, [], ◌∷◌, ⊤}
 use Rattle.entry_tables.specs.declared.table.EntryKind.{EntryKind}
 use Rattle.entry_tables.specs.declared.table.EntryKind.TheVariants.{Dir, File}
 use Rattle.entry_tables.specs.declared.table.TableInfo.{TableInfo}
+use Rattle.entry_tables.specs.declared.word.Edit.{Edit}
 use Rattle.entry_tables.specs.declared.word.Word.{Word}
 use Rattle.entry_tables.specs.declared.word.Word.TheVariants.{Head, Link, Sibling, First, Count}
 use Rattle.entry_tables.specs.Kinds.{entry_size, link_offset, child_offset}
-use Rattle.entry_tables.specs.Tables.{Table, HasEntry, Tables, entry_place, bucket_place, info_of}
+use Rattle.entry_tables.specs.Tables.{HasEntry, Tables, entry_place, bucket_place, info_of}
 
 -- a function with another value at one number
 abbrev pub with_at : {A : Type 0} → ℕ → A → (ℕ → A) → ℕ → A
@@ -27,16 +28,39 @@ HasWord t (Sibling kind e) = HasEntry (t.table kind) e
 HasWord t (First kind dir) = HasEntry (t.table Dir) dir
 HasWord t (Count kind) = ⊤
 
+-- the number of a word
+abbrev pub word_of : Tables → Word → ℕ
+word_of t (Head kind bucket) = (t.table kind).head bucket
+word_of t (Link kind e) = (t.table kind).link e
+word_of t (Sibling kind e) = (t.table kind).sibling e
+word_of t (First kind dir) = t.first kind dir
+word_of t (Count kind) = (t.table kind).count
+
 -- the tables with another number at a word
 abbrev pub tables_with : Tables → Word → ℕ → Tables
 tables_with t (Head kind bucket) value =
-    record t { table = at_kind kind (record (t.table kind) { head = with_at bucket value (t.table kind).head }) t.table }
+    record t {
+      table = at_kind kind (record (t.table kind) {
+        head = with_at bucket value
+            (t.table kind).head;
+      }) t.table;
+    }
 tables_with t (Link kind e) value =
     record t { table = at_kind kind (record (t.table kind) { link = with_at e value (t.table kind).link }) t.table }
 tables_with t (Sibling kind e) value =
-    record t { table = at_kind kind (record (t.table kind) { sibling = with_at e value (t.table kind).sibling }) t.table }
+    record t {
+      table = at_kind kind (record (t.table kind) {
+        sibling = with_at e value
+            (t.table kind).sibling;
+      }) t.table;
+    }
 tables_with t (First kind dir) value = record t { first = at_kind kind (with_at dir value (t.first kind)) t.first }
 tables_with t (Count kind) value = record t { table = at_kind kind (record (t.table kind) { count = value }) t.table }
+
+-- the tables with other numbers at some words, one after another
+abbrev pub tables_after : Tables → List Edit → Tables
+tables_after t [] = t
+tables_after t (edit ∷ edits) = tables_after (tables_with t edit.word edit.value) edits
 
 -- the tables with other fields of a file's entry
 abbrev pub with_fields : Tables → ℕ → ℕ → ℕ → Tables
@@ -59,6 +83,6 @@ WordFits size dirs files (First kind dir) = entry_place Dir dirs dir + entry_siz
 WordFits size dirs files (Count kind) = ⊤
 
 -- the buckets and entry 0 lie in a space of so many places
-pub record HasRoom (size : ℕ) (kind : EntryKind) (info : TableInfo) : Type 0 where
+pub record HoldsEntryZero (size : ℕ) (kind : EntryKind) (info : TableInfo) : Type 0 where
   pub buckets : info.buckets_at + 4 * info.buckets ≤ size
   pub zero : info.table_at + entry_size kind ≤ size

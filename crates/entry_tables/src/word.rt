@@ -1,12 +1,12 @@
 //! The words of tables and buckets that calls change.
 
-ghost use Rattle.std.specs.Prelude.{◌≡◌, ℕ, ◌+◌, ◌*◌, ◌<◌, ◌≤◌, IfSome, IfNone, IsTrue};
+ghost use Rattle.std.specs.Prelude.{◌≡◌, ℕ, ◌+◌, ◌*◌, ◌<◌, ◌≤◌, IfSome, IfNone, IfOk, IsTrue};
 ghost use Rattle.std.specs.Result.{result_err};
 ghost use Rattle.save_bytes.specs.Cells.{IsByte};
 ghost use Rattle.save_bytes.specs.CellNumbers.{number_in};
 ghost use Rattle.save_bytes.specs.State.{IsWritable, CanPut};
 ghost use Rattle.save_bytes.specs.Refusals.{IfDone, NeverDamaged};
-ghost use Rattle.save_bytes.specs.Answers.{IsReady};
+ghost use Rattle.save_bytes.specs.Answers.{IsRead, IsReady};
 ghost use Rattle.save_bytes.specs.Reads.{Reads};
 ghost use Rattle.save_bytes.specs.Writes.{IsWithin};
 ghost use Rattle.entry_tables.specs.Kinds.{entry_size};
@@ -14,12 +14,12 @@ ghost use Rattle.entry_tables.specs.Tables.{HasEntry, info_of, entry_place, buck
 ghost use Rattle.entry_tables.specs.Layout.{HasEntryTables};
 ghost use Rattle.entry_tables.specs.declared.table.EntryKind.{EntryKind};
 ghost use Rattle.entry_tables.specs.declared.table.EntryKind.TheVariants.{File};
-ghost use Rattle.entry_tables.specs.Words.{HasRoom, HasWord, word_place, WordFits};
-ghost use Rattle.entry_tables.specs.Changes.{CanChangeTables, IsWordSet, AreFieldsSet, ChangesAt};
+ghost use Rattle.entry_tables.specs.Words.{HoldsEntryZero, HasWord, word_of, word_place, WordFits};
+ghost use Rattle.entry_tables.specs.Changes.{CanChangeTables, IsWordSet, CanSetAll, AreSet, IsSite, AreFieldsSet, ChangesAt};
 
 use crate::reads::entry_at;
 use crate::table::{EntryKind, FileFields, TableInfo};
-use save_bytes::{Bad, Space, set_u32, set_u64};
+use save_bytes::{Bad, Space, set_u32, set_u64, space_u32};
 
 /// A word of a table or of its buckets.
 #[derive(Clone, Copy, Debug, PartialEq, Eq)]
@@ -34,6 +34,13 @@ pub enum Word {
     First(EntryKind, u32),
     /// How many entries of a kind were ever used.
     Count(EntryKind),
+}
+
+/// A number for a word.
+#[derive(Clone, Copy, Debug, PartialEq, Eq)]
+pub struct Edit {
+    pub word: Word,
+    pub value: u32,
 }
 
 /// Where a table of two and its buckets stand.
@@ -76,7 +83,7 @@ fn part_at(len: u64, kind: EntryKind, info: TableInfo, entry: u32, offset: u64) 
 
 // Where a word stands in a space of `len` bytes; none where its bucket or its entry does not lie in it.
 fn word_at(len: u64, dirs: TableInfo, files: TableInfo, word: Word) -> Option<u64>
-    requires { (kind : EntryKind) → HasRoom len kind (info_of dirs files kind) }
+    requires { (kind : EntryKind) → HoldsEntryZero len kind (info_of dirs files kind) }
     ensures place { IfSome result (λ at. at ≡ word_place dirs files word) }
     ensures inside { IfSome result (λ at. at + 4 ≤ len) }
     ensures outside { IfNone result (¬ WordFits len dirs files word) }
@@ -138,6 +145,48 @@ pub fn set_word<S: Space>(
         Some(at) => put_number(space, at, value),
         None => Ok(()),
     }
+}
+
+/// The number of a word, and 0 where its bucket or its entry does not lie in the space.
+pub fn read_word<S: Space>(
+    space: &mut S,
+    dirs: TableInfo,
+    files: TableInfo,
+    word: Word,
+) -> Result<u32, Bad>
+    requires { HasEntryTables (S.state space.old).shape dirs files }
+    ensures value { CanChangeTables (S.state space.old) dirs files
+        → HasWord (tables_in (S.state space.old).cells dirs files) word
+        → IfOk result (λ value. value ≡ word_of (tables_in (S.state space.old).cells dirs files) word) }
+    ensures read { WordFits (S.state space.old).shape.size dirs files word
+        → IsRead (S.state space.old) (word_place dirs files word) 4 (result_err result) }
+    ensures plain { IsTrue (S.state space.old).shape.plain → NeverDamaged (result_err result) }
+    ensures reads { Reads S.state S.keeps S.lands space.old space.new (result_err result) }
+{
+    match word_at(space.len(), dirs, files, word) {
+        Some(at) => space_u32(space, at),
+        None => Ok(0),
+    }
+}
+
+/// Puts numbers into words, one after another. Where none of their cells is spoilt only `Disk` can come.
+pub fn set_words<S: Space>(
+    space: &mut S,
+    dirs: TableInfo,
+    files: TableInfo,
+    edits: &[Edit],
+) -> Result<(), Bad>
+    requires { HasEntryTables (S.state space.old).shape dirs files }
+    ensures set { CanSetAll (S.state space.old) dirs files edits.now
+        → IfDone (result_err result) (AreSet (S.state space.old) (S.state space.new) dirs files edits.now) }
+    ensures never { CanSetAll (S.state space.old) dirs files edits.now → NeverDamaged (result_err result) }
+    ensures changes { ChangesAt S.state S.keeps S.lands (CanSetAll (S.state space.old) dirs files edits.now)
+        (IsSite dirs files edits.now) space.old space.new (result_err result) }
+{
+    for edit in edits {
+        set_word(space, dirs, files, edit.word, edit.value)?;
+    }
+    Ok(())
 }
 
 /// Puts a file's first block, and its size or identifier, into its entry. `Damaged` comes exactly where a cell of these

@@ -1,4 +1,4 @@
-use Rattle.std.proofs.Common.{◌≡◌, ℕ, ◌+◌, ◌≤◌, List, [], ◌∷◌, replicate, length, ap, ◌∙◌, add-zero, arith}
+use Rattle.std.proofs.Common.{◌≡◌, ℕ, List, replicate, length, ap, ◌∙◌, add-zero, arith}
 use Rattle.std.specs.Result.{result_err}
 use Rattle.save_bytes.specs.Fields.{number_at}
 use Rattle.save_bytes.proofs.FieldLemmas.{number_at-put}

@@ -1,10 +1,7 @@
-use Rattle.std.proofs.Common.{◌≡◌, ℕ, ◌+◌, ◌≤◌, List, [], ◌∷◌, length, ap, ◌∙◌, arith}
+use Rattle.std.proofs.Common.{◌≡◌, ℕ, List, [], ◌∷◌, length, ap, ◌∙◌, arith}
 use Rattle.save_bytes.specs.Fields.{number_at}
-use Rattle.save_bytes.specs.State.{CanPut}
-use Rattle.save_bytes.specs.Writes.{IsWithin}
 use Rattle.save_bytes.proofs.FieldLemmas.{number_at-put}
 use Rattle.save_bytes.proofs.SpaceLemmas.{IfDone-map}
-use Rattle.entry_tables.specs.Changes.{ChangesAt}
 use Rattle.entry_tables.proofs.ChangeLemmas.{ChangesAt-put}
 use Rattle.entry_tables.proofs.ValueLemmas.{number_put, bytes_put}
 use Rattle.entry_tables.proofs.word.put_number.Goals as goal
@@ -26,7 +23,8 @@ pub returns-clause-changes : goal.returns-clause-changes
 returns-clause-changes g c =
     let space = g.S.Space in
     let long : length c.set_u32.new.bytes ≡ 4 = c.set_u32.auto.bytes in
-    rw long at (ChangesAt-put space.state space.keeps space.lands c.args.space.now c.put.new.self c.args.at c.set_u32.new.bytes
+    rw long at (ChangesAt-put space.state space.keeps space.lands c.args.space.now c.put.new.self c.args.at
+    c.set_u32.new.bytes
     (omega (arith, long, c.requires.inside.inside)) (result_err c.put.result) c.put.ensures.plain c.put.ensures.puts
     c.put.ensures.moves)
 

@@ -1,6 +1,5 @@
-use Rattle.std.proofs.Common.{◌≡◌, ◌+◌, ◌≤◌, subst, arith, ℕ, sym}
+use Rattle.std.proofs.Common.{arith}
 use Rattle.entry_tables.specs.declared.table.EntryKind.TheVariants.{Dir}
-use Rattle.entry_tables.specs.Words.{WordFits}
 use Rattle.entry_tables.proofs.word.ready_word.Goals as goal
 
 pub word_at-requires : goal.word_at-requires

@@ -1,4 +1,4 @@
-use Rattle.std.proofs.Common.{◌≡◌, ◌+◌, ◌≤◌, arith, refl}
+use Rattle.std.proofs.Common.{◌+◌, arith}
 use Rattle.std.specs.Result.{result_err}
 use Rattle.save_bytes.specs.State.{CanPut}
 use Rattle.save_bytes.specs.Writes.{IsWithin}
@@ -27,7 +27,8 @@ returns-in-Some-clause-set g c = λ can has.
     let s = g.S.Space.state c.args.space.now in
     let at = entry_place File c.args.files c.args.entry + 0x1C in
     let can_put = fields_can_put s c.args.dirs c.args.files c.requires can c.args.entry has in
-    fields_done s c.args.dirs c.args.files c.requires can (CanPut s at 12) can_put (g.S.Space.state c.put_fields.new.space)
+    fields_done s c.args.dirs c.args.files c.requires can (CanPut s at 12) can_put
+    (g.S.Space.state c.put_fields.new.space)
     c.args.entry c.args.fields.start c.args.fields.wide (result_err c.put_fields.result) has
     (rw c.in-Some.ensures.place at c.put_fields.ensures.changes).space
     ((rw c.in-Some.ensures.place at c.put_fields.ensures.start) can_put)

@@ -1,4 +1,4 @@
-use Rattle.std.proofs.Common.{◌≡◌, ◌+◌, ◌≤◌, arith}
+use Rattle.std.proofs.Common.{arith}
 use Rattle.std.specs.Result.{result_err}
 use Rattle.save_bytes.specs.State.{CanPut}
 use Rattle.save_bytes.specs.Writes.{IsWithin}
@@ -31,7 +31,8 @@ returns-in-Some-clause-set g c = λ can has.
     let state = g.S.Space.state in
     let s = state c.args.space.now in
     let can_put = word_can_put s c.args.dirs c.args.files c.requires can c.args.word has in
-    word_done s c.args.dirs c.args.files c.requires can (CanPut s (word_place c.args.dirs c.args.files c.args.word) 4) can_put
+    word_done s c.args.dirs c.args.files c.requires can (CanPut s
+    (word_place c.args.dirs c.args.files c.args.word) 4) can_put
     (state c.put_number.new.space) c.args.word c.args.value (result_err c.put_number.result) has
     (rw c.in-Some.ensures.place at c.put_number.ensures.changes).space
     ((rw c.in-Some.ensures.place at c.put_number.ensures.number) can_put)

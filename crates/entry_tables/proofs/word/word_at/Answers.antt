@@ -1,4 +1,4 @@
-use Rattle.std.proofs.Common.{◌≡◌, arith}
+use Rattle.std.proofs.Common.{arith}
 use Rattle.entry_tables.specs.declared.table.EntryKind.TheVariants.{Dir}
 use Rattle.entry_tables.proofs.word.word_at.Goals as goal
 
