@@ -1,0 +1,4 @@
+pub mod CutLemmas
+pub mod RemovedLemmas
+pub mod WalkLemmas
+pub mod WordLemmas

@@ -1,0 +1,4 @@
+pub mod Removed
+pub mod Lacks
+pub mod Lists
+pub mod EntryWords
