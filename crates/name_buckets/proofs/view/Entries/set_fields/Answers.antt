@@ -22,7 +22,8 @@ returns-in_err-set_fields_in-clause-changes g c =
 pub returns-clause-orderly : goal.returns-clause-orderly
 returns-clause-orderly g c = λ can has rules.
     subst (λ (t : Tables). IsOrderly t) (sym (c.in_ok-set_fields_in.ensures.set can has).tables)
-    (fields_orderly (tables_of g.S.Space.state c.args.self.now) c.args.entry c.args.fields.start c.args.fields.wide rules)
+    (fields_orderly (tables_of g.S.Space.state c.args.self.now) c.args.entry c.args.fields.start c.args.fields.wide
+    rules)
 
 pub returns-clause-changes : goal.returns-clause-changes
 returns-clause-changes g c =
