@@ -2,7 +2,9 @@
 #![tactic(auto)]
 
 mod chain;
+mod links;
 mod lists;
+mod words;
 
 pub use chain::Chain;
 pub use chain_nodes::{ChainFault, ChainInfo, Cursor, Run};

@@ -7,3 +7,5 @@ pub mod FrontLemmas
 pub mod SharedLemmas
 pub mod ExactLemmas
 pub mod OwnLemmas
+pub mod DistinctLemmas
+pub mod EditLemmas

@@ -5,23 +5,24 @@ use Rattle.std.proofs.Common.{append_assoc, refl}
 use Rattle.std.specs.List.{range_with_len, Contains}
 use Rattle.std.proofs.lemmas.List.Elements.{Contains-append_left, Contains-append_right}
 use Rattle.std.proofs.lemmas.List.FromFn.{length-range_with_len, get_or-range_with_len}
-use Rattle.save_bytes.specs.Cells.{Cell, IsByte}
+use Rattle.save_bytes.specs.Cells.{Cell}
 use Rattle.chain_nodes.specs.declared.node.Node.{Node}
 use Rattle.chain_nodes.specs.declared.node.Lead.{Lead}
 use Rattle.chain_nodes.specs.declared.node.Lead.TheVariants.{Follows}
 use Rattle.chain_nodes.specs.Table.{word_u, word_v, HasWords}
+use Rattle.chain_nodes.specs.Edits.{KeepsEntry}
 use Rattle.chain_nodes.specs.Chains.{IsLead, IsInner, IsNode, start_of, AreNodes, entries_of, IsLinkedBy}
 use Rattle.chain_nodes.proofs.TableLemmas.{number_in-same}
 
 -- a number of a run
-range_contains : (a n x : ℕ) → a ≤ x → x < a + n → Contains (range_with_len a n) x
+pub range_contains : (a n x : ℕ) → a ≤ x → x < a + n → Contains (range_with_len a n) x
 range_contains a n x from below =
     let k : ℕ = x - a in
     let place : a + k ≡ x = omega arith in
     (k, omega (arith, length-range_with_len a n), get_or-range_with_len a n k x (omega arith) ∙ place)
 
 -- an entry of a node, in a list that begins with the node
-entry_of : (node : Node) (nodes : List Node) (x : ℕ) → node.first ≤ x → x ≤ node.last
+pub entry_of : (node : Node) (nodes : List Node) (x : ℕ) → node.first ≤ x → x ≤ node.last
     → Contains (entries_of (node ∷ nodes)) x
 entry_of node nodes x from up_to =
     let len : ℕ = node.last + 1 - node.first in
@@ -29,24 +30,20 @@ entry_of node nodes x from up_to =
     (omega arith))
 
 module _ (old new : ℕ → ℕ → Cell) where
-  -- the bytes of an entry are the same
-  abbrev pub KeepsWords : ℕ → Type 0
-  KeepsWords entry = (k : ℕ) → k < 8 → IsByte (old entry k) → new entry k ≡ old entry k
-
-  words_read : (entry : ℕ) → KeepsWords entry → HasWords old entry → HasWords new entry
+  pub words_read : (entry : ℕ) → KeepsEntry old new entry → HasWords old entry → HasWords new entry
   words_read entry kept words k less = rw (kept k less (words k less)) (words k less)
 
-  same_u : (entry : ℕ) → KeepsWords entry → HasWords old entry → word_u new entry ≡ word_u old entry
+  pub same_u : (entry : ℕ) → KeepsEntry old new entry → HasWords old entry → word_u new entry ≡ word_u old entry
   same_u entry kept words = number_in-same 4 (new entry) (old entry) 0 0 (λ k less.
       (let none : 0 + k ≡ k = omega arith in
       let small : k < 8 = omega (arith, less) in
       rw none (kept k small (words k small))))
 
-  same_v : (entry : ℕ) → KeepsWords entry → HasWords old entry → word_v new entry ≡ word_v old entry
+  pub same_v : (entry : ℕ) → KeepsEntry old new entry → HasWords old entry → word_v new entry ≡ word_v old entry
   same_v entry kept words = number_in-same 4 (new entry) (old entry) 4 4 (λ k less.
       (let small : 4 + k < 8 = omega (arith, less) in kept (4 + k) small (words (4 + k) small)))
 
-  same_inner : (node : Node) (entry : ℕ) → KeepsWords entry → IsInner old node entry → IsInner new node entry
+  pub same_inner : (node : Node) (entry : ℕ) → KeepsEntry old new entry → IsInner old node entry → IsInner new node entry
   same_inner node entry kept h = record {
     read = words_read entry kept h.read;
     u = same_u entry kept h.read ∙ h.u;
@@ -55,7 +52,7 @@ module _ (old new : ℕ → ℕ → Cell) where
 
   -- a node is one by the words of its own entries
   node_rests : (count : ℕ) (lead : Lead) (node : Node) (next : ℕ)
-      → ((x : ℕ) → node.first ≤ x → x ≤ node.last → KeepsWords x) → IsNode old count lead node next
+      → ((x : ℕ) → node.first ≤ x → x ≤ node.last → KeepsEntry old new x) → IsNode old count lead node next
       → IsNode new count lead node next
   node_rests count lead node next kept h =
       let first = kept node.first (omega arith) h.ordered in
@@ -72,8 +69,8 @@ module _ (old new : ℕ → ℕ → Cell) where
         last = λ more. same_inner node node.last (kept node.last h.ordered (omega arith)) (h.last more);
       }
 
-  nodes_rest : (count : ℕ) (lead : Lead) (nodes : List Node) (next : ℕ)
-      → ((x : ℕ) → Contains (entries_of nodes) x → KeepsWords x) → AreNodes old count lead nodes next
+  pub nodes_rest : (count : ℕ) (lead : Lead) (nodes : List Node) (next : ℕ)
+      → ((x : ℕ) → Contains (entries_of nodes) x → KeepsEntry old new x) → AreNodes old count lead nodes next
       → AreNodes new count lead nodes next
   nodes_rest count lead [] next kept h = tt
   nodes_rest count lead (node ∷ nodes) next kept h = (
@@ -84,7 +81,7 @@ module _ (old new : ℕ → ℕ → Cell) where
   )
 
   -- so is a list
-  pub list_rests : (count : ℕ) (lead : Lead) (first : ℕ) (list : List ℕ) → ((x : ℕ) → Contains list x → KeepsWords x)
+  pub list_rests : (count : ℕ) (lead : Lead) (first : ℕ) (list : List ℕ) → ((x : ℕ) → Contains list x → KeepsEntry old new x)
       → IsLinkedBy old count lead first list → IsLinkedBy new count lead first list
   list_rests count lead first list kept h = record {
     nodes = h.nodes;

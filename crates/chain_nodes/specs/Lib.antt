@@ -3,3 +3,4 @@ pub mod Chains
 pub mod Faults
 pub mod Runs
 pub mod Between
+pub mod Edits
