@@ -3,3 +3,4 @@ pub mod WordLemmas
 pub mod LinkLemmas
 pub mod CutLemmas
 pub mod TakeLemmas
+pub mod PlanLemmas

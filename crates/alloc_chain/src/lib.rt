@@ -4,6 +4,7 @@
 mod chain;
 mod links;
 mod lists;
+mod plan;
 mod words;
 
 pub use chain::Chain;

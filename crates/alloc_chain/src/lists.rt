@@ -16,8 +16,8 @@ use chain_nodes::{
 };
 use save_bytes::Space;
 
-// The first entry of the free list, or 0.
-fn free_first<S: Space>(base: &mut S, info: ChainInfo) -> Result<u32, ChainFault>
+/// The first entry of the free list, or 0.
+pub(crate) fn free_first<S: Space>(base: &mut S, info: ChainInfo) -> Result<u32, ChainFault>
     requires { HasAllocationTable (S.state base.old).shape info }
     ensures first { let table = table_in (S.state base.old).cells info in IsTrue (S.state base.old).told
         → IfOk result (λ first. HasWords table 0 × (first ≡ index_of (word_v table 0))) }

@@ -136,7 +136,7 @@ module _ (table : ℕ → ℕ → Cell) (count : ℕ) (few : count < 2 ^ 31) whe
       }
 
   -- a node stands where a list goes on
-  no_fault_in : (lead : Lead) (rest : List Node) (first entry : ℕ) → AreNodes table count lead rest 0
+  pub no_fault_in : (lead : Lead) (rest : List Node) (first entry : ℕ) → AreNodes table count lead rest 0
       → start_of rest 0 ≡ first → 1 ≤ first → ¬ IsFaulty table count lead first entry
   no_fault_in lead [] first entry h starts some faulty = omega arith
   no_fault_in lead (node ∷ nodes) first entry h starts some faulty =
