@@ -1,6 +1,7 @@
 -- Calls that put into cells of a space, one after another.
-use Rattle.std.proofs.Common.{◌≡◌, ◌≢◌, ◌⊎◌, ℕ, ◌+◌, ◌-◌, ◌*◌, ◌<◌, ◌≤◌, IsTrue, List, [], ◌∷◌, length, slice_index, Option, Some, None, zero, suc, sym, ◌∙◌, ap}
+use Rattle.std.proofs.Common.{◌≡◌, ◌≢◌, ◌⊎◌, ℕ, ◌+◌, ◌-◌, ◌*◌, ◌<◌, ◌≤◌, IsTrue, List, [], ◌∷◌, ◌++◌, length, slice_index, Option, Some, None, zero, suc, sym, ◌∙◌, ap}
 use Rattle.std.proofs.Common.{subst, arith, refl, inl, inr, ⊎_elim}
+use Rattle.std.proofs.lemmas.List.Elements.{Contains-append_left, Contains-append_right}
 use Rattle.std.specs.List.{Contains}
 use Rattle.chain_nodes.specs.declared.info.ChainInfo.{ChainInfo}
 use Rattle.save_bytes.specs.declared.space.Bad.{Bad}
@@ -101,6 +102,13 @@ among_all many x within = within
 -- a list is among a longer one
 pub among_behind : (a : ℕ) (many : List ℕ) → AreAmong many (a ∷ many)
 among_behind a many x (k, within, is) = (suc k, omega (arith, within), is)
+
+-- the parts of a list are among it
+pub among_left : (xs ys : List ℕ) → AreAmong xs (xs ++ ys)
+among_left xs ys x within = Contains-append_left xs ys x within
+
+pub among_right : (xs ys : List ℕ) → AreAmong ys (xs ++ ys)
+among_right xs ys x within = Contains-append_right xs ys x within
 
 -- one number of a list, two, three, or four
 pub among_one : (a : ℕ) (many : List ℕ) → Contains many a → AreAmong (a ∷ []) many

@@ -4,3 +4,4 @@ pub mod LinkLemmas
 pub mod CutLemmas
 pub mod TakeLemmas
 pub mod PlanLemmas
+pub mod SwapLemmas

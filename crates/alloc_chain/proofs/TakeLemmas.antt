@@ -13,7 +13,7 @@ use Rattle.chain_nodes.proofs.DistinctLemmas.{distinct_apart, distinct_left, dis
 use Rattle.chain_nodes.proofs.EditLemmas.{AreNodes-split, ends_of, start_contained, start_read, list_led, nodes_kept, halves, entry_within}
 
 -- nodes one of which is the last begin behind entry 0
-starts_some : (table : ℕ → ℕ → Cell) (count : ℕ) (lead : Lead) (xs : List Node) (node : Node)
+pub starts_some : (table : ℕ → ℕ → Cell) (count : ℕ) (lead : Lead) (xs : List Node) (node : Node)
     → AreNodes table count lead (xs ++ node ∷ []) 0 → start_of (xs ++ node ∷ []) 0 ≢ 0
 starts_some table count lead [] node h none = omega (arith, h.0.starts, none)
 starts_some table count lead (x ∷ xs) node h none = omega (arith, h.0.starts, none)

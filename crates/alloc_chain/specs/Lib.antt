@@ -1,3 +1,4 @@
 pub mod Held
 pub mod Alters
 pub mod Plans
+pub mod Swaps

@@ -1,5 +1,6 @@
 -- What a swap has to know of the old chain and of the free list before it writes.
-use Rattle.std.specs.Prelude.{◌≡◌, ℕ, ◌+◌, ◌*◌, ◌<◌, ◌≤◌, List, [], ◌∷◌, ◌++◌, length, Option, Some, None, Result, Ok, Err, IfSome, ⊤}
+use Rattle.std.specs.Prelude.{◌≡◌, ℕ, ◌+◌, ◌*◌, ◌<◌, ◌≤◌, nat_eq, List, [], ◌∷◌, ◌++◌, length, Option, Some, None, Result, Ok, Err, IfSome, ⊤}
+use Rattle.std.specs.List.{IsDistinct}
 use Rattle.save_bytes.specs.declared.space.Bad.TheVariants.{Disk, Damaged}
 use Rattle.chain_nodes.specs.declared.node.Node.{Node}
 use Rattle.chain_nodes.specs.declared.fault.ChainFault.{ChainFault}
@@ -105,3 +106,9 @@ pub record CanPlan (table : ℕ → ℕ → Cell) (count : ℕ) (given : Option 
   pub free_nodes : AreFreeNodes table count free
   pub few_old : length (entries_of old) ≤ count
   pub few_free : length (entries_of free) ≤ count
+
+-- nodes of an old chain, or none, and those of the free list; no entry stands twice
+pub record AreApartLists (table : ℕ → ℕ → Cell) (count : ℕ) (old free : List Node) : Type 0 where
+  pub chain : AreNodes table count Opens old 0
+  pub listed : AreFreeNodes table count free
+  pub once : IsDistinct nat_eq (entries_of (old ++ free))

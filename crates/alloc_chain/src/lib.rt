@@ -5,6 +5,7 @@ mod chain;
 mod links;
 mod lists;
 mod plan;
+mod swap;
 mod words;
 
 pub use chain::Chain;

@@ -1,0 +1,76 @@
+-- What a chain takes of its own blocks and of the free ones, in one change.
+use Rattle.std.specs.Prelude.{◌≡◌, ◌≢◌, ◌⊎◌, ℕ, ◌+◌, ◌*◌, ◌<◌, ◌≤◌, List, [], ◌∷◌, ◌++◌, length, take, drop, Option, Some, None}
+use Rattle.std.specs.Prelude.{Result, Ok, Err, ⊤}
+use Rattle.std.specs.List.{Contains}
+use Rattle.save_bytes.specs.declared.space.Bad.TheVariants.{Disk, Damaged}
+use Rattle.save_bytes.specs.Cells.{Cell}
+use Rattle.save_bytes.specs.Writes.{IsWithin}
+use Rattle.chain_nodes.specs.declared.info.ChainInfo.{ChainInfo}
+use Rattle.chain_nodes.specs.declared.fault.ChainFault.{ChainFault}
+use Rattle.chain_nodes.specs.declared.fault.ChainFault.TheVariants.{Broken, Short}
+use Rattle.chain_nodes.specs.declared.fault.ChainFault.TheVariants.{Bad as Refused}
+use Rattle.chain_nodes.specs.Table.{HasFault}
+use Rattle.chain_nodes.specs.Chains.{IsChain, IsFreeList}
+use Rattle.alloc_chain.specs.declared.plan.Boundary.{Boundary}
+use Rattle.alloc_chain.specs.declared.plan.Given.{Given}
+use Rattle.alloc_chain.specs.declared.plan.Plan.{Plan}
+use Rattle.alloc_chain.specs.Alters.{cut_entries}
+
+-- a chain that may be missing is this list of entries
+abbrev pub IsOptChain : (ℕ → ℕ → Cell) → ℕ → Option ℕ → List ℕ → Type 0
+IsOptChain table count None list = list ≡ []
+IsOptChain table count (Some first) list = IsChain table count first list
+
+-- no number stands in both lists
+abbrev pub AreApart : List ℕ → List ℕ → Type 0
+AreApart one other = (x : ℕ) → Contains one x → ¬ Contains other x
+
+-- an old chain, which may be missing, and the free list are as they should be, and share no entry
+pub record CanSwap (table : ℕ → ℕ → Cell) (count : ℕ) (old : Option ℕ) (mine free : List ℕ) : Type 0 where
+  pub chain : IsOptChain table count old mine
+  pub listed : IsFreeList table count free
+  pub share_none : AreApart mine free
+
+-- the first n entries of a list are a chain, and the others are free
+pub record IsSwapped (table : ℕ → ℕ → Cell) (count n : ℕ) (list : List ℕ) (taken : Option ℕ) : Type 0 where
+  pub chain : IsOptChain table count taken (take n list)
+  pub rest : IsFreeList table count (drop n list)
+
+-- an entry whose words a swap may need
+abbrev pub IsSwapEntry : List ℕ → List ℕ → ℕ → Type 0
+IsSwapEntry mine free entry = (entry ≡ 0) ⊎ Contains (mine ++ free) entry
+
+-- which answer comes when, where a swap can be made
+abbrev pub IsSwapAnswer : (old new : ℕ → ℕ → Cell) (count n : ℕ) (mine free : List ℕ) → Result (Option ℕ) ChainFault
+    → Type 0
+IsSwapAnswer old new count n mine free (Ok taken) =
+    (n ≤ length mine + length free) × IsSwapped new count n (mine ++ free) taken
+IsSwapAnswer old new count n mine free (Err (Refused Disk)) = ⊤
+IsSwapAnswer old new count n mine free (Err (Refused (Damaged part level block))) =
+    (n ≢ 0) × ((entry : ℕ) × IsSwapEntry mine free entry × HasFault old entry part level block)
+IsSwapAnswer old new count n mine free (Err (Broken entry)) = ⊥
+IsSwapAnswer old new count n mine free (Err (Short need have)) =
+    (need ≡ n) × (have ≡ length mine + length free) × (have < n)
+
+-- what is written where a chain is given back, or none
+abbrev pub given_entries : Option Given → ℕ → List ℕ
+given_entries None head = []
+given_entries (Some given) head = 0 ∷ given.first ∷ given.tail.first ∷ head ∷ []
+
+-- with what the free list then begins
+abbrev pub first_of : Option Given → ℕ → ℕ
+first_of None head = head
+first_of (Some given) head = given.first
+
+-- what is written where blocks are taken, or none are
+abbrev pub taken_entries : ℕ → Option Boundary → List ℕ
+taken_entries first None = []
+taken_entries first (Some boundary) = first ∷ cut_entries boundary.node boundary.middle boundary.next
+
+-- the entries that a swap by a plan writes
+abbrev pub plan_entries : Plan → List ℕ
+plan_entries plan = given_entries plan.given plan.head ++ taken_entries (first_of plan.given plan.head) plan.boundary
+
+-- the places that a swap may write: the words of entry 0, of the old chain and of the free list
+abbrev pub IsSwapSite : ChainInfo → List ℕ → List ℕ → ℕ → Type 0
+IsSwapSite info mine free x = (entry : ℕ) × IsSwapEntry mine free entry × IsWithin (info.table_at + 8 * entry) 8 x
