@@ -34,11 +34,17 @@ pub each_more : (list : List ℕ) (a : ℕ) (few : List ℕ) → IsNoneOr list a
 each_more list a few here rest x (zero, within, is) = subst (λ (y : ℕ). IsNoneOr list y) is here
 each_more list a few here rest x (suc k, within, is) = rest x (k, omega (arith, within), is)
 
+-- what holds of four numbers
+pub all_four : (P : ℕ → Type 0) (a b c d : ℕ) → P a → P b → P c → P d → (x : ℕ) → Contains (a ∷ b ∷ c ∷ d ∷ []) x → P x
+all_four P a b c d in_a in_b in_c in_d x (zero, within, is) = subst P is in_a
+all_four P a b c d in_a in_b in_c in_d x (suc zero, within, is) = subst P is in_b
+all_four P a b c d in_a in_b in_c in_d x (suc (suc zero), within, is) = subst P is in_c
+all_four P a b c d in_a in_b in_c in_d x (suc (suc (suc zero)), within, is) = subst P is in_d
+all_four P a b c d in_a in_b in_c in_d x (suc (suc (suc (suc k))), within, is) = absurd (omega (arith, within))
+
 pub each_four : (list : List ℕ) (a b c d : ℕ) → IsNoneOr list a → IsNoneOr list b → IsNoneOr list c → IsNoneOr list d
     → (x : ℕ) → Contains (a ∷ b ∷ c ∷ d ∷ []) x → IsNoneOr list x
-each_four list a b c d in_a in_b in_c in_d =
-    each_more list a (b ∷ c ∷ d ∷ []) in_a
-    (each_more list b (c ∷ d ∷ []) in_b (each_more list c (d ∷ []) in_c (each_more list d [] in_d (each_none list))))
+each_four list = all_four (IsNoneOr list)
 
 -- what stands in one part, and is not 0, is no number that is 0 or stands in the other
 pub apart_from : (front behind sites : List ℕ) → ((x : ℕ) → Contains front x → ¬ Contains behind x)

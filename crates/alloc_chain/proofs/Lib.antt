@@ -5,3 +5,4 @@ pub mod CutLemmas
 pub mod TakeLemmas
 pub mod PlanLemmas
 pub mod SwapLemmas
+pub mod AnswerLemmas

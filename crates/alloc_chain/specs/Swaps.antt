@@ -3,13 +3,12 @@ use Rattle.std.specs.Prelude.{◌≡◌, ◌≢◌, ◌⊎◌, ℕ, ◌+◌, ◌
 use Rattle.std.specs.Prelude.{Result, Ok, Err, ⊤}
 use Rattle.std.specs.List.{Contains}
 use Rattle.save_bytes.specs.declared.space.Bad.TheVariants.{Disk, Damaged}
-use Rattle.save_bytes.specs.Cells.{Cell}
+use Rattle.save_bytes.specs.Cells.{Cell, Spoilt}
 use Rattle.save_bytes.specs.Writes.{IsWithin}
 use Rattle.chain_nodes.specs.declared.info.ChainInfo.{ChainInfo}
 use Rattle.chain_nodes.specs.declared.fault.ChainFault.{ChainFault}
 use Rattle.chain_nodes.specs.declared.fault.ChainFault.TheVariants.{Broken, Short}
 use Rattle.chain_nodes.specs.declared.fault.ChainFault.TheVariants.{Bad as Refused}
-use Rattle.chain_nodes.specs.Table.{HasFault}
 use Rattle.chain_nodes.specs.Chains.{IsChain, IsFreeList}
 use Rattle.alloc_chain.specs.declared.plan.Boundary.{Boundary}
 use Rattle.alloc_chain.specs.declared.plan.Given.{Given}
@@ -40,17 +39,31 @@ pub record IsSwapped (table : ℕ → ℕ → Cell) (count n : ℕ) (list : List
 abbrev pub IsSwapEntry : List ℕ → List ℕ → ℕ → Type 0
 IsSwapEntry mine free entry = (entry ≡ 0) ⊎ Contains (mine ++ free) entry
 
--- which answer comes when, where a swap can be made
+-- a cell of an entry is spoilt, and names this block
+abbrev pub HasSpoilt : (ℕ → ℕ → Cell) → ℕ → ℕ → ℕ → ℕ → Type 0
+HasSpoilt table entry part level block = (k : ℕ) × (k < 8) × (table entry k ≡ Spoilt part level block)
+
+-- Why a swap of n blocks is refused, where it can be made: there are fewer, or a word that it writes is spoilt. Where no
+-- block is taken, only words are written that are bytes.
+abbrev pub IsSwapRefusal : (table : ℕ → ℕ → Cell) (n : ℕ) (mine free : List ℕ) → ChainFault → Type 0
+IsSwapRefusal table n mine free (Refused Disk) = ⊤
+IsSwapRefusal table n mine free (Refused (Damaged part level block)) =
+    (n ≢ 0) × ((entry : ℕ) × IsSwapEntry mine free entry × HasSpoilt table entry part level block)
+IsSwapRefusal table n mine free (Broken entry) = ⊥
+IsSwapRefusal table n mine free (Short need have) =
+    (need ≡ n) × (have ≡ length mine + length free) × (have < n)
+
+-- what a swap of n blocks answers
 abbrev pub IsSwapAnswer : (old new : ℕ → ℕ → Cell) (count n : ℕ) (mine free : List ℕ) → Result (Option ℕ) ChainFault
     → Type 0
 IsSwapAnswer old new count n mine free (Ok taken) =
     (n ≤ length mine + length free) × IsSwapped new count n (mine ++ free) taken
-IsSwapAnswer old new count n mine free (Err (Refused Disk)) = ⊤
-IsSwapAnswer old new count n mine free (Err (Refused (Damaged part level block))) =
-    (n ≢ 0) × ((entry : ℕ) × IsSwapEntry mine free entry × HasFault old entry part level block)
-IsSwapAnswer old new count n mine free (Err (Broken entry)) = ⊥
-IsSwapAnswer old new count n mine free (Err (Short need have)) =
-    (need ≡ n) × (have ≡ length mine + length free) × (have < n)
+IsSwapAnswer old new count n mine free (Err fault) = IsSwapRefusal old n mine free fault
+
+-- what is answered to the question whether it may be made
+abbrev pub IsReadyAnswer : {A : Type 0} (table : ℕ → ℕ → Cell) (n : ℕ) (mine free : List ℕ) → Result A ChainFault → Type 0
+IsReadyAnswer table n mine free (Ok given) = n ≤ length mine + length free
+IsReadyAnswer table n mine free (Err fault) = IsSwapRefusal table n mine free fault
 
 -- what is written where a chain is given back, or none
 abbrev pub given_entries : Option Given → ℕ → List ℕ

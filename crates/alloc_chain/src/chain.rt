@@ -10,9 +10,16 @@ ghost use Rattle.chain_nodes.specs.Chains.{IsLinkedBy, IsChain, IsFreeList};
 ghost use Rattle.chain_nodes.specs.Faults.{FailsAt, IsBroken, IsFreeBroken, IsFreeNeeded, refusal_of, FaultsOnly};
 ghost use Rattle.chain_nodes.specs.Runs.{IsListPlace, HasLength, IsAtEnd, HasPosition, DoneUnlessDisk, IsRunIn};
 ghost use Rattle.chain_nodes.specs.Runs.{IsRestOfNode};
+ghost use Rattle.std.specs.Prelude.{◌++◌, IsFalse, IfErr, Some};
+ghost use Rattle.save_bytes.specs.Refusals.{UnlessDisk, NeverDamaged};
+ghost use Rattle.save_bytes.specs.Stays.{SameCells, SameSpace};
+ghost use Rattle.save_bytes.specs.Spots.{Hold};
+ghost use Rattle.alloc_chain.specs.Alters.{Alters};
+ghost use Rattle.alloc_chain.specs.Swaps.{AreApart, CanSwap, IsSwapAnswer, IsReadyAnswer, IsSwapSite};
 ghost use Rattle.alloc_chain.specs.Held.{below, table_of, IsChainOver, SameChain};
 
 use crate::lists::{chain_len, chain_run, free_len, free_start, next_run};
+use crate::swap::{ready_in, swap_in};
 use chain_nodes::{ChainFault, ChainInfo, Cursor, Run};
 use save_bytes::Space;
 
@@ -146,5 +153,49 @@ impl<'a, S: Space> Chain<'a, S> {
     {
         let base = &mut *self.base;
         next_run(base, self.info, cursor)
+    }
+
+    /// Gives back the chain that begins with `given`, and takes a chain of `n` blocks, in one change: first the blocks of
+    /// the old chain in its order, then those of the free list in its order. It answers with the first entry of the chain
+    /// taken, none where `n` is 0. `Short` comes exactly where there are fewer blocks. On any refusal but `Disk` nothing
+    /// is changed.
+    pub fn swap(&mut self, given: Option<u32>, n: u64) -> Result<Option<u32>, ChainFault>
+        requires table { HasAllocationTable (below S.state self.old).shape self.old.info }
+        requires single { IsFalse (below S.state self.old).shape.doubled }
+        ensures answer { IsTrue (below S.state self.old).told → (mine free : List ℕ)
+            → CanSwap (table_of S.state self.old) self.old.info.count given mine free
+            → IsSwapAnswer (table_of S.state self.old) (table_of S.state self.new) self.old.info.count n mine free result }
+        ensures others { IsTrue (below S.state self.old).told → (mine free : List ℕ)
+            → CanSwap (table_of S.state self.old) self.old.info.count given mine free → (first : ℕ) (list : List ℕ)
+            → IsChain (table_of S.state self.old) self.old.info.count first list → AreApart list (mine ++ free)
+            → UnlessDisk (refusal_of (result_err result)) (IsChain (table_of S.state self.new) self.old.info.count first list) }
+        ensures alters { IsTrue (below S.state self.old).told → (mine free : List ℕ)
+            → CanSwap (table_of S.state self.old) self.old.info.count given mine free
+            → Alters S.state S.keeps S.lands (IsSwapSite self.old.info mine free) self.old.base.now self.new.base.now
+            (refusal_of (result_err result)) }
+        ensures refused { IsTrue (below S.state self.old).told → IfErr result (λ fault.
+            UnlessDisk (refusal_of (Some fault)) (SameCells (below S.state self.old) (below S.state self.new))) }
+        ensures space { SameSpace (IsTrue (below S.state self.old).told) (below S.state self.old) (below S.state self.new)
+            (refusal_of (result_err result)) }
+        ensures plain { IsTrue (below S.state self.old).shape.plain → NeverDamaged (refusal_of (result_err result)) }
+        ensures hold { S.keeps Hold self.old.base.now self.new.base.now }
+        ensures same { SameChain self.old self.new }
+    {
+        let base = &mut *self.base;
+        swap_in(base, self.info, given, n)
+    }
+
+    /// The refusal that `swap` would give. It changes nothing.
+    pub fn ready_swap(&mut self, given: Option<u32>, n: u64) -> Result<(), ChainFault>
+        requires { HasAllocationTable (below S.state self.old).shape self.old.info }
+        ensures answer { IsTrue (below S.state self.old).told → (mine free : List ℕ)
+            → CanSwap (table_of S.state self.old) self.old.info.count given mine free
+            → IsReadyAnswer (table_of S.state self.old) n mine free result }
+        ensures plain { IsTrue (below S.state self.old).shape.plain → NeverDamaged (refusal_of (result_err result)) }
+        ensures reads { Reads S.state S.keeps S.lands self.old.base.now self.new.base.now (refusal_of (result_err result)) }
+        ensures same { SameChain self.old self.new }
+    {
+        let base = &mut *self.base;
+        ready_in(base, self.info, given, n)
     }
 }

@@ -1,23 +1,27 @@
 //! Giving back a chain and taking another one.
 
 ghost use Rattle.std.specs.Prelude.{◌≡◌, ℕ, ◌+◌, ◌^◌, ◌<◌, ◌≤◌, nat_eq, IsTrue, IsFalse, List, [], ◌∷◌, ◌++◌, length, slice_index};
-ghost use Rattle.std.specs.Prelude.{IfOk, IfSome, Option};
+ghost use Rattle.std.specs.Prelude.{IfOk, IfErr, IfSome, Option, Some};
 ghost use Rattle.std.specs.List.{Contains, IsDistinct};
 ghost use Rattle.std.specs.Result.{result_err};
-ghost use Rattle.save_bytes.specs.Refusals.{IfDone, IfDamaged, NeverDamaged};
+ghost use Rattle.save_bytes.specs.Refusals.{IfDone, IfDamaged, NeverDamaged, UnlessDisk};
 ghost use Rattle.save_bytes.specs.Reads.{Reads};
 ghost use Rattle.chain_nodes.specs.declared.node.Node.{Node};
 ghost use Rattle.chain_nodes.specs.declared.node.Lead.TheVariants.{Opens};
-ghost use Rattle.chain_nodes.specs.Table.{table_in, HasFault, HasAllocationTable};
+ghost use Rattle.chain_nodes.specs.Table.{table_in, HasAllocationTable};
 ghost use Rattle.chain_nodes.specs.Chains.{start_of, AreNodes, entries_of};
 ghost use Rattle.chain_nodes.specs.Edits.{AreFreeNodes};
 ghost use Rattle.alloc_chain.specs.Alters.{AreUnspoilt, Alters, IsOf, cut_entries};
-ghost use Rattle.alloc_chain.specs.Plans.{IsBoundaryIn, IsGivenIn, IsPlanIn, AreGivenBy, AreCutBy, IsPlan, AreApartLists};
+ghost use Rattle.alloc_chain.specs.Plans.{IsBoundaryIn, IsGivenIn, IsPlanIn, AreGivenBy, AreCutBy, IsPlan, AreApartLists, CanPlan};
+ghost use Rattle.alloc_chain.specs.Swaps.{HasSpoilt, IsReadyAnswer, CanSwap, IsSwapAnswer, IsSwapSite};
+ghost use Rattle.save_bytes.specs.Stays.{SameCells, SameSpace};
+ghost use Rattle.save_bytes.specs.Spots.{Hold};
+ghost use Rattle.chain_nodes.specs.Faults.{refusal_of};
 ghost use Rattle.alloc_chain.specs.Swaps.{IsSwapped, first_of, given_entries, taken_entries, plan_entries};
 
 use crate::links::{give_back, take_front};
-use crate::plan::{Boundary, Given, Plan};
-use chain_nodes::ChainInfo;
+use crate::plan::{Boundary, Given, Plan, plan_swap};
+use chain_nodes::{ChainFault, ChainInfo};
 use save_bytes::{Bad, Space};
 
 // Whether an entry may be written.
@@ -26,7 +30,7 @@ fn ready_entry<S: Space>(base: &mut S, info: ChainInfo, entry: u32) -> Result<()
     requires inside { entry ≤ info.count }
     ensures ready { IsTrue (S.state base.old).told → IfDone (result_err result) (AreUnspoilt (S.state base.old) (IsOf info (entry ∷ []))) }
     ensures damaged { IsTrue (S.state base.old).told
-        → IfDamaged (result_err result) (HasFault (table_in (S.state base.old).cells info) entry) }
+        → IfDamaged (result_err result) (HasSpoilt (table_in (S.state base.old).cells info) entry) }
     ensures plain { IsTrue (S.state base.old).shape.plain → NeverDamaged (result_err result) }
     ensures reads { Reads S.state S.keeps S.lands base.old base.new (result_err result) }
 {
@@ -41,7 +45,7 @@ fn ready_entries<S: Space>(base: &mut S, info: ChainInfo, entries: &[u32]) -> Re
         → IfDone (result_err result) (AreUnspoilt (S.state base.old) (IsOf info entries.now)) }
     ensures damaged { IsTrue (S.state base.old).told → IfDamaged (result_err result)
         (λ part level block. (entry : ℕ) × Contains entries.now entry
-        × HasFault (table_in (S.state base.old).cells info) entry part level block) }
+        × HasSpoilt (table_in (S.state base.old).cells info) entry part level block) }
     ensures plain { IsTrue (S.state base.old).shape.plain → NeverDamaged (result_err result) }
     ensures reads { Reads S.state S.keeps S.lands base.old base.new (result_err result) }
 {
@@ -68,7 +72,7 @@ fn ready_given<S: Space>(
         → IfDone (result_err result) (AreUnspoilt (S.state base.old) (IsOf info (given_entries given head))) }
     ensures damaged { IsTrue (S.state base.old).told → IfDamaged (result_err result)
         (λ part level block. (entry : ℕ) × Contains (given_entries given head) entry
-        × HasFault (table_in (S.state base.old).cells info) entry part level block) }
+        × HasSpoilt (table_in (S.state base.old).cells info) entry part level block) }
     ensures plain { IsTrue (S.state base.old).shape.plain → NeverDamaged (result_err result) }
     ensures reads { Reads S.state S.keeps S.lands base.old base.new (result_err result) }
 {
@@ -117,7 +121,7 @@ fn ready_taken<S: Space>(
         → IfDone (result_err result) (AreUnspoilt (S.state base.old) (IsOf info (taken_entries first boundary))) }
     ensures damaged { IsTrue (S.state base.old).told → IfDamaged (result_err result)
         (λ part level block. (entry : ℕ) × Contains (taken_entries first boundary) entry
-        × HasFault (table_in (S.state base.old).cells info) entry part level block) }
+        × HasSpoilt (table_in (S.state base.old).cells info) entry part level block) }
     ensures plain { IsTrue (S.state base.old).shape.plain → NeverDamaged (result_err result) }
     ensures reads { Reads S.state S.keeps S.lands base.old base.new (result_err result) }
 {
@@ -145,7 +149,7 @@ pub(crate) fn ready_plan<S: Space>(base: &mut S, info: ChainInfo, plan: Plan) ->
         → IfDone (result_err result) (AreUnspoilt (S.state base.old) (IsOf info (plan_entries plan))) }
     ensures damaged { IsTrue (S.state base.old).told → IfDamaged (result_err result)
         (λ part level block. (entry : ℕ) × Contains (plan_entries plan) entry
-        × HasFault (table_in (S.state base.old).cells info) entry part level block) }
+        × HasSpoilt (table_in (S.state base.old).cells info) entry part level block) }
     ensures plain { IsTrue (S.state base.old).shape.plain → NeverDamaged (result_err result) }
     ensures reads { Reads S.state S.keeps S.lands base.old base.new (result_err result) }
 {
@@ -232,5 +236,84 @@ pub(crate) fn change<S: Space>(
     match give(base, info, plan.given, plan.head) {
         Ok(first) => take(base, info, first, plan.boundary),
         Err(bad) => Err(bad),
+    }
+}
+
+/// The plan of a swap whose words may be written.
+pub(crate) fn plan_ready<S: Space>(
+    base: &mut S,
+    info: ChainInfo,
+    given: Option<u32>,
+    n: u64,
+) -> Result<Plan, ChainFault>
+    requires table { HasAllocationTable (S.state base.old).shape info }
+    ensures in_table { IfOk result (IsPlanIn info.count) }
+    ensures ready { IsTrue (S.state base.old).told
+        → IfOk result (λ plan. AreUnspoilt (S.state base.old) (IsOf info (plan_entries plan))) }
+    ensures exact { IsTrue (S.state base.old).told → (old free : List Node)
+        → CanPlan (table_in (S.state base.old).cells info) info.count given old free
+        → IsReadyAnswer (table_in (S.state base.old).cells info) n (entries_of old) (entries_of free) result
+        × IfOk result (IsPlan old free n) }
+    ensures plain { IsTrue (S.state base.old).shape.plain → NeverDamaged (refusal_of (result_err result)) }
+    ensures reads { Reads S.state S.keeps S.lands base.old base.new (refusal_of (result_err result)) }
+{
+    let plan = match plan_swap(base, info, given, n) {
+        Ok(plan) => plan,
+        Err(fault) => return Err(fault),
+    };
+    match ready_plan(base, info, plan) {
+        Ok(()) => Ok(plan),
+        Err(bad) => Err(ChainFault::Bad(bad)),
+    }
+}
+
+/// Gives back the chain that begins with `given` and takes a chain of `n` blocks.
+pub(crate) fn swap_in<S: Space>(
+    base: &mut S,
+    info: ChainInfo,
+    given: Option<u32>,
+    n: u64,
+) -> Result<Option<u32>, ChainFault>
+    requires table { HasAllocationTable (S.state base.old).shape info }
+    requires single { IsFalse (S.state base.old).shape.doubled }
+    ensures answer { let table = table_in (S.state base.old).cells info in IsTrue (S.state base.old).told
+        → (mine free : List ℕ) → CanSwap table info.count given mine free
+        → IsSwapAnswer table (table_in (S.state base.new).cells info) info.count n mine free result }
+    ensures alters { IsTrue (S.state base.old).told → (mine free : List ℕ)
+        → CanSwap (table_in (S.state base.old).cells info) info.count given mine free
+        → Alters S.state S.keeps S.lands (IsSwapSite info mine free) base.old base.new (refusal_of (result_err result)) }
+    ensures refused { IsTrue (S.state base.old).told → IfErr result
+        (λ fault. UnlessDisk (refusal_of (Some fault)) (SameCells (S.state base.old) (S.state base.new))) }
+    ensures space { SameSpace (IsTrue (S.state base.old).told) (S.state base.old) (S.state base.new)
+        (refusal_of (result_err result)) }
+    ensures plain { IsTrue (S.state base.old).shape.plain → NeverDamaged (refusal_of (result_err result)) }
+    ensures hold { S.keeps Hold base.old base.new }
+{
+    let plan = match plan_ready(base, info, given, n) {
+        Ok(plan) => plan,
+        Err(fault) => return Err(fault),
+    };
+    match change(base, info, plan) {
+        Ok(taken) => Ok(taken),
+        Err(bad) => Err(ChainFault::Bad(bad)),
+    }
+}
+
+/// The refusal that a swap would give.
+pub(crate) fn ready_in<S: Space>(
+    base: &mut S,
+    info: ChainInfo,
+    given: Option<u32>,
+    n: u64,
+) -> Result<(), ChainFault>
+    requires table { HasAllocationTable (S.state base.old).shape info }
+    ensures answer { let table = table_in (S.state base.old).cells info in IsTrue (S.state base.old).told
+        → (mine free : List ℕ) → CanSwap table info.count given mine free → IsReadyAnswer table n mine free result }
+    ensures plain { IsTrue (S.state base.old).shape.plain → NeverDamaged (refusal_of (result_err result)) }
+    ensures reads { Reads S.state S.keeps S.lands base.old base.new (refusal_of (result_err result)) }
+{
+    match plan_ready(base, info, given, n) {
+        Ok(_) => Ok(()),
+        Err(fault) => Err(fault),
     }
 }

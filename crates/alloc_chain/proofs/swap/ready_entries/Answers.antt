@@ -6,9 +6,10 @@ use Rattle.save_bytes.specs.Cells.{Cell}
 use Rattle.save_bytes.specs.Writes.{IsWithin}
 use Rattle.save_bytes.proofs.CallLemmas.{reads_then}
 use Rattle.save_bytes.proofs.SpaceLemmas.{IfDamaged-map}
-use Rattle.chain_nodes.specs.Table.{table_in, HasFault}
+use Rattle.chain_nodes.specs.Table.{table_in}
 use Rattle.chain_nodes.proofs.TableLemmas.{table_stays}
 use Rattle.alloc_chain.specs.Alters.{AreUnspoilt, IsOf}
+use Rattle.alloc_chain.specs.Swaps.{HasSpoilt}
 use Rattle.alloc_chain.proofs.SwapLemmas.{unspoilt_before, unspoilt_all}
 use Rattle.alloc_chain.proofs.swap.ready_entries.Goals as goal
 
@@ -24,7 +25,7 @@ returns-in-Err-clause-damaged g c = λ told.
     (λ part level block fault. (
       entry,
       (index, c.loop-entry-test.true, get_or_default_zero c.args.entries.now index entry c.loop-entry-test.true),
-      subst (λ (t : ℕ → ℕ → Cell). HasFault t entry part level block) (table_stays s m info c.requires.table stays told) fault,
+      subst (λ (t : ℕ → ℕ → Cell). HasSpoilt t entry part level block) (table_stays s m info c.requires.table stays told) fault,
     ))
     (c.in-Err.ensures.damaged (stays.space.told told))
 

@@ -6,10 +6,11 @@ use Rattle.std.specs.List.{Contains}
 use Rattle.save_bytes.specs.Cells.{Cell}
 use Rattle.save_bytes.proofs.CallLemmas.{reads_then}
 use Rattle.save_bytes.proofs.SpaceLemmas.{IfDone-map, IfDamaged-map}
-use Rattle.chain_nodes.specs.Table.{table_in, HasFault}
+use Rattle.chain_nodes.specs.Table.{table_in}
 use Rattle.chain_nodes.proofs.TableLemmas.{table_stays}
 use Rattle.alloc_chain.specs.Alters.{AreUnspoilt, IsOf}
 use Rattle.alloc_chain.specs.Swaps.{first_of, given_entries, taken_entries}
+use Rattle.alloc_chain.specs.Swaps.{HasSpoilt}
 use Rattle.alloc_chain.proofs.SwapLemmas.{unspoilt_before, unspoilt_both}
 use Rattle.alloc_chain.proofs.swap.ready_plan.Goals as goal
 
@@ -50,7 +51,7 @@ returns-clause-damaged g c = λ told.
       fault.0,
       subst (λ (first : ℕ). Contains (given ++ taken_entries first plan.boundary) fault.0) c.first_free.ensures
           (Contains-append_right given (taken_entries c.first_free.result plan.boundary) fault.0 fault.1),
-      subst (λ (t : ℕ → ℕ → Cell). HasFault t fault.0 part level block) (table_stays s m info c.requires.table stays told) fault.2,
+      subst (λ (t : ℕ → ℕ → Cell). HasSpoilt t fault.0 part level block) (table_stays s m info c.requires.table stays told) fault.2,
     ))
     (c.ready_taken.ensures.damaged (stays.space.told told))
 

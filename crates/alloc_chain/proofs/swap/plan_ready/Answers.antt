@@ -1,0 +1,49 @@
+use Rattle.std.proofs.Common.{◌≡◌, ℕ, List, ◌++◌, Ok, Err, Some, sym, subst}
+use Rattle.std.specs.Result.{result_err}
+use Rattle.save_bytes.specs.Cells.{Cell}
+use Rattle.save_bytes.proofs.CallLemmas.{reads_then}
+use Rattle.chain_nodes.specs.declared.node.Node.{Node}
+use Rattle.chain_nodes.specs.Table.{table_in}
+use Rattle.chain_nodes.specs.Chains.{entries_of}
+use Rattle.chain_nodes.proofs.TableLemmas.{table_stays}
+use Rattle.alloc_chain.specs.Alters.{AreUnspoilt, IsOf}
+use Rattle.alloc_chain.specs.Plans.{IsPlan, EnoughUnlessDisk}
+use Rattle.alloc_chain.specs.Swaps.{plan_entries}
+use Rattle.alloc_chain.proofs.SwapLemmas.{unspoilt_before, refused_plan, spoilt_plan}
+use Rattle.alloc_chain.proofs.swap.plan_ready.Goals as goal
+
+pub returns-in-Err-clause-exact : goal.returns-in-Err-clause-exact
+returns-in-Err-clause-exact g c = λ told old free can. (
+  refused_plan (table_in (g.S.Space.state c.args.base.now).cells c.args.info) c.args.n (entries_of old) (entries_of free)
+      (IsPlan old free c.args.n) c.in-Err.fault (c.in-Err.ensures.exact told old free can),
+  tt,
+)
+
+pub returns-in-Ok-ready_plan-clause-ready : goal.returns-in-Ok-ready_plan-clause-ready
+returns-in-Ok-ready_plan-clause-ready g c = λ told.
+    let stays = c.in-Ok.ensures.reads.stays in
+    unspoilt_before (g.S.Space.state c.args.base.now) (g.S.Space.state c.plan_swap.new.base) c.args.info
+    (plan_entries c.in-Ok.plan) stays told (c.in-Ok-ready_plan.ensures.ready (stays.space.told told))
+
+pub returns-in-Ok-ready_plan-clause-exact : goal.returns-in-Ok-ready_plan-clause-exact
+returns-in-Ok-ready_plan-clause-exact g c = λ told old free can. c.in-Ok.ensures.exact told old free can
+
+pub returns-in-Ok-ready_plan-clause-reads : goal.returns-in-Ok-ready_plan-clause-reads
+returns-in-Ok-ready_plan-clause-reads g c =
+    reads_then g.met.S.Space.keeps_join c.in-Ok.ensures.reads c.in-Ok-ready_plan.ensures.reads
+
+pub returns-in-Err-ready_plan-clause-exact : goal.returns-in-Err-ready_plan-clause-exact
+returns-in-Err-ready_plan-clause-exact g c = λ told old free can.
+    let s = g.S.Space.state c.args.base.now in
+    let m = g.S.Space.state c.plan_swap.new.base in
+    let info = c.args.info in
+    let stays = c.in-Ok.ensures.reads.stays in (
+      spoilt_plan (table_in s.cells info) info.count c.args.given c.args.n old free can c.in-Ok.plan
+          (c.in-Ok.ensures.exact told old free can).1 c.in-Ok.ensures.in_table c.in-Err-ready_plan.bad (table_in m.cells info)
+          (table_stays s m info c.requires.table stays told) (c.in-Err-ready_plan.ensures.damaged (stays.space.told told)),
+      tt,
+    )
+
+pub returns-in-Err-ready_plan-clause-reads : goal.returns-in-Err-ready_plan-clause-reads
+returns-in-Err-ready_plan-clause-reads g c =
+    reads_then g.met.S.Space.keeps_join c.in-Ok.ensures.reads c.in-Err-ready_plan.ensures.reads
