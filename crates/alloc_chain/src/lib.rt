@@ -15,4 +15,6 @@ pub use chain_space::ChainSpace;
 #[cfg(test)]
 mod counted;
 #[cfg(test)]
+mod swap_tests;
+#[cfg(test)]
 mod tests;
