@@ -12,7 +12,8 @@ use Rattle.chain_nodes.specs.declared.info.ChainInfo.{ChainInfo}
 use Rattle.chain_nodes.specs.Table.{table_in, word_v, index_of, HasWords, IsEntry}
 use Rattle.chain_nodes.specs.Chains.{IsChain, IsFreeList}
 use Rattle.chain_nodes.proofs.TableLemmas.{table_cell, number_in-same}
-use Rattle.chain_nodes.proofs.OwnLemmas.{KeepsWords, list_rests}
+use Rattle.chain_nodes.specs.Edits.{KeepsEntry}
+use Rattle.chain_nodes.proofs.OwnLemmas.{list_rests}
 use Rattle.chain_space.specs.Laid.{laid_place}
 use Rattle.entry_tables.specs.declared.table.EntryKind.{EntryKind}
 use Rattle.entry_tables.specs.declared.table.EntryKind.TheVariants.{Dir, File}
@@ -41,7 +42,7 @@ use Rattle.tree_rules.specs.Trees.{table_chains, IsTreeOf, IsConsistentTree}
 use Rattle.tree_rules.specs.Structure.{allocation_place, IsStructure, KeepsStructure, KeepsTree}
 use Rattle.tree_rules.specs.Structure.IsStructure.{InHeader, InInformation, InFirstEntry, InList, InTable}
 use Rattle.tree_rules.proofs.LayoutLemmas.{layout_from}
-use Rattle.tree_rules.proofs.SoftLemmas.{bytes_in-values, number_in-values, tables_same}
+use Rattle.tree_rules.proofs.SoftLemmas.{bytes_between, number_between, tables_same}
 use Rattle.tree_rules.proofs.PlaceLemmas.{listed_entries, laid_below}
 use Rattle.tree_rules.specs.Places.{table_lies}
 use Rattle.tree_rules.specs.Information.{table_fields}
@@ -57,7 +58,7 @@ still_byte cell new soft is = rw (byte_stays cell new soft is) is
 
 -- lists whose own entries keep their words
 module _ (old new : ℕ → ℕ → Cell) (count : ℕ) where
-  chain_kept : (first : ℕ) (list : List ℕ) → ((x : ℕ) → Contains list x → KeepsWords old new x)
+  chain_kept : (first : ℕ) (list : List ℕ) → ((x : ℕ) → Contains list x → KeepsEntry old new x)
       → IsChain old count first list → IsChain new count first list
   chain_kept first list kept h = record {
     some = h.some;
@@ -65,12 +66,12 @@ module _ (old new : ℕ → ℕ → Cell) (count : ℕ) where
     once = h.once;
   }
 
-  table_list_kept : (at : TableAt) (list : List ℕ) → ((x : ℕ) → Contains list x → KeepsWords old new x)
+  table_list_kept : (at : TableAt) (list : List ℕ) → ((x : ℕ) → Contains list x → KeepsEntry old new x)
       → IsTableList old count at list → IsTableList new count at list
   table_list_kept (Plainly at) list kept h = h
   table_list_kept (InChain first blocks) list kept h = (chain_kept (first + 1) list kept h.0, h.1)
 
-  free_kept : (list : List ℕ) → ((x : ℕ) → Contains list x → KeepsWords old new x) → HasWords new 0
+  free_kept : (list : List ℕ) → ((x : ℕ) → Contains list x → KeepsEntry old new x) → HasWords new 0
       → word_v new 0 ≡ word_v old 0 → IsFreeList old count list → IsFreeList new count list
   free_kept list kept read same h = record {
     read = read;
@@ -79,20 +80,20 @@ module _ (old new : ℕ → ℕ → Cell) (count : ℕ) where
   }
 
 file_list_kept : (old new : ℕ → ℕ → Cell) (chain : ChainInfo) (start size : ℕ) (list : List ℕ)
-    → ((x : ℕ) → Contains list x → KeepsWords old new x) → IsFileList old chain start size list
+    → ((x : ℕ) → Contains list x → KeepsEntry old new x) → IsFileList old chain start size list
     → IsFileList new chain start size list
 file_list_kept old new chain start size list kept (HasNone none empty is) = HasNone none empty is
 file_list_kept old new chain start size list kept (HasSome less chains enough) =
     HasSome less (chain_kept old new chain.count (start + 1) list kept chains) enough
 
 list_of_file_kept : (kind : TreeKind) (old new : ℕ → ℕ → Cell) (chain : ChainInfo) (t : Tables) (e : ℕ) (list : List ℕ)
-    → ((x : ℕ) → Contains list x → KeepsWords old new x) → IsListOfFile kind old chain t e list
+    → ((x : ℕ) → Contains list x → KeepsEntry old new x) → IsListOfFile kind old chain t e list
     → IsListOfFile kind new chain t e list
 list_of_file_kept Save old new chain t e list kept h = file_list_kept old new chain (t.start e) (t.wide e) list kept h
 list_of_file_kept Vsxe old new chain t e list kept h = h
 
 list_kept : (kind : TreeKind) (old new : ℕ → ℕ → Cell) (p : Places) (t : Tables) (holder : Holder) (list : List ℕ)
-    → ((x : ℕ) → Contains list x → KeepsWords old new x) → HasWords new 0 → word_v new 0 ≡ word_v old 0
+    → ((x : ℕ) → Contains list x → KeepsEntry old new x) → HasWords new 0 → word_v new 0 ≡ word_v old 0
     → IsListOf kind old p t holder list → IsListOf kind new p t holder list
 list_kept kind old new p t Free list kept read same h = free_kept old new p.chain.count list kept read same h
 list_kept kind old new p t (OfTable entries) list kept read same h =
@@ -168,12 +169,12 @@ module _ (kind : TreeKind) (size : ℕ) (split : Option ℕ) (cells new : ℕ �
 
   lettered : IsLettered kind new
   lettered = record {
-    letters = bytes_in-values cells new 0 4 (λ x low high. header_same x (omega (arith, high))) ∙ h.lettered.letters;
-    version = number_in-values 4 cells new 4 (λ x low high. header_same x (omega (arith, high))) ∙ h.lettered.version;
+    letters = bytes_between cells new 0 4 (λ x low high. header_same x (omega (arith, high))) ∙ h.lettered.letters;
+    version = number_between 4 cells new 4 (λ x low high. header_same x (omega (arith, high))) ∙ h.lettered.version;
   }
 
   field : (n x : ℕ) → info.at ≤ x → x + n ≤ info.at + information_len → number_in n new x ≡ number_in n cells x
-  field n x behind fits = number_in-values n cells new x (λ y low high.
+  field n x behind fits = number_between n cells new x (λ y low high.
       value_same y (InInformation (record { from = omega (arith, behind, low); before = omega (arith, high, fits) })))
 
   fields_same : (table : EntryKind) → table_fields new info.at table ≡ table_fields cells info.at table
@@ -206,7 +207,7 @@ module _ (kind : TreeKind) (size : ℕ) (split : Option ℕ) (cells new : ℕ �
 
   -- the words of the entries of a list
   words_kept : (holder : Holder) (entry : ℕ) → Contains (lists holder) entry
-      → KeepsWords (table_in cells p.chain) (table_in new p.chain) entry
+      → KeepsEntry (table_in cells p.chain) (table_in new p.chain) entry
   words_kept holder entry listed k less byte =
       let few = (All-contains (IsEntry p.chain.count) (lists holder) entry (entries holder) listed).inside in
       let there = table_cell cells p.chain entry k few less in
@@ -306,7 +307,7 @@ module _ (kind : TreeKind) (size : ℕ) (split : Option ℕ) (cells new : ℕ �
     information_kept : information_in new ≡ information_in cells
     unfolding information_in information_at
     information_kept =
-        let at_same : number_in 8 new 8 ≡ number_in 8 cells 8 = number_in-values 8 cells new 8 (λ x low high.
+        let at_same : number_in 8 new 8 ≡ number_in 8 cells 8 = number_between 8 cells new 8 (λ x low high.
         header_same kind size split cells new info lists p t refl h kept x (omega (arith, high))) in
         ap (information_at new) at_same ∙ information_same kind size split cells new info lists p t refl h kept
 

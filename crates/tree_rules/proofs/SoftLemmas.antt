@@ -12,24 +12,20 @@ use Rattle.entry_tables.specs.Kinds.{entry_size, link_offset, child_offset}
 use Rattle.entry_tables.specs.Tables.{entry_place, bucket_place, most_in, is_entry, table_in, tables_in}
 use Rattle.entry_tables.specs.Tables.{info_of}
 use Rattle.entry_tables.specs.Layout.{IsOfTable}
+use Rattle.entry_tables.proofs.ValueLemmas.{bytes_in-values}
 use Rattle.entry_tables.proofs.EntryLemmas.{entry_long, link_last}
 use Rattle.entry_tables.specs.Layout.IsOfTable.{InZero, InEntry, InBucket}
 
--- cells with the same values
-pub bytes_in-values : (cells new : ℕ → Cell) (at n : ℕ)
+-- cells with the same values, of a range
+pub bytes_between : (cells new : ℕ → Cell) (at n : ℕ)
     → ((x : ℕ) → at ≤ x → x < at + n → value_of (new x) ≡ value_of (cells x)) → bytes_in new at n ≡ bytes_in cells at n
-unfolding bytes_in
-bytes_in-values cells new at zero same = refl
-bytes_in-values cells new at (suc n) same =
-    let first : value_of (new at) ≡ value_of (cells at) = same at (omega arith) (omega arith) in
-    let rest : bytes_in new (suc at) n ≡ bytes_in cells (suc at) n =
-    bytes_in-values cells new (suc at) n (λ x from before. same x (omega (arith, from)) (omega (arith, before))) in
-    rw (first, rest) refl
+bytes_between cells new at n same =
+    bytes_in-values new cells at n (λ k less. same (at + k) (omega arith) (omega (arith, less)))
 
-pub number_in-values : (n : ℕ) (cells new : ℕ → Cell) (at : ℕ)
+pub number_between : (n : ℕ) (cells new : ℕ → Cell) (at : ℕ)
     → ((x : ℕ) → at ≤ x → x < at + n → value_of (new x) ≡ value_of (cells x))
     → number_in n new at ≡ number_in n cells at
-number_in-values n cells new at same = ap (λ (l : List ℕ). number_at n l 0) (bytes_in-values cells new at n same)
+number_between n cells new at same = ap (λ (l : List ℕ). number_at n l 0) (bytes_between cells new at n same)
 
 -- where a test passes
 if_same : {A : Type 0} (test : Bool) (x y none : A) → (test ≡ true → x ≡ y)
@@ -42,7 +38,7 @@ module _ (kind : EntryKind) (info : TableInfo) (cells new : ℕ → Cell)
     (same : (x : ℕ) → IsOfTable kind info (table_in cells kind info) x → value_of (new x) ≡ value_of (cells x)) where
   zero_same : (n from : ℕ) → from + n ≤ 8 → number_in n new (info.table_at + from) ≡ number_in n cells
       (info.table_at + from)
-  zero_same n from fits = number_in-values n cells new (info.table_at + from) (λ x low high.
+  zero_same n from fits = number_between n cells new (info.table_at + from) (λ x low high.
       (same x (InZero (record
       { from = omega (arith, low); before = zero_long kind x (omega (arith, high, fits)) })))) where
         zero_long : (kind : EntryKind) (x : ℕ) → x < info.table_at + 8 → x < info.table_at + entry_size kind
@@ -60,7 +56,7 @@ module _ (kind : EntryKind) (info : TableInfo) (cells new : ℕ → Cell)
 
   head_same : (b : ℕ) → (table_in new kind info).head b ≡ (table_in cells kind info).head b
   head_same b = if_same (nat_lt b info.buckets) _ _ 0 (λ below.
-      number_in-values 4 cells new (bucket_place info b) (λ x low high.
+      number_between 4 cells new (bucket_place info b) (λ x low high.
       same x (InBucket b (ltb-true _ _ below) (record { from = low; before = high }))))
 
   -- a field of an entry, n bytes from some place in it on
@@ -83,15 +79,15 @@ module _ (kind : EntryKind) (info : TableInfo) (cells new : ℕ → Cell)
   number_is : (n e from : ℕ) → from + n ≤ entry_size kind
       → (if is_entry (most_in new info) e then number_in n new (entry_place kind info e + from) else 0)
       ≡ (if is_entry (most_in cells info) e then number_in n cells (entry_place kind info e + from) else 0)
-  number_is n e from fits = field_is e _ _ 0 (λ below. number_in-values n cells new (entry_place kind info e + from)
+  number_is n e from fits = field_is e _ _ 0 (λ below. number_between n cells new (entry_place kind info e + from)
       (field_same e from n fits below))
 
   parent_same : (e : ℕ) → (table_in new kind info).parent e ≡ (table_in cells kind info).parent e
-  parent_same e = field_is e _ _ 0 (λ below. number_in-values 4 cells new (entry_place kind info e) (λ x low high.
+  parent_same e = field_is e _ _ 0 (λ below. number_between 4 cells new (entry_place kind info e) (λ x low high.
       field_same e 0 4 (omega (arith, entry_long kind)) below x (omega (arith, low)) (omega (arith, high))))
 
   name_same : (e : ℕ) → (table_in new kind info).name e ≡ (table_in cells kind info).name e
-  name_same e = field_is e _ _ [] (λ below. bytes_in-values cells new (entry_place kind info e + 4) 16
+  name_same e = field_is e _ _ [] (λ below. bytes_between cells new (entry_place kind info e + 4) 16
       (field_same e 4 16 (omega (arith, entry_long kind)) below))
 
   link_same : (e : ℕ) → (table_in new kind info).link e ≡ (table_in cells kind info).link e
@@ -99,7 +95,7 @@ module _ (kind : EntryKind) (info : TableInfo) (cells new : ℕ → Cell)
       ap (λ (most : ℕ). if nat_lt e most then number_in 4 new
       (entry_place kind info e + link_offset kind) else 0) most_same
       ∙ if_same (nat_lt e (most_in cells info)) _ _ 0 (λ below.
-      number_in-values 4 cells new (entry_place kind info e + link_offset kind)
+      number_between 4 cells new (entry_place kind info e + link_offset kind)
       (field_same e (link_offset kind) 4 (omega (arith, link_last kind)) (ltb-true _ _ below)))
 
   pub table_same : table_in new kind info ≡ table_in cells kind info
