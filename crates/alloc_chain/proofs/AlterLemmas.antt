@@ -1,6 +1,7 @@
 -- Calls that put into cells of a space, one after another.
-use Rattle.std.proofs.Common.{◌≡◌, ◌≢◌, ◌⊎◌, ℕ, ◌+◌, ◌-◌, ◌*◌, ◌<◌, ◌≤◌, IsTrue, List, [], ◌∷◌, ◌++◌, length, slice_index, Option, Some, None, zero, suc, sym, ◌∙◌, ap}
-use Rattle.std.proofs.Common.{subst, arith, refl, inl, inr, ⊎_elim}
+use Rattle.std.proofs.Common.{◌≡◌, ◌≢◌, ◌⊎◌, ℕ, ◌+◌, ◌-◌, ◌<◌, ◌≤◌, IsTrue, List, [], ◌∷◌, ◌++◌, length}
+use Rattle.std.proofs.Common.{slice_index, Option, Some, None, zero, suc, sym, ◌∙◌, ap}
+use Rattle.std.proofs.Common.{subst, arith, inl, inr, ⊎_elim}
 use Rattle.std.proofs.lemmas.List.Elements.{Contains-append_left, Contains-append_right}
 use Rattle.std.specs.List.{Contains}
 use Rattle.chain_nodes.specs.declared.info.ChainInfo.{ChainInfo}
@@ -8,18 +9,19 @@ use Rattle.save_bytes.specs.declared.space.Bad.{Bad}
 use Rattle.save_bytes.specs.declared.space.Bad.TheVariants.{Disk, Damaged}
 use Rattle.save_bytes.specs.Cells.{Cell, Byte, Blank, Spoilt, IsByte, IsUnspoilt}
 use Rattle.save_bytes.specs.State.{Shape, State, HasNoTwins, CanPut}
-use Rattle.save_bytes.specs.Answers.{IsReady, IsFirstSpoilt}
-use Rattle.save_bytes.specs.Refusals.{UnlessDisk, NeverDamaged, IfDamaged}
-use Rattle.save_bytes.specs.Stays.{SameSpace, SameCells, SameTwins}
+use Rattle.save_bytes.specs.Answers.{IsReady}
+use Rattle.save_bytes.specs.Refusals.{UnlessDisk, NeverDamaged}
+use Rattle.save_bytes.specs.Stays.{SameCells}
 use Rattle.save_bytes.specs.Puts.{HasPut, Puts, IsDeeper}
 use Rattle.save_bytes.specs.Spots.{Spot, Frame, Hold, LandsAsBefore, MovesOnly}
 use Rattle.save_bytes.specs.Reads.{Reads}
 use Rattle.save_bytes.specs.Writes.{IsWithin}
-use Rattle.save_bytes.specs.Within.{MaySoften, IsIn, ChangesWithin}
-use Rattle.save_bytes.proofs.SpaceLemmas.{UnlessDisk-map, UnlessDisk-both, SameSpace-join, SameSpace-where, can_put}
+use Rattle.save_bytes.specs.Within.{MaySoften, ChangesWithin}
+use Rattle.save_bytes.proofs.SpaceLemmas.{UnlessDisk-map, SameSpace-join, SameSpace-where, can_put}
 use Rattle.save_bytes.proofs.PutLemmas.{find_value}
-use Rattle.save_bytes.proofs.WithinLemmas.{ChangesWithin-put, ChangesWithin-same, ChangesWithin-wider, ChangesWithin-join}
-use Rattle.alloc_chain.specs.Alters.{AreUnspoilt, Alters, IsOf}
+use Rattle.save_bytes.proofs.WithinLemmas.{ChangesWithin-put, ChangesWithin-same, ChangesWithin-wider}
+use Rattle.save_bytes.proofs.WithinLemmas.{ChangesWithin-join}
+use Rattle.alloc_chain.specs.Alters.{AreUnspoilt, Alters, IsOfEntries}
 
 -- a cell that is not spoilt softens to one that is not
 soft_unspoilt : (cell new : Cell) → MaySoften cell new → IsUnspoilt cell → IsUnspoilt new
@@ -76,7 +78,8 @@ put_bytes was at bytes new fits put x inside is =
     (put_or_soft was at bytes new fits put x inside)
 
 -- a put is not refused where no cell of its range is spoilt
-never_spoilt : (s : State) (at n : ℕ) (refusal : Option Bad) → at + n ≤ s.shape.size → IsTrue s.told → IsReady s at n refusal
+never_spoilt : (s : State) (at n : ℕ) (refusal : Option Bad) → at + n ≤ s.shape.size → IsTrue s.told → IsReady s at n
+    refusal
     → AreUnspoilt s (IsWithin at n) → NeverDamaged refusal
 never_spoilt s at n None fits told ready un = tt
 never_spoilt s at n (Some Disk) fits told ready un = tt
@@ -140,10 +143,12 @@ module _ {A : Type 0} (states : A → State) (keeps : Spot → A → A → Type 
         (λ (same : SameCells (states s) (states t)). ChangesWithin-same (states s) sites (states t).cells same)
         (h.stays.cells told);
     unspoilt = λ told. UnlessDisk-map refusal
-        (λ (same : SameCells (states s) (states t)). λ x below is. subst (λ (c : Cell). IsUnspoilt c) (sym (same x below)) is)
+        (λ (same : SameCells (states s) (states t)). λ x below is. subst (λ (c : Cell). IsUnspoilt c) (sym (same x
+        below)) is)
         (h.stays.cells told);
     bytes = λ told. UnlessDisk-map refusal
-        (λ (same : SameCells (states s) (states t)). λ x below is. subst (λ (c : Cell). IsByte c) (sym (same x below)) is)
+        (λ (same : SameCells (states s) (states t)). λ x below is. subst (λ (c : Cell). IsByte c) (sym (same x
+        below)) is)
         (h.stays.cells told);
     hold = hold h.frame;
     spots = λ told spot misses. h.spots told spot;
@@ -152,13 +157,15 @@ module _ {A : Type 0} (states : A → State) (keeps : Spot → A → A → Type 
 
   -- at more places it leaves less
   pub Alters-wider : (few many : ℕ → Type 0) (s t : A) (refusal : Option Bad)
-      → ((x : ℕ) → few x → many x) → Alters states keeps lands few s t refusal → Alters states keeps lands many s t refusal
+      → ((x : ℕ) → few x → many x) → Alters states keeps lands few s t refusal → Alters states keeps lands many s t
+      refusal
   Alters-wider few many s t refusal wider h = record {
     space = h.space;
     plain = h.plain;
     ready = λ told un. h.ready told (λ x below site. un x below (wider x site));
     changes = λ told. UnlessDisk-map refusal
-        (λ (within : ChangesWithin (states s) few (states t).cells). ChangesWithin-wider (states s) few many (states t).cells
+        (λ (within : ChangesWithin (states s) few (states t).cells). ChangesWithin-wider (states s) few many (states
+        t).cells
         (λ x below. wider x) within) (h.changes told);
     unspoilt = h.unspoilt;
     bytes = h.bytes;
@@ -168,8 +175,10 @@ module _ {A : Type 0} (states : A → State) (keeps : Spot → A → A → Type 
   }
 
   -- a call behind a call
-  pub Alters-join : ((spot : Spot) (s t u : A) → keeps spot s t → keeps spot t u → keeps spot s u) → (sites : ℕ → Type 0)
-      (s t u : A) (refusal : Option Bad) → Alters states keeps lands sites s t None → Alters states keeps lands sites t u refusal
+  pub Alters-join : ((spot : Spot) (s t u : A) → keeps spot s t → keeps spot t u → keeps spot s u) → (sites : ℕ →
+      Type 0)
+      (s t u : A) (refusal : Option Bad) → Alters states keeps lands sites s t None → Alters states keeps lands sites
+      t u refusal
       → Alters states keeps lands sites s u refusal
   Alters-join join sites s t u refusal h k =
       let size : (states t).shape.size ≡ (states s).shape.size = ap (λ (shape : Shape). shape.size) h.space.shape in
@@ -180,13 +189,16 @@ module _ {A : Type 0} (states : A → State) (keeps : Spot → A → A → Type 
             (λ x below site. (let inside : x < (states s).shape.size = omega arith in
             h.unspoilt told x inside (un x inside site)));
         changes = λ told. UnlessDisk-map refusal
-            (λ (later : ChangesWithin (states t) sites (states u).cells). ChangesWithin-join (states s) (states t) sites
+            (λ (later : ChangesWithin (states t) sites (states u).cells). ChangesWithin-join (states s) (states t)
+            sites
             (states u).cells size (h.space.twins told) (h.changes told) later) (k.changes (h.space.told told));
         unspoilt = λ told. UnlessDisk-map refusal
-            (λ (later : (x : ℕ) → x < (states t).shape.size → IsUnspoilt ((states t).cells x) → IsUnspoilt ((states u).cells x)).
+            (λ (later : (x : ℕ) → x < (states t).shape.size → IsUnspoilt ((states t).cells x) → IsUnspoilt ((states
+            u).cells x)).
             λ x below is. later x (omega arith) (h.unspoilt told x below is)) (k.unspoilt (h.space.told told));
         bytes = λ told. UnlessDisk-map refusal
-            (λ (later : (x : ℕ) → x < (states t).shape.size → IsByte ((states t).cells x) → IsByte ((states u).cells x)).
+            (λ (later : (x : ℕ) → x < (states t).shape.size → IsByte ((states t).cells x) → IsByte ((states u).cells
+            x)).
             λ x below is. later x (omega arith) (h.bytes told x below is)) (k.bytes (h.space.told told));
         hold = join Hold s t u h.hold k.hold;
         spots = λ told spot misses. join spot s t u (h.spots told spot misses)
@@ -199,7 +211,8 @@ module _ {A : Type 0} (states : A → State) (keeps : Spot → A → A → Type 
       }
 
   -- calls at places of one set of places
-  pub alters_both : ((spot : Spot) (s t u : A) → keeps spot s t → keeps spot t u → keeps spot s u) → (one other many : ℕ → Type 0)
+  pub alters_both : ((spot : Spot) (s t u : A) → keeps spot s t → keeps spot t u → keeps spot s u) → (one other many
+      : ℕ → Type 0)
       (s t u : A) (refusal : Option Bad) → ((x : ℕ) → one x → many x) → ((x : ℕ) → other x → many x)
       → Alters states keeps lands one s t None → Alters states keeps lands other t u refusal
       → Alters states keeps lands many s u refusal
@@ -209,44 +222,53 @@ module _ {A : Type 0} (states : A → State) (keeps : Spot → A → A → Type 
 
   -- so at the words of entries
   pub alters_of : (info : ChainInfo) (few many : List ℕ) (s t : A) (refusal : Option Bad) → AreAmong few many
-      → Alters states keeps lands (IsOf info few) s t refusal → Alters states keeps lands (IsOf info many) s t refusal
+      → Alters states keeps lands (IsOfEntries info few) s t refusal → Alters states keeps lands (IsOfEntries info many) s t refusal
   alters_of info few many s t refusal wider =
-      Alters-wider (IsOf info few) (IsOf info many) s t refusal (λ x (e, within, of). (e, wider e within, of))
+      Alters-wider (IsOfEntries info few) (IsOfEntries info many) s t refusal (λ x (e, within, of). (e, wider e within, of))
 
-  pub alters_then : ((spot : Spot) (s t u : A) → keeps spot s t → keeps spot t u → keeps spot s u) → (info : ChainInfo)
+  pub alters_then : ((spot : Spot) (s t u : A) → keeps spot s t → keeps spot t u → keeps spot s u) → (info :
+      ChainInfo)
       (few more many : List ℕ) (s t u : A) (refusal : Option Bad) → AreAmong few many → AreAmong more many
-      → Alters states keeps lands (IsOf info few) s t None → Alters states keeps lands (IsOf info more) t u refusal
-      → Alters states keeps lands (IsOf info many) s u refusal
+      → Alters states keeps lands (IsOfEntries info few) s t None → Alters states keeps lands (IsOfEntries info more) t u refusal
+      → Alters states keeps lands (IsOfEntries info many) s u refusal
   alters_then join info few more many s t u refusal first second h k =
-      Alters-join join (IsOf info many) s t u refusal (alters_of info few many s t None first h)
+      Alters-join join (IsOfEntries info many) s t u refusal (alters_of info few many s t None first h)
       (alters_of info more many t u refusal second k)
 
   module _ (s t : A) (at : ℕ) (bytes : List ℕ) (single : HasNoTwins (states s)) where
-    changes_put : (refusal : Option Bad) → at + length bytes ≤ (states s).shape.size → Puts (states s) at bytes (states t) refusal
+    changes_put : (refusal : Option Bad) → at + length bytes ≤ (states s).shape.size → Puts (states s) at bytes
+        (states t) refusal
         → IsTrue (states s).told
         → UnlessDisk refusal (ChangesWithin (states s) (IsWithin at (length bytes)) (states t).cells)
     changes_put None fits puts told =
-        ChangesWithin-put (states s) at bytes (states t).cells fits (puts.done (can_put (states s) at (length bytes) single told))
+        ChangesWithin-put (states s) at bytes (states t).cells fits (puts.done (can_put (states s) at (length bytes)
+        single told))
     changes_put (Some Disk) fits puts told = tt
     changes_put (Some (Damaged part level block)) fits puts told =
         ChangesWithin-same (states s) (IsWithin at (length bytes)) (states t).cells
         (puts.damaged (can_put (states s) at (length bytes) single told))
 
-    unspoilt_put : (refusal : Option Bad) → at + length bytes ≤ (states s).shape.size → Puts (states s) at bytes (states t) refusal
+    unspoilt_put : (refusal : Option Bad) → at + length bytes ≤ (states s).shape.size → Puts (states s) at bytes
+        (states t) refusal
         → IsTrue (states s).told
-        → UnlessDisk refusal ((x : ℕ) → x < (states s).shape.size → IsUnspoilt ((states s).cells x) → IsUnspoilt ((states t).cells x))
+        → UnlessDisk refusal ((x : ℕ) → x < (states s).shape.size → IsUnspoilt ((states s).cells x) → IsUnspoilt
+        ((states t).cells x))
     unspoilt_put None fits puts told =
-        put_unspoilt (states s) at bytes (states t).cells fits (puts.done (can_put (states s) at (length bytes) single told))
+        put_unspoilt (states s) at bytes (states t).cells fits (puts.done (can_put (states s) at (length bytes)
+        single told))
     unspoilt_put (Some Disk) fits puts told = tt
     unspoilt_put (Some (Damaged part level block)) fits puts told = λ x below is.
         subst (λ (c : Cell). IsUnspoilt c)
         (sym (puts.damaged (can_put (states s) at (length bytes) single told) x below)) is
 
-    bytes_put : (refusal : Option Bad) → at + length bytes ≤ (states s).shape.size → Puts (states s) at bytes (states t) refusal
+    bytes_put : (refusal : Option Bad) → at + length bytes ≤ (states s).shape.size → Puts (states s) at bytes (states
+        t) refusal
         → IsTrue (states s).told
-        → UnlessDisk refusal ((x : ℕ) → x < (states s).shape.size → IsByte ((states s).cells x) → IsByte ((states t).cells x))
+        → UnlessDisk refusal ((x : ℕ) → x < (states s).shape.size → IsByte ((states s).cells x) → IsByte ((states
+        t).cells x))
     bytes_put None fits puts told =
-        put_bytes (states s) at bytes (states t).cells fits (puts.done (can_put (states s) at (length bytes) single told))
+        put_bytes (states s) at bytes (states t).cells fits (puts.done (can_put (states s) at (length bytes) single
+        told))
     bytes_put (Some Disk) fits puts told = tt
     bytes_put (Some (Damaged part level block)) fits puts told = λ x below is.
         subst (λ (c : Cell). IsByte c)

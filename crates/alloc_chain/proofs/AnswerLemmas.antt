@@ -1,13 +1,12 @@
 -- What a swap answers, and what it leaves.
-use Rattle.std.proofs.Common.{◌≡◌, ◌≢◌, ◌⊎◌, ℕ, ◌+◌, ◌*◌, ◌<◌, ◌≤◌, IsTrue, List, [], ◌∷◌, ◌++◌, length, nat_eq, Option, Some, None}
-use Rattle.std.proofs.Common.{Result, Ok, Err, refl, sym, ◌∙◌, ap, subst, arith, inl, inr, ⊎_elim, zero, suc}
+use Rattle.std.proofs.Common.{◌≡◌, ℕ, ◌+◌, ◌*◌, ◌≤◌, List, [], ◌∷◌, ◌++◌, length, nat_eq, Option, Some, None}
+use Rattle.std.proofs.Common.{refl, sym, ◌∙◌, ap, subst, arith, ⊎_elim, zero, suc}
 use Rattle.std.proofs.lemmas.List.Elements.{Contains-append_cases}
 use Rattle.std.specs.List.{Contains, IsDistinct}
-use Rattle.save_bytes.specs.declared.space.Bad.{Bad}
 use Rattle.save_bytes.specs.declared.space.Bad.TheVariants.{Disk, Damaged}
-use Rattle.save_bytes.specs.Cells.{Cell, Spoilt, IsUnspoilt}
+use Rattle.save_bytes.specs.Cells.{Cell, IsUnspoilt}
 use Rattle.save_bytes.specs.State.{State, HasNoTwins}
-use Rattle.save_bytes.specs.Refusals.{UnlessDisk, NeverDamaged}
+use Rattle.save_bytes.specs.Refusals.{NeverDamaged}
 use Rattle.save_bytes.specs.Within.{ChangesWithin}
 use Rattle.save_bytes.proofs.WithinLemmas.{ChangesWithin-wider}
 use Rattle.chain_nodes.specs.declared.info.ChainInfo.{ChainInfo}
@@ -25,9 +24,10 @@ use Rattle.chain_nodes.proofs.TableLemmas.{table_cell}
 use Rattle.chain_nodes.proofs.ExactLemmas.{chain_few}
 use Rattle.chain_nodes.proofs.EditLemmas.{entry_within}
 use Rattle.alloc_chain.specs.declared.plan.Plan.{Plan}
-use Rattle.alloc_chain.specs.Alters.{AreUnspoilt, IsOf}
+use Rattle.alloc_chain.specs.Alters.{AreUnspoilt, IsOfEntries}
 use Rattle.alloc_chain.specs.Plans.{IsPlan, IsPlanIn, CanPlan, AreApartLists}
-use Rattle.alloc_chain.specs.Swaps.{IsOptChain, AreApart, CanSwap, IsSwapped, IsSwapEntry, IsSwapRefusal, IsSwapSite, plan_entries}
+use Rattle.alloc_chain.specs.Swaps.{IsOptChain, ShareNone, IsSwapped, IsSwapEntry, IsSwapRefusal, IsSwapSite}
+use Rattle.alloc_chain.specs.Swaps.{plan_entries}
 use Rattle.alloc_chain.proofs.SwapLemmas.{plan_in, others_stay}
 use Rattle.alloc_chain.proofs.WordLemmas.{entry_kept}
 
@@ -40,7 +40,8 @@ pub record HasNodes (table : ℕ → ℕ → Cell) (count : ℕ) (given : Option
   pub old_is : entries_of old_nodes ≡ mine
   pub free_is : entries_of free_nodes ≡ free
 
-module _ (table : ℕ → ℕ → Cell) (count : ℕ) (mine free : List ℕ) (listed : IsFreeList table count free) (share : AreApart mine free)
+module _ (table : ℕ → ℕ → Cell) (count : ℕ) (mine free : List ℕ) (listed : IsFreeList table count free) (share :
+    ShareNone mine free)
   where
     both_once : (old : List Node) → entries_of old ≡ mine → IsDistinct nat_eq mine
         → IsDistinct nat_eq (entries_of (old ++ listed.linked.nodes))
@@ -114,35 +115,29 @@ module _ (table : ℕ → ℕ → Cell) (count : ℕ) (mine free : List ℕ) (li
         }
 
 -- a refusal in words of the lists
-pub refusal_lists : (table : ℕ → ℕ → Cell) (n : ℕ) (one other mine free : List ℕ) (fault : ChainFault) → one ≡ mine → other ≡ free
+pub refusal_lists : (table : ℕ → ℕ → Cell) (n : ℕ) (one other mine free : List ℕ) (fault : ChainFault) → one ≡ mine →
+    other ≡ free
     → IsSwapRefusal table n one other fault → IsSwapRefusal table n mine free fault
 refusal_lists table n one other mine free fault same also h =
     subst (λ (l : List ℕ). IsSwapRefusal table n mine l fault) also
     (subst (λ (l : List ℕ). IsSwapRefusal table n l other fault) same h)
 
-pub swapped_lists : (table : ℕ → ℕ → Cell) (count n : ℕ) (old free : List Node) (mine list : List ℕ) (taken : Option ℕ)
+pub swapped_lists : (table : ℕ → ℕ → Cell) (count n : ℕ) (old free : List Node) (mine list : List ℕ) (taken : Option
+    ℕ)
     → entries_of old ≡ mine → entries_of free ≡ list → IsSwapped table count n (entries_of (old ++ free)) taken
     → IsSwapped table count n (mine ++ list) taken
 swapped_lists table count n old free mine list taken old_is free_is h =
     subst (λ (l : List ℕ). IsSwapped table count n l taken)
-    (entries_of-append old free ∙ ap (λ (l : List ℕ). l ++ entries_of free) old_is ∙ ap (λ (l : List ℕ). mine ++ l) free_is) h
-
--- what is not refused for a damaged cell
-pub never_refused : (table : ℕ → ℕ → Cell) (n : ℕ) (mine free : List ℕ) (bad : Bad) → NeverDamaged (Some bad)
-    → IsSwapRefusal table n mine free (Refused bad)
-never_refused table n mine free Disk never = tt
-never_refused table n mine free (Damaged part level block) never = absurd never
-
-pub never_changed : (P : Type 0) (bad : Bad) → NeverDamaged (Some bad) → UnlessDisk (Some bad) P
-never_changed P Disk never = tt
-never_changed P (Damaged part level block) never = absurd never
+    (entries_of-append old free ∙ ap (λ (l : List ℕ). l ++ entries_of free) old_is ∙ ap (λ (l : List ℕ). mine ++ l)
+    free_is) h
 
 -- the words of a plan are words of the lists
 pub plan_sites : (table : ℕ → ℕ → Cell) (info : ChainInfo) (given : Option ℕ) (n : ℕ) (mine free : List ℕ)
     (nodes : HasNodes table info.count given mine free) (plan : Plan) → IsPlan nodes.old_nodes nodes.free_nodes n plan
-    → IsPlanIn info.count plan → (x : ℕ) → IsOf info (plan_entries plan) x → IsSwapSite info mine free x
+    → IsPlanIn info.count plan → (x : ℕ) → IsOfEntries info (plan_entries plan) x → IsSwapSite info mine free x
 plan_sites table info given n mine free nodes plan is inside x (entry, within, of) =
-    let here = plan_in table info.count n nodes.old_nodes nodes.free_nodes nodes.apart.chain nodes.apart.listed.linked plan is inside
+    let here = plan_in table info.count n nodes.old_nodes nodes.free_nodes nodes.apart.chain
+    nodes.apart.listed.linked plan is inside
     entry within in (
       entry,
       subst (λ (l : List ℕ). IsSwapEntry mine l entry) nodes.free_is
@@ -151,7 +146,8 @@ plan_sites table info given n mine free nodes plan is inside x (entry, within, o
     )
 
 -- a word that is spoilt is one of the lists
-pub refused_ready : (s : State) (info : ChainInfo) (given : Option ℕ) (n : ℕ) (mine free : List ℕ) → HasAllocationTable s.shape info
+pub refused_ready : (s : State) (info : ChainInfo) (given : Option ℕ) (n : ℕ) (mine free : List ℕ) →
+    HasAllocationTable s.shape info
     → HasNodes (table_in s.cells info) info.count given mine free → (fault : ChainFault)
     → IsSwapRefusal (table_in s.cells info) n mine free fault → AreUnspoilt s (IsSwapSite info mine free)
     → NeverDamaged (refusal_of (Some fault))
@@ -174,25 +170,29 @@ refused_ready s info given n mine free table nodes (Refused (Damaged part level 
         (λ (none : entry ≡ 0). omega (arith, none))
         (λ (within : Contains (mine ++ free) entry).
         let whole = subst (λ (l : List ℕ). Contains l entry)
-        (ap (λ (l : List ℕ). mine ++ l) (sym nodes.free_is) ∙ ap (λ (l : List ℕ). l ++ entries_of nodes.free_nodes) (sym nodes.old_is))
+        (ap (λ (l : List ℕ). mine ++ l) (sym nodes.free_is) ∙ ap (λ (l : List ℕ). l ++ entries_of nodes.free_nodes)
+        (sym nodes.old_is))
         within in
         ⊎_elim
         (λ (left : Contains (entries_of nodes.old_nodes) entry).
         (entry_within (table_in s.cells info) info.count Opens nodes.old_nodes 0 entry nodes.apart.chain left).1)
         (λ (right : Contains (entries_of nodes.free_nodes) entry).
-        (entry_within (table_in s.cells info) info.count OpensFree nodes.free_nodes 0 entry nodes.apart.listed.linked right).1)
+        (entry_within (table_in s.cells info) info.count OpensFree nodes.free_nodes 0 entry nodes.apart.listed.linked
+        right).1)
         (Contains-append_cases (entries_of nodes.old_nodes) (entries_of nodes.free_nodes) entry whole))
         is
 
 -- no chain changes that shares no entry with the lists
-pub others_kept : (s t : State) (info : ChainInfo) (mine free : List ℕ) → HasAllocationTable s.shape info → HasNoTwins s
-    → ChangesWithin s (IsSwapSite info mine free) t.cells → (first : ℕ) (list : List ℕ) → AreApart list (mine ++ free)
+pub others_kept : (s t : State) (info : ChainInfo) (mine free : List ℕ) → HasAllocationTable s.shape info →
+    HasNoTwins s
+    → ChangesWithin s (IsSwapSite info mine free) t.cells → (first : ℕ) (list : List ℕ) → ShareNone list (mine ++ free)
     → IsChain (table_in s.cells info) info.count first list → IsChain (table_in t.cells info) info.count first list
 others_kept s t info mine free table single changes first list apart chain =
-    let wider = ChangesWithin-wider s (IsSwapSite info mine free) (IsOf info (0 ∷ (mine ++ free))) t.cells
+    let wider = ChangesWithin-wider s (IsSwapSite info mine free) (IsOfEntries info (0 ∷ (mine ++ free))) t.cells
     (λ x below (entry, is, of). (entry, among entry is, of)) changes in
     others_stay (table_in s.cells info) (table_in t.cells info) info.count first mine free list
-    (λ x some inside out. entry_kept s t info (0 ∷ (mine ++ free)) table single wider x inside (none_of x some out)) apart chain
+    (λ x some inside out. entry_kept s t info (0 ∷ (mine ++ free)) table single wider x inside (none_of x some out))
+    apart chain
   where
     among : (entry : ℕ) → IsSwapEntry mine free entry → Contains (0 ∷ (mine ++ free)) entry
     among entry is =

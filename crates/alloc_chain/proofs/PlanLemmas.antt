@@ -1,6 +1,7 @@
 -- Going over given nodes.
-use Rattle.std.proofs.Common.{◌≡◌, ◌≢◌, ℕ, ◌+◌, ◌-◌, ◌*◌, ◌^◌, ◌<◌, ◌≤◌, IsTrue, List, [], ◌∷◌, ◌++◌, length, refl, sym, ◌∙◌, ap, subst, arith}
-use Rattle.std.proofs.Common.{⊎_elim, append_assoc, length-append, Result, Ok, Err}
+use Rattle.std.proofs.Common.{◌≡◌, ◌≢◌, ℕ, ◌+◌, ◌-◌, ◌^◌, ◌<◌, ◌≤◌, List, [], ◌∷◌, ◌++◌, length, sym, ◌∙◌, ap}
+use Rattle.std.proofs.Common.{subst, arith}
+use Rattle.std.proofs.Common.{⊎_elim, append_assoc, length-append, Result, Err}
 use Rattle.std.proofs.lemmas.Bool.{cases_lt}
 use Rattle.std.proofs.lemmas.List.FromFn.{length-range_with_len}
 use Rattle.save_bytes.specs.Cells.{Cell}
@@ -11,7 +12,7 @@ use Rattle.chain_nodes.specs.declared.fault.ChainFault.TheVariants.{Bad as Refus
 use Rattle.chain_nodes.specs.declared.node.Node.{Node}
 use Rattle.chain_nodes.specs.declared.node.Lead.{Lead}
 use Rattle.chain_nodes.specs.declared.node.Lead.TheVariants.{Opens, Follows}
-use Rattle.chain_nodes.specs.Chains.{IsNode, start_of, AreNodes, lead_after, entries_of}
+use Rattle.chain_nodes.specs.Chains.{IsNode, start_of, AreNodes, entries_of}
 use Rattle.chain_nodes.specs.Runs.{DoneUnlessDisk}
 use Rattle.chain_nodes.proofs.ListLemmas.{start_of-append, entries_of-append}
 use Rattle.chain_nodes.proofs.FrontLemmas.{same_node, start_small}
@@ -30,8 +31,10 @@ done_other P Q (Broken entry) h = h
 done_other P Q (Short need have) h = h
 
 -- a node that was read is the first of those that begin there
-pub first_of : (table : ℕ → ℕ → Cell) (count : ℕ) → count < 2 ^ 31 → (lead : Lead) (nodes : List Node) (first : ℕ) (at : NodeAt)
-    → 1 ≤ first → AreNodes table count lead nodes 0 → start_of nodes 0 ≡ first → IsNode table count lead at.node at.next
+pub first_of : (table : ℕ → ℕ → Cell) (count : ℕ) → count < 2 ^ 31 → (lead : Lead) (nodes : List Node) (first : ℕ)
+    (at : NodeAt)
+    → 1 ≤ first → AreNodes table count lead nodes 0 → start_of nodes 0 ≡ first → IsNode table count lead at.node
+    at.next
     → at.node.first ≡ first → at.next ≤ count → IsFirstOf nodes at
 first_of table count few lead [] first at some h starts is first_is inside = absurd (omega (arith, starts, some))
 first_of table count few lead (node ∷ nodes) first at some h starts is first_is inside =
@@ -45,7 +48,8 @@ length_run : (node : Node) → length (run_of node) ≡ node.last + 1 - node.fir
 length_run node = length-range_with_len node.first (node.last + 1 - node.first)
 
 pub length_around : (bs : List Node) (node : Node) (after : List Node)
-    → length (entries_of (bs ++ node ∷ after)) ≡ length (entries_of bs) + ((node.last + 1 - node.first) + length (entries_of after))
+    → length (entries_of (bs ++ node ∷ after)) ≡ length (entries_of bs) + ((node.last + 1 - node.first) + length
+    (entries_of after))
 length_around bs node after =
     ap length (entries_of-append bs (node ∷ after)) ∙ length-append (entries_of bs) (run_of node ++ entries_of after)
     ∙ ap (λ (n : ℕ). length (entries_of bs) + n) (length-append (run_of node) (entries_of after)
@@ -95,7 +99,8 @@ module _ (nodes : List Node) (from n : ℕ) (at : NodeAt) (is : IsNodeAt nodes f
   pub all_counted : (table : ℕ → ℕ → Cell) (count : ℕ) (lead : Lead) → AreNodes table count lead nodes 0
       → at.node.first ≤ at.node.last → at.next ≡ 0 → is.after ≡ []
   all_counted table count lead h ordered none =
-      no_nodes_behind table count (Follows at.node.first) is.after (behind_at nodes from at is table count lead h) (is.next ∙ none)
+      no_nodes_behind table count (Follows at.node.first) is.after (behind_at nodes from at is table count lead h)
+      (is.next ∙ none)
 
   pub all_before : at.node.first ≤ at.node.last → is.after ≡ [] → from + length (entries_of nodes) ≡ at.end
   all_before ordered none =
@@ -115,7 +120,8 @@ module _ (nodes : List Node) (from n : ℕ) (at : NodeAt) (is : IsNodeAt nodes f
   }
 
 -- a call that went over nodes failed for the disk's sake
-pub enough_done : {A B : Type 0} (need have : ℕ) (P : A → Type 0) (Q : B → Type 0) (fault : ChainFault) → DoneUnlessDisk (Err fault) P
+pub enough_done : {A B : Type 0} (need have : ℕ) (P : A → Type 0) (Q : B → Type 0) (fault : ChainFault) →
+    DoneUnlessDisk (Err fault) P
     → EnoughUnlessDisk need have (Err fault) Q
 enough_done need have P Q (Refused Disk) h = tt
 enough_done need have P Q (Refused (Damaged part level block)) h = h
@@ -126,11 +132,16 @@ enough_done need have P Q (Short n m) h = absurd h
 pub is_last : (next end pos : ℕ) → (next ≢ 0 → pos < end) → end ≤ pos → next ≡ 0
 is_last next end pos found short =
     ⊎_elim
-    (λ (some : 0 < next). (let past = found (λ none. omega (arith, none, some)) in absurd (omega (arith, past, short))))
+    (λ (some : 0 < next). (let past = found (λ none. omega (arith, none, some)) in absurd (omega (
+      arith,
+      past,
+      short,
+    ))))
     (λ (none : next ≤ 0). omega (arith, none))
     (cases_lt 0 next)
 
-pub enough_other : {A B : Type 0} (need have other : ℕ) (P : A → Type 0) (Q : B → Type 0) (fault : ChainFault) → have ≡ other
+pub enough_other : {A B : Type 0} (need have other : ℕ) (P : A → Type 0) (Q : B → Type 0) (fault : ChainFault) → have
+    ≡ other
     → EnoughUnlessDisk need have (Err fault) P → EnoughUnlessDisk need other (Err fault) Q
 enough_other need have other P Q (Refused Disk) same h = tt
 enough_other need have other P Q (Refused (Damaged part level block)) same h = h
@@ -139,7 +150,8 @@ enough_other need have other P Q (Short n m) same h = (h.0, h.1 ∙ same, omega 
 
 -- where nodes begin, and others behind them
 start_or : (table : ℕ → ℕ → Cell) (count : ℕ) (lead : Lead) (nodes : List Node) (next head result : ℕ)
-    → AreNodes table count lead nodes 0 → start_of nodes 0 ≡ next → (next ≡ 0 → result ≡ head) → (next ≢ 0 → result ≡ next)
+    → AreNodes table count lead nodes 0 → start_of nodes 0 ≡ next → (next ≡ 0 → result ≡ head) → (next ≢ 0 → result ≡
+    next)
     → start_of nodes head ≡ result
 start_or table count lead [] next head result h starts none some = sym (none (sym starts))
 start_or table count lead (node ∷ nodes) next head result h starts none some =
@@ -147,7 +159,8 @@ start_or table count lead (node ∷ nodes) next head result h starts none some =
 
 module _ (table : ℕ → ℕ → Cell) (count : ℕ) (old free : List Node) (linked : AreNodes table count Opens old 0) where
   -- the last node of the old chain
-  pub ended_by : (first : ℕ) (tail : NodeAt) → start_of old 0 ≡ first → IsNodeAt old 0 tail → tail.node.first ≤ tail.node.last
+  pub ended_by : (first : ℕ) (tail : NodeAt) → start_of old 0 ≡ first → IsNodeAt old 0 tail → tail.node.first ≤
+      tail.node.last
       → tail.next ≡ 0 → IsEndedBy old (record { first = first; tail = tail.node })
   ended_by first tail starts is ordered none =
       let last = all_counted old 0 0 tail is table count Opens linked ordered none in
@@ -161,7 +174,11 @@ module _ (table : ℕ → ℕ → Cell) (count : ℕ) (old free : List Node) (li
   pub old_blocks : (tail : NodeAt) → IsNodeAt old 0 tail → tail.node.first ≤ tail.node.last → tail.next ≡ 0
       → tail.end ≡ length (entries_of old)
   old_blocks tail is ordered none =
-      omega (arith, all_before old 0 0 tail is ordered (all_counted old 0 0 tail is table count Opens linked ordered none))
+      omega (
+        arith,
+        all_before old 0 0 tail is ordered (all_counted old 0 0 tail is table count Opens linked ordered
+            none),
+      )
 
   -- the boundary lies in the old chain
   pub cut_in_old : (n head : ℕ) (at : NodeAt) (boundary : Boundary) → start_of free 0 ≡ head → IsNodeAt old 0 at
@@ -175,7 +192,8 @@ module _ (table : ℕ → ℕ → Cell) (count : ℕ) (old free : List Node) (li
         whole = ap (λ (l : List Node). l ++ free) is.whole ∙ append_assoc is.before (at.node ∷ is.after) free
             ∙ ap (λ (m : Node). is.before ++ m ∷ (is.after ++ free)) (sym node);
         next = start_of-append is.after free 0 ∙ ap (start_of is.after) starts
-            ∙ start_or table count (Follows at.node.first) is.after at.next head boundary.next behind is.next none some;
+            ∙ start_or table count (Follows at.node.first) is.after at.next head boundary.next behind is.next none
+            some;
         counted = omega (arith, counted, is.counted, ap (λ (m : Node). m.first) node, ap (λ (m : Node). m.last) node);
       }
 
@@ -204,5 +222,6 @@ fresh_enough n old free result none h =
     let lengths : length (entries_of free) ≡ 0 + length (entries_of free) = omega arith in
     let here : EnoughUnlessDisk n (0 + length (entries_of free)) result (IsPlan [] free n) =
     subst (λ (k : ℕ). EnoughUnlessDisk n k result (IsPlan [] free n)) lengths h in
-    subst (λ (l : List Node). EnoughUnlessDisk n (length (entries_of l) + length (entries_of free)) result (IsPlan l free n))
+    subst (λ (l : List Node). EnoughUnlessDisk n (length (entries_of l) + length (entries_of free)) result (IsPlan l
+    free n))
     (sym none) here

@@ -1,5 +1,6 @@
 -- What a swap needs of the words that it writes, and what it leaves as it is.
-use Rattle.std.proofs.Common.{◌≡◌, ◌≢◌, ℕ, zero, suc, ◌+◌, ◌-◌, ◌*◌, ◌<◌, ◌≤◌, List, [], ◌∷◌, ◌++◌, length, get_or, refl, sym, ◌∙◌, ap, subst, arith}
+use Rattle.std.proofs.Common.{◌≡◌, ℕ, ◌+◌, ◌*◌, ◌<◌, ◌≤◌, List, [], ◌∷◌, ◌++◌, length, get_or, refl, sym, ◌∙◌, ap}
+use Rattle.std.proofs.Common.{subst, arith}
 use Rattle.std.proofs.Common.{IsTrue, IfSome, min, Option, None, Some, Err, inl, inr, nat_eq, take, drop, ⊎_elim}
 use Rattle.std.proofs.Math.Seq.{take-append_seam, drop-append_seam}
 use Rattle.std.proofs.lemmas.Grind.{get_or_default_zero}
@@ -8,7 +9,7 @@ use Rattle.std.specs.List.{Contains, IsDistinct}
 use Rattle.chain_nodes.specs.declared.node.Node.{Node}
 use Rattle.save_bytes.specs.State.{Shape, State}
 use Rattle.save_bytes.specs.Stays.{Stays}
-use Rattle.save_bytes.specs.Cells.{Cell, Byte, Blank, Spoilt, IsUnspoilt, Blames}
+use Rattle.save_bytes.specs.Cells.{Cell, IsUnspoilt, Blames}
 use Rattle.save_bytes.specs.Answers.{IsFirstSpoilt}
 use Rattle.save_bytes.specs.declared.space.Bad.TheVariants.{Disk, Damaged}
 use Rattle.chain_nodes.specs.declared.fault.ChainFault.{ChainFault}
@@ -23,7 +24,7 @@ use Rattle.chain_nodes.specs.Edits.{KeepsEntry, AreFreeNodes, AreTaken}
 use Rattle.chain_nodes.proofs.OwnLemmas.{list_rests, entry_of}
 use Rattle.chain_nodes.proofs.TableLemmas.{table_cell}
 use Rattle.chain_nodes.proofs.EditLemmas.{run_of, entry_within, AreNodes-split}
-use Rattle.alloc_chain.specs.Alters.{AreUnspoilt, IsOf, cut_entries}
+use Rattle.alloc_chain.specs.Alters.{AreUnspoilt, IsOfEntries, cut_entries}
 use Rattle.chain_nodes.proofs.ListLemmas.{start_of-append, entries_of-append}
 use Rattle.chain_nodes.proofs.DistinctLemmas.{distinct_left}
 use Rattle.alloc_chain.specs.declared.plan.Boundary.{Boundary}
@@ -32,8 +33,10 @@ use Rattle.alloc_chain.specs.declared.plan.Plan.{Plan}
 use Rattle.chain_nodes.proofs.ExactLemmas.{no_words}
 use Rattle.save_bytes.specs.declared.space.Bad.{Bad}
 use Rattle.save_bytes.specs.Refusals.{IfDamaged}
-use Rattle.alloc_chain.specs.Plans.{IsBoundary, IsBoundaryIn, IsEndedBy, IsPlan, IsPlanIn, CanPlan, EnoughUnlessDisk, AreOldNodes, AreGivenBy, AreCutBy}
-use Rattle.alloc_chain.specs.Swaps.{AreApart, HasSpoilt, IsSwapped, IsSwapRefusal, first_of, given_entries, taken_entries, plan_entries}
+use Rattle.alloc_chain.specs.Plans.{IsBoundary, IsBoundaryIn, IsEndedBy, IsPlan, IsPlanIn, CanPlan}
+use Rattle.alloc_chain.specs.Plans.{EnoughUnlessDisk, AreOldNodes, AreGivenBy, AreCutBy}
+use Rattle.alloc_chain.specs.Swaps.{ShareNone, HasSpoilt, IsSwapped, IsSwapRefusal, first_of, given_entries}
+use Rattle.alloc_chain.specs.Swaps.{taken_entries, plan_entries}
 use Rattle.alloc_chain.proofs.CutLemmas.{IsNoneOr, each_none, each_more, all_four, each_four}
 use Rattle.alloc_chain.proofs.TakeLemmas.{starts_some}
 use Rattle.alloc_chain.proofs.PlanLemmas.{length_around}
@@ -48,21 +51,22 @@ spoilt_entry cells info entry at inside is part level block first =
 
 -- what is not spoilt after a call that changes nothing was not before
 pub unspoilt_before : (s m : State) (info : ChainInfo) (entries : List ℕ) → Stays s m None → IsTrue s.told
-    → AreUnspoilt m (IsOf info entries) → AreUnspoilt s (IsOf info entries)
+    → AreUnspoilt m (IsOfEntries info entries) → AreUnspoilt s (IsOfEntries info entries)
 unspoilt_before s m info entries stays told un x below site =
     let size : m.shape.size ≡ s.shape.size = ap (λ (shape : Shape). shape.size) stays.space.shape in
     subst (λ (c : Cell). IsUnspoilt c) (stays.cells told x below) (un x (omega (arith, size, below)) site)
 
 -- no word of some entries is spoilt
 pub unspoilt_all : (s : State) (info : ChainInfo) (entries : List ℕ)
-    → ((k : ℕ) → k < length entries → AreUnspoilt s (IsOf info (get_or entries k 0 ∷ []))) → AreUnspoilt s (IsOf info entries)
+    → ((k : ℕ) → k < length entries → AreUnspoilt s (IsOfEntries info (get_or entries k 0 ∷ []))) → AreUnspoilt s (IsOfEntries info
+    entries)
 unspoilt_all s info entries each x below (entry, (k, within, is), of) =
     let same : get_or entries k 0 ≡ entry = sym (get_or_default_zero entries k entry within) ∙ is in
     each k within x below (entry, (0, omega arith, same), of)
 
 -- of two lists of entries
-pub unspoilt_both : (s : State) (info : ChainInfo) (one other : List ℕ) → AreUnspoilt s (IsOf info one)
-    → AreUnspoilt s (IsOf info other) → AreUnspoilt s (IsOf info (one ++ other))
+pub unspoilt_both : (s : State) (info : ChainInfo) (one other : List ℕ) → AreUnspoilt s (IsOfEntries info one)
+    → AreUnspoilt s (IsOfEntries info other) → AreUnspoilt s (IsOfEntries info (one ++ other))
 unspoilt_both s info one other first second x below (entry, within, of) =
     ⊎_elim
     (λ (left : Contains one entry). first x below (entry, left, of))
@@ -71,7 +75,8 @@ unspoilt_both s info one other first second x below (entry, within, of) =
 
 -- a chain that shares no entry with the two lists of a swap is the same one
 pub others_stay : (old new : ℕ → ℕ → Cell) (count first : ℕ) (mine free list : List ℕ)
-    → ((x : ℕ) → 1 ≤ x → x ≤ count → ¬ Contains (mine ++ free) x → KeepsEntry old new x) → AreApart list (mine ++ free)
+    → ((x : ℕ) → 1 ≤ x → x ≤ count → ¬ Contains (mine ++ free) x → KeepsEntry old new x) → ShareNone list (mine ++
+    free)
     → IsChain old count first list → IsChain new count first list
 others_stay old new count first mine free list kept apart chain = record {
   some = chain.some;
@@ -93,7 +98,8 @@ module _ (nodes : List Node) (n : ℕ) (boundary : Boundary) (is : IsBoundary no
       start_of-append is.before (boundary.node ∷ []) 0 ∙ sym (start_of-append is.before (boundary.node ∷ is.after) 0)
       ∙ sym (ap (λ (l : List Node). start_of l 0) is.whole) ∙ starts
 
-  module _ (new : ℕ → ℕ → Cell) (count first : ℕ) (once : IsDistinct nat_eq (entries_of nodes)) (starts : start_of nodes 0 ≡ first)
+  module _ (new : ℕ → ℕ → Cell) (count first : ℕ) (once : IsDistinct nat_eq (entries_of nodes)) (starts : start_of
+      nodes 0 ≡ first)
       (from : boundary.node.first ≤ boundary.middle)
       (taken : AreTaken new count is.before boundary.node is.after boundary.middle) where
     front : List ℕ
@@ -113,11 +119,13 @@ module _ (nodes : List Node) (n : ℕ) (boundary : Boundary) (is : IsBoundary no
     )
 
     first_part : take n (entries_of nodes) ≡ front
-    first_part = ap (λ (l : List ℕ). take n l) (sym whole) ∙ ap (λ (k : ℕ). take k (front ++ entries_of taken.nodes)) (sym front_length)
+    first_part = ap (λ (l : List ℕ). take n l) (sym whole) ∙ ap (λ (k : ℕ). take k (front ++ entries_of taken.nodes))
+        (sym front_length)
         ∙ take-append_seam front (entries_of taken.nodes)
 
     last_part : drop n (entries_of nodes) ≡ entries_of taken.nodes
-    last_part = ap (λ (l : List ℕ). drop n l) (sym whole) ∙ ap (λ (k : ℕ). drop k (front ++ entries_of taken.nodes)) (sym front_length)
+    last_part = ap (λ (l : List ℕ). drop n l) (sym whole) ∙ ap (λ (k : ℕ). drop k (front ++ entries_of taken.nodes))
+        (sym front_length)
         ∙ drop-append_seam front (entries_of taken.nodes)
 
     first_is : start_of (is.before ++ record { first = boundary.node.first; last = boundary.middle } ∷ []) 0 ≡ first
@@ -126,7 +134,11 @@ module _ (nodes : List Node) (n : ℕ) (boundary : Boundary) (is : IsBoundary no
 
     first_some : 1 ≤ first
     first_some =
-        let some = starts_some new count Opens is.before (record { first = boundary.node.first; last = boundary.middle }) taken.chain in
+        let some = starts_some new count Opens is.before (record {
+          first = boundary.node.first;
+          last =
+              boundary.middle;
+        }) taken.chain in
         omega (arith, some, first_is)
 
     pub swapped_by : IsSwapped new count n (entries_of nodes) (Some first)
@@ -141,7 +153,8 @@ module _ (nodes : List Node) (n : ℕ) (boundary : Boundary) (is : IsBoundary no
           entries = sym first_part;
         };
         once = subst (λ (l : List ℕ). IsDistinct nat_eq l) (sym first_part)
-            (distinct_left front (entries_of taken.nodes) (subst (λ (l : List ℕ). IsDistinct nat_eq l) (sym whole) once));
+            (distinct_left front (entries_of taken.nodes) (subst (λ (l : List ℕ). IsDistinct nat_eq l) (sym whole)
+            once));
       };
       rest = record {
         read = taken.free.read;
@@ -156,7 +169,8 @@ module _ (nodes : List Node) (n : ℕ) (boundary : Boundary) (is : IsBoundary no
     }
 
 -- a plan that was refused
-pub refused_plan : {A : Type 0} (table : ℕ → ℕ → Cell) (n : ℕ) (mine free : List ℕ) (P : A → Type 0) (fault : ChainFault)
+pub refused_plan : {A : Type 0} (table : ℕ → ℕ → Cell) (n : ℕ) (mine free : List ℕ) (P : A → Type 0) (fault :
+    ChainFault)
     → EnoughUnlessDisk n (length mine + length free) (Err fault) P → IsSwapRefusal table n mine free fault
 refused_plan table n mine free P (Refused Disk) h = tt
 refused_plan table n mine free P (Refused (Damaged part level block)) h = absurd h
@@ -164,7 +178,8 @@ refused_plan table n mine free P (Broken entry) h = h
 refused_plan table n mine free P (Short need have) h = (h.0, h.1, omega (arith, h.1, h.2))
 
 -- an old chain, or none, begins with an entry of it
-old_start : (table : ℕ → ℕ → Cell) (count : ℕ) (given : Option ℕ) (old : List Node) → AreOldNodes table count given old
+old_start : (table : ℕ → ℕ → Cell) (count : ℕ) (given : Option ℕ) (old : List Node) → AreOldNodes table count given
+    old
     → AreNodes table count Opens old 0
 old_start table count None old is = subst (λ (l : List Node). AreNodes table count Opens l 0) (sym is) tt
 old_start table count (Some first) old is = is.1
@@ -174,10 +189,15 @@ abbrev pub AreFilled : List Node → Type 0
 AreFilled [] = Unit {0}
 AreFilled (node ∷ nodes) = (node.first ≤ node.last) × AreFilled nodes
 
-linked_filled : (table : ℕ → ℕ → Cell) (count : ℕ) (lead : Lead) (nodes : List Node) → AreNodes table count lead nodes 0
+linked_filled : (table : ℕ → ℕ → Cell) (count : ℕ) (lead : Lead) (nodes : List Node) → AreNodes table count lead
+    nodes 0
     → AreFilled nodes
 linked_filled table count lead [] h = tt
-linked_filled table count lead (node ∷ nodes) h = (h.0.ordered, linked_filled table count (Follows node.first) nodes h.1)
+linked_filled table count lead (node ∷ nodes) h = (
+  h.0.ordered,
+  linked_filled table count (Follows node.first) nodes
+      h.1,
+)
 
 AreFilled-append : (xs ys : List Node) → AreFilled xs → AreFilled ys → AreFilled (xs ++ ys)
 AreFilled-append [] ys h k = k
@@ -193,7 +213,8 @@ start_none_or [] h = inl refl
 start_none_or (node ∷ nodes) h = inr (entry_of node nodes node.first (omega arith) h.0)
 
 -- a number of one part is one of the whole
-pub none_or_wider : (few many : List ℕ) → ((x : ℕ) → Contains few x → Contains many x) → (x : ℕ) → IsNoneOr few x → IsNoneOr many x
+pub none_or_wider : (few many : List ℕ) → ((x : ℕ) → Contains few x → Contains many x) → (x : ℕ) → IsNoneOr few x →
+    IsNoneOr many x
 none_or_wider few many wider x h =
     ⊎_elim (λ (none : x ≡ 0). inl none) (λ (within : Contains few x). inr (wider x within)) h
 
@@ -204,7 +225,8 @@ module _ (table : ℕ → ℕ → Cell) (count n : ℕ) (old free : List Node) (
 
   in_old : (x : ℕ) → IsNoneOr (entries_of old) x → IsNoneOr both x
   unfolding both
-  in_old = none_or_wider (entries_of old) (entries_of old ++ entries_of free) (Contains-append_left (entries_of old) (entries_of free))
+  in_old = none_or_wider (entries_of old) (entries_of old ++ entries_of free) (Contains-append_left (entries_of old)
+      (entries_of free))
 
   in_free : (x : ℕ) → IsNoneOr (entries_of free) x → IsNoneOr both x
   unfolding both
@@ -225,7 +247,8 @@ module _ (table : ℕ → ℕ → Cell) (count n : ℕ) (old free : List Node) (
         (subst (λ (l : List Node). AreNodes table count Opens l 0) is.whole chain)).1.0
 
     tail_in : IsNoneOr both given.tail.first
-    tail_in = in_old given.tail.first (inr (subst (λ (l : List Node). Contains (entries_of l) given.tail.first) (sym is.whole)
+    tail_in = in_old given.tail.first (inr (subst (λ (l : List Node). Contains (entries_of l) given.tail.first) (sym
+        is.whole)
         (subst (λ (l : List ℕ). Contains l given.tail.first) (sym (entries_of-append is.front (given.tail ∷ [])))
         (Contains-append_right (entries_of is.front) (entries_of (given.tail ∷ [])) given.tail.first
         (entry_of given.tail [] given.tail.first (omega arith) tail_node.ordered)))))
@@ -235,7 +258,8 @@ module _ (table : ℕ → ℕ → Cell) (count n : ℕ) (old free : List Node) (
       → Contains (given_entries given head) x → IsNoneOr both x
   given_in None head is head_is x within = each_none both x within
   given_in (Some given) head is head_is x within =
-      each_four both 0 given.first given.tail.first head (inl refl) (old_first_in given.first is.starts) (tail_in given is)
+      each_four both 0 given.first given.tail.first head (inl refl) (old_first_in given.first is.starts) (tail_in
+      given is)
       (head_in head head_is) x within
 
   first_in : (given : Option Given) (head : ℕ) → AreGivenBy old given → start_of free 0 ≡ head
@@ -244,63 +268,68 @@ module _ (table : ℕ → ℕ → Cell) (count n : ℕ) (old free : List Node) (
   first_in (Some given) head is head_is = old_first_in given.first is.starts
 
   -- and so is what is written at a boundary
-  module _ (boundary : Boundary) (is : IsBoundary (old ++ free) 0 n boundary) (inside : IsBoundaryIn count boundary) where
-    parts_is : both ≡ entries_of (is.before ++ boundary.node ∷ is.after)
-    unfolding both
-    parts_is = sym (entries_of-append old free) ∙ ap entries_of is.whole
+  module _ (boundary : Boundary) (is : IsBoundary (old ++ free) 0 n boundary) (inside : IsBoundaryIn count boundary)
+    where
+      parts_is : both ≡ entries_of (is.before ++ boundary.node ∷ is.after)
+      unfolding both
+      parts_is = sym (entries_of-append old free) ∙ ap entries_of is.whole
 
-    from_node : (x : ℕ) → IsNoneOr (entries_of (boundary.node ∷ is.after)) x → IsNoneOr both x
-    from_node x h = subst (λ (l : List ℕ). IsNoneOr l x) (sym (parts_is ∙ entries_of-append is.before (boundary.node ∷ is.after)))
-        (none_or_wider (entries_of (boundary.node ∷ is.after))
-        (entries_of is.before ++ entries_of (boundary.node ∷ is.after))
-        (Contains-append_right (entries_of is.before) (entries_of (boundary.node ∷ is.after))) x h)
+      from_node : (x : ℕ) → IsNoneOr (entries_of (boundary.node ∷ is.after)) x → IsNoneOr both x
+      from_node x h = subst (λ (l : List ℕ). IsNoneOr l x) (sym (parts_is ∙ entries_of-append is.before (boundary.node
+          ∷ is.after)))
+          (none_or_wider (entries_of (boundary.node ∷ is.after))
+          (entries_of is.before ++ entries_of (boundary.node ∷ is.after))
+          (Contains-append_right (entries_of is.before) (entries_of (boundary.node ∷ is.after))) x h)
 
-    node_in : (x : ℕ) → boundary.node.first ≤ x → x ≤ boundary.node.last → IsNoneOr both x
-    node_in x low high = from_node x (inr (entry_of boundary.node is.after x low high))
+      node_in : (x : ℕ) → boundary.node.first ≤ x → x ≤ boundary.node.last → IsNoneOr both x
+      node_in x low high = from_node x (inr (entry_of boundary.node is.after x low high))
 
-    after_filled : AreFilled is.after
-    after_filled = (AreFilled-behind is.before (boundary.node ∷ is.after)
-        (subst (λ (l : List Node). AreFilled l) is.whole (AreFilled-append old free
-        (linked_filled table count Opens old chain) (linked_filled table count OpensFree free listed)))).1
+      after_filled : AreFilled is.after
+      after_filled = (AreFilled-behind is.before (boundary.node ∷ is.after)
+          (subst (λ (l : List Node). AreFilled l) is.whole (AreFilled-append old free
+          (linked_filled table count Opens old chain) (linked_filled table count OpensFree free listed)))).1
 
-    next_in : IsNoneOr both boundary.next
-    next_in = from_node boundary.next (none_or_wider (entries_of is.after) (entries_of (boundary.node ∷ is.after))
-        (Contains-append_right (run_of boundary.node) (entries_of is.after)) boundary.next
-        (subst (λ (x : ℕ). IsNoneOr (entries_of is.after) x) is.next (start_none_or is.after after_filled)))
+      next_in : IsNoneOr both boundary.next
+      next_in = from_node boundary.next (none_or_wider (entries_of is.after) (entries_of (boundary.node ∷ is.after))
+          (Contains-append_right (run_of boundary.node) (entries_of is.after)) boundary.next
+          (subst (λ (x : ℕ). IsNoneOr (entries_of is.after) x) is.next (start_none_or is.after after_filled)))
 
-    cut_in : (x : ℕ) → Contains (cut_entries boundary.node boundary.middle boundary.next) x → IsNoneOr both x
-    cut_in =
-        let node = boundary.node in
-        let middle = boundary.middle in
-        let next = boundary.next in
-        each_more both 0 (node.first ∷ min (node.first + 1) middle ∷ middle ∷ min (middle + 1) node.last
-        ∷ min (middle + 2) node.last ∷ node.last ∷ next ∷ []) (inl refl)
-        (each_more both node.first (min (node.first + 1) middle ∷ middle ∷ min (middle + 1) node.last
-        ∷ min (middle + 2) node.last ∷ node.last ∷ next ∷ [])
-        (node_in node.first (omega arith) (omega (arith, inside.from, inside.up_to)))
-        (each_more both (min (node.first + 1) middle) (middle ∷ min (middle + 1) node.last
-        ∷ min (middle + 2) node.last ∷ node.last ∷ next ∷ [])
-        (node_in (min (node.first + 1) middle) (omega (arith, inside.from)) (omega (arith, inside.up_to)))
-        (each_more both middle (min (middle + 1) node.last ∷ min (middle + 2) node.last ∷ node.last ∷ next ∷ [])
-        (node_in middle inside.from inside.up_to)
-        (each_four both (min (middle + 1) node.last) (min (middle + 2) node.last) node.last next
-        (node_in (min (middle + 1) node.last) (omega (arith, inside.from, inside.up_to)) (omega arith))
-        (node_in (min (middle + 2) node.last) (omega (arith, inside.from, inside.up_to)) (omega arith))
-        (node_in node.last (omega (arith, inside.from, inside.up_to)) (omega arith)) next_in))))
+      cut_in : (x : ℕ) → Contains (cut_entries boundary.node boundary.middle boundary.next) x → IsNoneOr both x
+      cut_in =
+          let node = boundary.node in
+          let middle = boundary.middle in
+          let next = boundary.next in
+          each_more both 0 (node.first ∷ min (node.first + 1) middle ∷ middle ∷ min (middle + 1) node.last
+          ∷ min (middle + 2) node.last ∷ node.last ∷ next ∷ []) (inl refl)
+          (each_more both node.first (min (node.first + 1) middle ∷ middle ∷ min (middle + 1) node.last
+          ∷ min (middle + 2) node.last ∷ node.last ∷ next ∷ [])
+          (node_in node.first (omega arith) (omega (arith, inside.from, inside.up_to)))
+          (each_more both (min (node.first + 1) middle) (middle ∷ min (middle + 1) node.last
+          ∷ min (middle + 2) node.last ∷ node.last ∷ next ∷ [])
+          (node_in (min (node.first + 1) middle) (omega (arith, inside.from)) (omega (arith, inside.up_to)))
+          (each_more both middle (min (middle + 1) node.last ∷ min (middle + 2) node.last ∷ node.last ∷ next ∷ [])
+          (node_in middle inside.from inside.up_to)
+          (each_four both (min (middle + 1) node.last) (min (middle + 2) node.last) node.last next
+          (node_in (min (middle + 1) node.last) (omega (arith, inside.from, inside.up_to)) (omega arith))
+          (node_in (min (middle + 2) node.last) (omega (arith, inside.from, inside.up_to)) (omega arith))
+          (node_in node.last (omega (arith, inside.from, inside.up_to)) (omega arith)) next_in))))
 
   taken_in : (first : ℕ) (boundary : Option Boundary) → IsNoneOr both first → AreCutBy (old ++ free) n boundary
       → IfSome boundary (IsBoundaryIn count) → (x : ℕ) → Contains (taken_entries first boundary) x → IsNoneOr both x
   taken_in first None here is inside x within = each_none both x within
   taken_in first (Some boundary) here is inside x within =
-      each_more both first (cut_entries boundary.node boundary.middle boundary.next) here (cut_in boundary is.1 inside) x within
+      each_more both first (cut_entries boundary.node boundary.middle boundary.next) here (cut_in boundary is.1
+      inside) x within
 
   -- each entry that a swap by a plan writes is entry 0, or of the old chain or the free list
-  pub plan_in : (plan : Plan) → IsPlan old free n plan → IsPlanIn count plan → (x : ℕ) → Contains (plan_entries plan) x
+  pub plan_in : (plan : Plan) → IsPlan old free n plan → IsPlanIn count plan → (x : ℕ) → Contains (plan_entries plan)
+      x
       → IsNoneOr (entries_of old ++ entries_of free) x
   unfolding both
   plan_in plan is inside x within =
       ⊎_elim
-      (λ (left : Contains (given_entries plan.given plan.head) x). given_in plan.given plan.head is.given is.head x left)
+      (λ (left : Contains (given_entries plan.given plan.head) x). given_in plan.given plan.head is.given is.head x
+      left)
       (λ (right : Contains (taken_entries (first_of plan.given plan.head) plan.boundary) x).
       taken_in (first_of plan.given plan.head) plan.boundary (first_in plan.given plan.head is.given is.head) is.cut
       inside.boundary x right)
@@ -308,7 +337,8 @@ module _ (table : ℕ → ℕ → Cell) (count n : ℕ) (old free : List Node) (
       (taken_entries (first_of plan.given plan.head) plan.boundary) x within)
 
   module _ (read : HasWords table 0) where
-    start_words : (lead : Lead) (nodes : List Node) → AreNodes table count lead nodes 0 → (first : ℕ) → start_of nodes 0 ≡ first
+    start_words : (lead : Lead) (nodes : List Node) → AreNodes table count lead nodes 0 → (first : ℕ) → start_of
+        nodes 0 ≡ first
         → HasWords table first
     start_words lead [] h first is = subst (λ (x : ℕ). HasWords table x) is read
     start_words lead (node ∷ nodes) h first is = subst (λ (x : ℕ). HasWords table x) is h.0.read
@@ -322,7 +352,8 @@ module _ (table : ℕ → ℕ → Cell) (count n : ℕ) (old free : List Node) (
         (start_words Opens old chain given.first is.starts) (tail_node given is).read
         (start_words OpensFree free listed head head_is) x within
 
-    none_spoilt : (given : Option Given) (head : ℕ) (boundary : Option Boundary) → AreGivenBy old given → start_of free 0 ≡ head
+    none_spoilt : (given : Option Given) (head : ℕ) (boundary : Option Boundary) → AreGivenBy old given → start_of
+        free 0 ≡ head
         → AreCutBy (old ++ free) n boundary → n ≡ 0 → (entry part level block : ℕ)
         → Contains (given_entries given head ++ taken_entries (first_of given head) boundary) entry
         → ¬ HasSpoilt table entry part level block
@@ -333,7 +364,11 @@ module _ (table : ℕ → ℕ → Cell) (count n : ℕ) (old free : List Node) (
         (fault.0, fault.1, subst (λ (c : Cell). Blames c part level block) (sym fault.2) (refl, refl, refl)))
         (λ (right : Contains [] entry). absurd (omega (arith, right.1)))
         (Contains-append_cases (given_entries given head) [] entry within)
-    none_spoilt given head (Some boundary) is head_is cut none entry part level block within fault = omega (arith, cut.0, none)
+    none_spoilt given head (Some boundary) is head_is cut none entry part level block within fault = omega (
+      arith,
+      cut.0,
+      none,
+    )
 
 -- a word of a plan that is spoilt
 pub spoilt_plan : (table : ℕ → ℕ → Cell) (count : ℕ) (given : Option ℕ) (n : ℕ) (old free : List Node)
@@ -343,11 +378,16 @@ pub spoilt_plan : (table : ℕ → ℕ → Cell) (count : ℕ) (given : Option �
     × HasSpoilt later entry part level block)
     → IsSwapRefusal table n (entries_of old) (entries_of free) (Refused bad)
 spoilt_plan table count given n old free can plan is inside Disk later same fault = tt
-spoilt_plan table count given n old free can plan is inside (Damaged part level block) later same (entry, within, fault) =
+spoilt_plan table count given n old free can plan is inside (Damaged part level block) later same (
+  entry,
+  within,
+  fault,
+) =
     let chain = old_start table count given old can.old_nodes in
     let listed = can.free_nodes.linked in
     let here = subst (λ (t : ℕ → ℕ → Cell). HasSpoilt t entry part level block) same fault in (
-      (λ none. none_spoilt table count n old free chain listed can.free_nodes.read plan.given plan.head plan.boundary is.given is.head
+      (λ none. none_spoilt table count n old free chain listed can.free_nodes.read plan.given plan.head plan.boundary
+          is.given is.head
           is.cut none entry part level block within here),
       (entry, plan_in table count n old free chain listed plan is inside entry within, here),
     )

@@ -1,6 +1,6 @@
 -- The table after a word of an entry was put.
-use Rattle.std.proofs.Common.{◌≡◌, ◌≢◌, ℕ, ◌+◌, ◌*◌, ◌<◌, ◌≤◌, List, [], ◌∷◌, length, sym, ◌∙◌, ap, subst, arith}
-use Rattle.std.proofs.Common.{zero, suc, refl}
+use Rattle.std.proofs.Common.{◌≡◌, ℕ, ◌+◌, ◌*◌, ◌<◌, ◌≤◌, List, [], ◌∷◌, length, sym, ◌∙◌, ap, subst, arith}
+use Rattle.std.proofs.Common.{refl}
 use Rattle.std.specs.List.{Contains}
 use Rattle.save_bytes.specs.Cells.{Cell, Byte, Blank, Spoilt, IsByte, AreBytesAt}
 use Rattle.save_bytes.specs.CellNumbers.{number_in}
@@ -20,7 +20,7 @@ use Rattle.chain_nodes.specs.declared.node.Lead.{Lead}
 use Rattle.chain_nodes.specs.Chains.{AreNodes, entries_of}
 use Rattle.chain_nodes.proofs.OwnLemmas.{nodes_rest}
 use Rattle.chain_nodes.proofs.EditLemmas.{entry_within}
-use Rattle.alloc_chain.specs.Alters.{IsWordPut, IsOf}
+use Rattle.alloc_chain.specs.Alters.{IsWordPut, IsOfEntries}
 
 -- a byte softens to itself
 pub same_byte : (cell new : Cell) → IsByte cell → MaySoften cell new → new ≡ cell
@@ -28,15 +28,20 @@ same_byte (Byte value) new is soft = soft
 same_byte (Blank part level block) new is soft = absurd is
 same_byte (Spoilt part level block) new is soft = absurd is
 
--- a number in one list of entries
-pub one_entry : (entry x : ℕ) → Contains (entry ∷ []) x → entry ≡ x
-one_entry entry x (zero, within, is) = is
-one_entry entry x (suc k, within, is) = absurd (omega (arith, within))
-
 -- the places of a word are places of its entry
 pub of_word : (info : ChainInfo) (entry at : ℕ) → info.table_at + 8 * entry ≤ at → at ≤ info.table_at + 8 * entry + 4
-    → (x : ℕ) → IsWithin at 4 x → IsOf info (entry ∷ []) x
-of_word info entry at from up_to x within = (entry, (0, omega arith, refl), (omega (arith, within), omega (arith, within)))
+    → (x : ℕ) → IsWithin at 4 x → IsOfEntries info (entry ∷ []) x
+of_word info entry at from up_to x within = (
+  entry,
+  (0, omega arith, refl),
+  (
+    omega (arith, within),
+    omega (
+      arith,
+      within,
+    ),
+  ),
+)
 
 -- a word that was put
 pub word_put : (s : State) (at value : ℕ) (field : List ℕ) (t : State) → HasNoTwins s → length field ≡ 4
@@ -53,10 +58,12 @@ word_put s at value field t single len is fits put =
           apart (omega (arith, here, within), omega (arith, here, within, len)))));
     }
 
-module _ (s t : State) (info : ChainInfo) (table : HasAllocationTable s.shape info) (at value : ℕ) (put : IsWordPut s t at value)
+module _ (s t : State) (info : ChainInfo) (table : HasAllocationTable s.shape info) (at value : ℕ) (put : IsWordPut s
+    t at value)
   where
     -- a byte of the table that is not of the word
-    kept : (x k : ℕ) → x ≤ info.count → k < 8 → ¬ IsWithin at 4 (info.table_at + 8 * x + k) → IsByte (table_in s.cells info x k)
+    kept : (x k : ℕ) → x ≤ info.count → k < 8 → ¬ IsWithin at 4 (info.table_at + 8 * x + k) → IsByte (table_in
+        s.cells info x k)
         → table_in t.cells info x k ≡ table_in s.cells info x k
     kept x k inside less apart byte =
         let old = table_cell s.cells info x k inside less in
@@ -68,24 +75,28 @@ module _ (s t : State) (info : ChainInfo) (table : HasAllocationTable s.shape in
     module _ (entry : ℕ) (inside : entry ≤ info.count) where
       -- word U of an entry
       pub u_put : at ≡ info.table_at + 8 * entry → HasWords (table_in s.cells info) entry
-          → IsEntrySet (table_in s.cells info) (table_in t.cells info) info.count entry value (word_v (table_in s.cells info) entry)
+          → IsEntrySet (table_in s.cells info) (table_in t.cells info) info.count entry value (word_v (table_in
+          s.cells info) entry)
       u_put is words = record {
         words = has_words t.cells info entry at inside is put.bytes (λ k less.
             (let there : at + 4 + k ≡ info.table_at + 8 * entry + (4 + k) = omega arith in
             let small : 4 + k < 8 = omega (arith, less) in
             let same = kept entry (4 + k) inside small (λ within. omega (arith, within, is)) (words (4 + k) small) in
             subst (λ (c : Cell). IsByte c)
-            (sym same ∙ table_cell t.cells info entry (4 + k) inside small ∙ ap t.cells (sym there)) (words (4 + k) small)));
+            (sym same ∙ table_cell t.cells info entry (4 + k) inside small ∙ ap t.cells (sym there)) (words (4 + k)
+            small)));
         u_is = sym (word_u-is t.cells info entry at inside is) ∙ put.number;
         v_is = number_in-same 4 (table_in t.cells info entry) (table_in s.cells info entry) 4 4 (λ k less.
             (let small : 4 + k < 8 = omega (arith, less) in
             kept entry (4 + k) inside small (λ within. omega (arith, within, is)) (words (4 + k) small)));
-        others = λ x in_x other k less byte. kept x k in_x less (λ within. other (omega (arith, within, is, less))) byte;
+        others = λ x in_x other k less byte. kept x k in_x less (λ within. other (omega (arith, within, is, less)))
+            byte;
       }
 
       -- word V of an entry
       pub v_put : at ≡ info.table_at + 8 * entry + 4 → HasWords (table_in s.cells info) entry
-          → IsEntrySet (table_in s.cells info) (table_in t.cells info) info.count entry (word_u (table_in s.cells info) entry) value
+          → IsEntrySet (table_in s.cells info) (table_in t.cells info) info.count entry (word_u (table_in s.cells
+          info) entry) value
       v_put is words =
           let from : ℕ = info.table_at + 8 * entry in
           let there : at ≡ from + 4 = is in
@@ -93,48 +104,68 @@ module _ (s t : State) (info : ChainInfo) (table : HasAllocationTable s.shape in
             words = has_words t.cells info entry from inside refl (λ k less.
                 (let small : k < 8 = omega (arith, less) in
                 let same = kept entry k inside small (λ within. omega (arith, within, is, less)) (words k small) in
-                subst (λ (c : Cell). IsByte c) (sym same ∙ table_cell t.cells info entry k inside small) (words k small)))
+                subst (λ (c : Cell). IsByte c) (sym same ∙ table_cell t.cells info entry k inside small) (words k
+                small)))
                 (λ k less. subst (λ (p : ℕ). IsByte (t.cells (p + k))) there (put.bytes k less));
             u_is = number_in-same 4 (table_in t.cells info entry) (table_in s.cells info entry) 0 0 (λ k less.
                 (let none : 0 + k ≡ k = omega arith in
                 let small : k < 8 = omega (arith, less) in
                 rw none (kept entry k inside small (λ within. omega (arith, within, is, less)) (words k small))));
-            v_is = sym (word_v-is t.cells info entry from inside refl) ∙ subst (λ (p : ℕ). number_in 4 t.cells p ≡ value) there put.number;
-            others = λ x in_x other k less byte. kept x k in_x less (λ within. other (omega (arith, within, is, less))) byte;
+            v_is = sym (word_v-is t.cells info entry from inside refl) ∙ subst (λ (p : ℕ). number_in 4 t.cells p ≡
+                value) there put.number;
+            others = λ x in_x other k less byte. kept x k in_x less (λ within. other (omega (
+              arith,
+              within,
+              is,
+              less,
+            ))) byte;
           }
 
 -- both words of an entry
-pub words_put : (s m t : State) (info : ChainInfo) (entry at u v : ℕ) → HasAllocationTable s.shape info → m.shape ≡ s.shape
+pub words_put : (s m t : State) (info : ChainInfo) (entry at u v : ℕ) → HasAllocationTable s.shape info → m.shape ≡
+    s.shape
     → entry ≤ info.count → at ≡ info.table_at + 8 * entry → IsWordPut s m at u → IsWordPut m t (at + 4) v
     → IsEntrySet (table_in s.cells info) (table_in t.cells info) info.count entry u v
 words_put s m t info entry at u v table shape inside is first second =
     let size : m.shape.size ≡ s.shape.size = ap (λ (shape : Shape). shape.size) shape in
     let first_stays : (k : ℕ) → k < 4 → t.cells (at + k) ≡ m.cells (at + k) = λ k less.
-    second.others (at + k) (omega (arith, size, is, inside, less, table.table)) (λ within. omega (arith, within, less))
+    second.others (at + k) (omega (arith, size, is, inside, less, table.table)) (λ within. omega (
+      arith,
+      within,
+      less,
+    ))
     (first.bytes k less) in
     record {
       words = has_words t.cells info entry at inside is
           (λ k less. subst (λ (c : Cell). IsByte c) (sym (first_stays k less)) (first.bytes k less)) second.bytes;
-      u_is = sym (word_u-is t.cells info entry at inside is) ∙ number_in-same 4 t.cells m.cells at at first_stays ∙ first.number;
+      u_is = sym (word_u-is t.cells info entry at inside is) ∙ number_in-same 4 t.cells m.cells at at first_stays ∙
+          first.number;
       v_is = sym (word_v-is t.cells info entry at inside is) ∙ second.number;
       others = λ x in_x other k less byte.
           (let place : ℕ = info.table_at + 8 * x + k in
           let old = table_cell s.cells info x k in_x less in
           let old_byte : IsByte (s.cells place) = subst (λ (c : Cell). IsByte c) old byte in
-          let one = first.others place (omega (arith, table.table, in_x, less)) (λ within. other (omega (arith, within, is, less))) old_byte in
+          let one = first.others place (omega (arith, table.table, in_x, less)) (λ within. other (omega (
+            arith,
+            within,
+            is,
+            less,
+          ))) old_byte in
           let two = second.others place (omega (arith, size, table.table, in_x, less))
           (λ within. other (omega (arith, within, is, less))) (subst (λ (c : Cell). IsByte c) (sym one) old_byte) in
           table_cell t.cells info x k in_x less ∙ two ∙ one ∙ sym old);
     }
 
 -- what becomes of entries that were not written
-module _ (s t : State) (info : ChainInfo) (entries : List ℕ) (table : HasAllocationTable s.shape info) (single : HasNoTwins s)
-    (changes : ChangesWithin s (IsOf info entries) t.cells) where
-  pub entry_kept : (x : ℕ) → x ≤ info.count → ¬ Contains entries x → KeepsEntry (table_in s.cells info) (table_in t.cells info) x
+module _ (s t : State) (info : ChainInfo) (entries : List ℕ) (table : HasAllocationTable s.shape info) (single :
+    HasNoTwins s)
+    (changes : ChangesWithin s (IsOfEntries info entries) t.cells) where
+  pub entry_kept : (x : ℕ) → x ≤ info.count → ¬ Contains entries x → KeepsEntry (table_in s.cells info) (table_in
+      t.cells info) x
   entry_kept x inside apart k less byte =
       let old = table_cell s.cells info x k inside less in
       let place : ℕ = info.table_at + 8 * x + k in
-      let out : ¬ IsIn s (IsOf info entries) place = λ (y, below, (e, within, of), same).
+      let out : ¬ IsIn s (IsOfEntries info entries) place = λ (y, below, (e, within, of), same).
       (let here : place ≡ y = single.apart place y same in
       let is : e ≡ x = omega (arith, here, of, less) in
       apart (subst (λ (n : ℕ). Contains entries n) is within)) in
@@ -145,8 +176,10 @@ module _ (s t : State) (info : ChainInfo) (entries : List ℕ) (table : HasAlloc
 
   pub nodes_clear : (lead : Lead) (nodes : List Node) (next : ℕ)
       → ((x : ℕ) → 1 ≤ x → Contains (entries_of nodes) x → ¬ Contains entries x)
-      → AreNodes (table_in s.cells info) info.count lead nodes next → AreNodes (table_in t.cells info) info.count lead nodes next
-  nodes_clear lead nodes next apart h = nodes_rest (table_in s.cells info) (table_in t.cells info) info.count lead nodes next
+      → AreNodes (table_in s.cells info) info.count lead nodes next → AreNodes (table_in t.cells info) info.count
+      lead nodes next
+  nodes_clear lead nodes next apart h = nodes_rest (table_in s.cells info) (table_in t.cells info) info.count lead
+      nodes next
       (λ x within. (let bounds = entry_within (table_in s.cells info) info.count lead nodes next x h within in
       entry_kept x bounds.1 (apart x bounds.0 within))) h
 

@@ -1,5 +1,5 @@
 -- What a call leaves that puts into cells of a space of which some may be no bytes.
-use Rattle.std.specs.Prelude.{◌≡◌, ℕ, ◌+◌, ◌*◌, ◌<◌, ◌≤◌, min, IsTrue, List, [], ◌∷◌, Option}
+use Rattle.std.specs.Prelude.{◌≡◌, ℕ, ◌+◌, ◌*◌, ◌<◌, min, IsTrue, List, [], ◌∷◌, Option}
 use Rattle.std.specs.List.{Contains}
 use Rattle.save_bytes.specs.declared.space.Bad.{Bad}
 use Rattle.save_bytes.specs.Cells.{IsByte, IsUnspoilt}
@@ -30,11 +30,13 @@ pub record Alters {A : Type 0} (states : A → State) (keeps : Spot → A → A 
       → UnlessDisk refusal ((x : ℕ) → x < (states old).shape.size → IsUnspoilt ((states old).cells x)
       → IsUnspoilt ((states new).cells x))
   pub bytes : IsTrue (states old).told
-      → UnlessDisk refusal ((x : ℕ) → x < (states old).shape.size → IsByte ((states old).cells x) → IsByte ((states new).cells x))
+      → UnlessDisk refusal ((x : ℕ) → x < (states old).shape.size → IsByte ((states old).cells x) → IsByte ((states
+      new).cells x))
   pub hold : keeps Hold old new
   pub spots : IsTrue (states old).told → (spot : Spot)
       → ((x : ℕ) → x < (states old).shape.size → sites x → ¬ lands old x spot) → keeps spot old new
-  pub reach : IsTrue (states old).told → UnlessDisk refusal (LandsAsBefore (states old).shape.size (lands old) (lands new))
+  pub reach : IsTrue (states old).told → UnlessDisk refusal (LandsAsBefore (states old).shape.size (lands old) (lands
+      new))
 
 -- the number stands in the four cells from a place on, and each byte of any other place is as before
 pub record IsWordPut (old new : State) (at value : ℕ) : Type 0 where
@@ -43,12 +45,13 @@ pub record IsWordPut (old new : State) (at value : ℕ) : Type 0 where
   pub others : (x : ℕ) → x < old.shape.size → ¬ IsWithin at 4 x → IsByte (old.cells x) → new.cells x ≡ old.cells x
 
 -- a place of the words of one of these entries
-abbrev pub IsOf : ChainInfo → List ℕ → ℕ → Type 0
-IsOf info entries x = (entry : ℕ) × Contains entries entry × IsWithin (info.table_at + 8 * entry) 8 x
+abbrev pub IsOfEntries : ChainInfo → List ℕ → ℕ → Type 0
+IsOfEntries info entries x = (entry : ℕ) × Contains entries entry × IsWithin (info.table_at + 8 * entry) 8 x
 
 -- the entries that may be written where free nodes are cut behind the entry `middle` of a node, before those that begin with
 -- `next`
 abbrev pub cut_entries : Node → ℕ → ℕ → List ℕ
 cut_entries node middle next =
-    0 ∷ node.first ∷ min (node.first + 1) middle ∷ middle ∷ min (middle + 1) node.last ∷ min (middle + 2) node.last ∷ node.last
+    0 ∷ node.first ∷ min (node.first + 1) middle ∷ middle ∷ min (middle + 1) node.last ∷ min (middle + 2) node.last ∷
+    node.last
     ∷ next ∷ []

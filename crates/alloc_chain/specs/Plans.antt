@@ -1,5 +1,6 @@
 -- What a swap has to know of the old chain and of the free list before it writes.
-use Rattle.std.specs.Prelude.{◌≡◌, ℕ, ◌+◌, ◌*◌, ◌<◌, ◌≤◌, nat_eq, List, [], ◌∷◌, ◌++◌, length, Option, Some, None, Result, Ok, Err, IfSome, ⊤}
+use Rattle.std.specs.Prelude.{◌≡◌, ℕ, ◌+◌, ◌<◌, ◌≤◌, nat_eq, List, [], ◌∷◌, ◌++◌, length, Option, Some, None}
+use Rattle.std.specs.Prelude.{Result, Ok, Err, IfSome, ⊤}
 use Rattle.std.specs.List.{IsDistinct}
 use Rattle.save_bytes.specs.declared.space.Bad.TheVariants.{Disk, Damaged}
 use Rattle.chain_nodes.specs.declared.node.Node.{Node}
@@ -7,7 +8,7 @@ use Rattle.chain_nodes.specs.declared.fault.ChainFault.{ChainFault}
 use Rattle.chain_nodes.specs.declared.fault.ChainFault.TheVariants.{Broken, Short}
 use Rattle.chain_nodes.specs.declared.fault.ChainFault.TheVariants.{Bad as Refused}
 use Rattle.chain_nodes.specs.Chains.{start_of, entries_of}
-use Rattle.chain_nodes.specs.declared.node.Lead.TheVariants.{Opens, OpensFree}
+use Rattle.chain_nodes.specs.declared.node.Lead.TheVariants.{Opens}
 use Rattle.chain_nodes.specs.Chains.{AreNodes}
 use Rattle.chain_nodes.specs.Edits.{AreFreeNodes}
 use Rattle.save_bytes.specs.Cells.{Cell}

@@ -1,5 +1,6 @@
 -- What a chain takes of its own blocks and of the free ones, in one change.
-use Rattle.std.specs.Prelude.{◌≡◌, ◌≢◌, ◌⊎◌, ℕ, ◌+◌, ◌*◌, ◌<◌, ◌≤◌, List, [], ◌∷◌, ◌++◌, length, take, drop, Option, Some, None}
+use Rattle.std.specs.Prelude.{◌≡◌, ◌≢◌, ◌⊎◌, ℕ, ◌+◌, ◌*◌, ◌<◌, ◌≤◌, List, [], ◌∷◌, ◌++◌, length, take, drop, Option}
+use Rattle.std.specs.Prelude.{Some, None}
 use Rattle.std.specs.Prelude.{Result, Ok, Err, ⊤}
 use Rattle.std.specs.List.{Contains}
 use Rattle.save_bytes.specs.declared.space.Bad.TheVariants.{Disk, Damaged}
@@ -21,14 +22,14 @@ IsOptChain table count None list = list ≡ []
 IsOptChain table count (Some first) list = IsChain table count first list
 
 -- no number stands in both lists
-abbrev pub AreApart : List ℕ → List ℕ → Type 0
-AreApart one other = (x : ℕ) → Contains one x → ¬ Contains other x
+abbrev pub ShareNone : List ℕ → List ℕ → Type 0
+ShareNone one other = (x : ℕ) → Contains one x → ¬ Contains other x
 
 -- an old chain, which may be missing, and the free list are as they should be, and share no entry
 pub record CanSwap (table : ℕ → ℕ → Cell) (count : ℕ) (old : Option ℕ) (mine free : List ℕ) : Type 0 where
   pub chain : IsOptChain table count old mine
   pub listed : IsFreeList table count free
-  pub share_none : AreApart mine free
+  pub share_none : ShareNone mine free
 
 -- the first n entries of a list are a chain, and the others are free
 pub record IsSwapped (table : ℕ → ℕ → Cell) (count n : ℕ) (list : List ℕ) (taken : Option ℕ) : Type 0 where
@@ -61,7 +62,8 @@ IsSwapAnswer old new count n mine free (Ok taken) =
 IsSwapAnswer old new count n mine free (Err fault) = IsSwapRefusal old n mine free fault
 
 -- what is answered to the question whether it may be made
-abbrev pub IsReadyAnswer : {A : Type 0} (table : ℕ → ℕ → Cell) (n : ℕ) (mine free : List ℕ) → Result A ChainFault → Type 0
+abbrev pub IsReadyAnswer : {A : Type 0} (table : ℕ → ℕ → Cell) (n : ℕ) (mine free : List ℕ) → Result A ChainFault →
+    Type 0
 IsReadyAnswer table n mine free (Ok given) = n ≤ length mine + length free
 IsReadyAnswer table n mine free (Err fault) = IsSwapRefusal table n mine free fault
 

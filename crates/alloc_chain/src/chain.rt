@@ -15,7 +15,7 @@ ghost use Rattle.save_bytes.specs.Refusals.{UnlessDisk, NeverDamaged};
 ghost use Rattle.save_bytes.specs.Stays.{SameCells, SameSpace};
 ghost use Rattle.save_bytes.specs.Spots.{Hold};
 ghost use Rattle.alloc_chain.specs.Alters.{Alters};
-ghost use Rattle.alloc_chain.specs.Swaps.{AreApart, CanSwap, IsSwapAnswer, IsReadyAnswer, IsSwapSite};
+ghost use Rattle.alloc_chain.specs.Swaps.{ShareNone, CanSwap, IsSwapAnswer, IsReadyAnswer, IsSwapSite};
 ghost use Rattle.alloc_chain.specs.Held.{below, table_of, IsChainOver, SameChain};
 
 use crate::lists::{chain_len, chain_run, free_len, free_start, next_run};
@@ -167,7 +167,7 @@ impl<'a, S: Space> Chain<'a, S> {
             → IsSwapAnswer (table_of S.state self.old) (table_of S.state self.new) self.old.info.count n mine free result }
         ensures others { IsTrue (below S.state self.old).told → (mine free : List ℕ)
             → CanSwap (table_of S.state self.old) self.old.info.count given mine free → (first : ℕ) (list : List ℕ)
-            → IsChain (table_of S.state self.old) self.old.info.count first list → AreApart list (mine ++ free)
+            → IsChain (table_of S.state self.old) self.old.info.count first list → ShareNone list (mine ++ free)
             → UnlessDisk (refusal_of (result_err result)) (IsChain (table_of S.state self.new) self.old.info.count first list) }
         ensures alters { IsTrue (below S.state self.old).told → (mine free : List ℕ)
             → CanSwap (table_of S.state self.old) self.old.info.count given mine free

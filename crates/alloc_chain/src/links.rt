@@ -9,7 +9,7 @@ ghost use Rattle.chain_nodes.specs.declared.node.Lead.TheVariants.{OpensFree};
 ghost use Rattle.chain_nodes.specs.Table.{table_in, word_u, HasWords, HasAllocationTable};
 ghost use Rattle.chain_nodes.specs.Chains.{IsLead, IsInner, start_of, AreNodes, lead_after};
 ghost use Rattle.chain_nodes.specs.Edits.{KeepsEntry, IsHeadWord, AreJoinable, AreBefore, AreBehind, AreFreeAround, AreCut, AreFreeNodes, AreTaken, AreApartFrom};
-ghost use Rattle.alloc_chain.specs.Alters.{Alters, IsOf, cut_entries};
+ghost use Rattle.alloc_chain.specs.Alters.{Alters, IsOfEntries, cut_entries};
 
 use crate::words::{set_u, set_v, set_words};
 use chain_nodes::{ChainInfo, FLAG, Node};
@@ -43,7 +43,7 @@ pub(crate) fn link<S: Space>(
     ensures linked { IsTrue (S.state base.old).told → (lead other : Lead) (xs ys : List Node)
         → AreJoinable (table_in (S.state base.old).cells info) info.count lead other xs before ys after
         → IfDone (result_err result) (AreNodes (table_in (S.state base.new).cells info) info.count lead (xs ++ before ∷ ys) 0) }
-    ensures alters { Alters S.state S.keeps S.lands (IsOf info (before.first ∷ after ∷ [])) base.old base.new (result_err result) }
+    ensures alters { Alters S.state S.keeps S.lands (IsOfEntries info (before.first ∷ after ∷ [])) base.old base.new (result_err result) }
 {
     match set_v(base, info, before.first, head_word(before, after)) {
         Ok(()) => {}
@@ -68,7 +68,7 @@ fn set_ends<S: Space>(base: &mut S, info: ChainInfo, node: Node) -> Result<(), B
     ensures kept { IsTrue (S.state base.old).told → IfDone (result_err result)
         ((x : ℕ) → x ≤ info.count → ¬ ((node.first < x) × (x ≤ node.last))
         → KeepsEntry (table_in (S.state base.old).cells info) (table_in (S.state base.new).cells info) x) }
-    ensures alters { Alters S.state S.keeps S.lands (IsOf info (min (node.first + 1) node.last ∷ node.last ∷ [])) base.old base.new
+    ensures alters { Alters S.state S.keeps S.lands (IsOfEntries info (min (node.first + 1) node.last ∷ node.last ∷ [])) base.old base.new
         (result_err result) }
 {
     if node.first == node.last {
@@ -93,7 +93,7 @@ fn open_free<S: Space>(base: &mut S, info: ChainInfo, node: Node, next: u32) -> 
         → AreBehind (table_in (S.state base.old).cells info) info.count lead node ys next
         → IfDone (result_err result) (AreNodes (table_in (S.state base.new).cells info) info.count OpensFree (node ∷ ys) 0) }
     ensures alters { Alters S.state S.keeps S.lands
-        (IsOf info (node.first ∷ min (node.first + 1) node.last ∷ node.last ∷ next ∷ [])) base.old base.new (result_err result) }
+        (IsOfEntries info (node.first ∷ min (node.first + 1) node.last ∷ node.last ∷ next ∷ [])) base.old base.new (result_err result) }
 {
     match set_ends(base, info, node) {
         Ok(()) => {}
@@ -116,7 +116,7 @@ fn close<S: Space>(base: &mut S, info: ChainInfo, node: Node) -> Result<(), Bad>
         → AreBefore (table_in (S.state base.old).cells info) info.count lead xs node
         → IfDone (result_err result) (AreNodes (table_in (S.state base.new).cells info) info.count lead (xs ++ node ∷ []) 0) }
     ensures alters { Alters S.state S.keeps S.lands
-        (IsOf info (node.first ∷ min (node.first + 1) node.last ∷ node.last ∷ 0 ∷ [])) base.old base.new (result_err result) }
+        (IsOfEntries info (node.first ∷ min (node.first + 1) node.last ∷ node.last ∷ 0 ∷ [])) base.old base.new (result_err result) }
 {
     match set_ends(base, info, node) {
         Ok(()) => link(base, info, node, 0),
@@ -135,7 +135,7 @@ fn cut_behind<S: Space>(base: &mut S, info: ChainInfo, node: Node, next: u32) ->
         → AreFreeAround (table_in (S.state base.old).cells info) info.count xs node ys next
         → IfDone (result_err result)
         (AreCut (table_in (S.state base.new).cells info) info.count xs node ys node.last next) }
-    ensures alters { Alters S.state S.keeps S.lands (IsOf info (node.first ∷ 0 ∷ next ∷ [])) base.old base.new (result_err result) }
+    ensures alters { Alters S.state S.keeps S.lands (IsOfEntries info (node.first ∷ 0 ∷ next ∷ [])) base.old base.new (result_err result) }
 {
     match link(base, info, node, 0) {
         Ok(()) => {}
@@ -166,7 +166,7 @@ fn cut_within<S: Space>(
         → AreFreeAround (table_in (S.state base.old).cells info) info.count xs node ys next
         → IfDone (result_err result)
         (AreCut (table_in (S.state base.new).cells info) info.count xs node ys middle (middle + 1)) }
-    ensures alters { Alters S.state S.keeps S.lands (IsOf info (cut_entries node middle next)) base.old base.new (result_err result) }
+    ensures alters { Alters S.state S.keeps S.lands (IsOfEntries info (cut_entries node middle next)) base.old base.new (result_err result) }
 {
     let right = Node {
         first: middle + 1,
@@ -202,7 +202,7 @@ fn cut<S: Space>(
     ensures cut { IsTrue (S.state base.old).told → (xs ys : List Node)
         → AreFreeAround (table_in (S.state base.old).cells info) info.count xs node ys next
         → IfOk result (AreCut (table_in (S.state base.new).cells info) info.count xs node ys middle) }
-    ensures alters { Alters S.state S.keeps S.lands (IsOf info (cut_entries node middle next)) base.old base.new (result_err result) }
+    ensures alters { Alters S.state S.keeps S.lands (IsOfEntries info (cut_entries node middle next)) base.old base.new (result_err result) }
 {
     if middle == node.last {
         match cut_behind(base, info, node, next) {
@@ -239,7 +239,7 @@ pub(crate) fn take_front<S: Space>(
         → AreFreeNodes (table_in (S.state base.old).cells info) info.count (xs ++ node ∷ ys) → start_of ys 0 ≡ next
         → start_of (xs ++ node ∷ []) 0 ≡ first
         → IfDone (result_err result) (AreTaken (table_in (S.state base.new).cells info) info.count xs node ys middle) }
-    ensures alters { Alters S.state S.keeps S.lands (IsOf info (first ∷ cut_entries node middle next)) base.old base.new
+    ensures alters { Alters S.state S.keeps S.lands (IsOfEntries info (first ∷ cut_entries node middle next)) base.old base.new
         (result_err result) }
 {
     let rest = match cut(base, info, node, middle, next) {
@@ -270,7 +270,7 @@ pub(crate) fn give_back<S: Space>(
     ensures given { IsTrue (S.state base.old).told → (xs ys : List Node)
         → AreApartFrom (table_in (S.state base.old).cells info) info.count xs tail ys first head
         → IfDone (result_err result) (AreFreeNodes (table_in (S.state base.new).cells info) info.count (xs ++ tail ∷ ys)) }
-    ensures alters { Alters S.state S.keeps S.lands (IsOf info (0 ∷ first ∷ tail.first ∷ head ∷ [])) base.old base.new
+    ensures alters { Alters S.state S.keeps S.lands (IsOfEntries info (0 ∷ first ∷ tail.first ∷ head ∷ [])) base.old base.new
         (result_err result) }
 {
     match set_u(base, info, first, 0) {

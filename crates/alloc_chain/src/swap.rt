@@ -11,7 +11,7 @@ ghost use Rattle.chain_nodes.specs.declared.node.Lead.TheVariants.{Opens};
 ghost use Rattle.chain_nodes.specs.Table.{table_in, HasAllocationTable};
 ghost use Rattle.chain_nodes.specs.Chains.{start_of, AreNodes, entries_of};
 ghost use Rattle.chain_nodes.specs.Edits.{AreFreeNodes};
-ghost use Rattle.alloc_chain.specs.Alters.{AreUnspoilt, Alters, IsOf, cut_entries};
+ghost use Rattle.alloc_chain.specs.Alters.{AreUnspoilt, Alters, IsOfEntries, cut_entries};
 ghost use Rattle.alloc_chain.specs.Plans.{IsBoundaryIn, IsGivenIn, IsPlanIn, AreGivenBy, AreCutBy, IsPlan, AreApartLists, CanPlan};
 ghost use Rattle.alloc_chain.specs.Swaps.{HasSpoilt, IsReadyAnswer, CanSwap, IsSwapAnswer, IsSwapSite};
 ghost use Rattle.save_bytes.specs.Stays.{SameCells, SameSpace};
@@ -28,7 +28,7 @@ use save_bytes::{Bad, Space};
 fn ready_entry<S: Space>(base: &mut S, info: ChainInfo, entry: u32) -> Result<(), Bad>
     requires table { HasAllocationTable (S.state base.old).shape info }
     requires inside { entry ≤ info.count }
-    ensures ready { IsTrue (S.state base.old).told → IfDone (result_err result) (AreUnspoilt (S.state base.old) (IsOf info (entry ∷ []))) }
+    ensures ready { IsTrue (S.state base.old).told → IfDone (result_err result) (AreUnspoilt (S.state base.old) (IsOfEntries info (entry ∷ []))) }
     ensures damaged { IsTrue (S.state base.old).told
         → IfDamaged (result_err result) (HasSpoilt (table_in (S.state base.old).cells info) entry) }
     ensures plain { IsTrue (S.state base.old).shape.plain → NeverDamaged (result_err result) }
@@ -42,7 +42,7 @@ fn ready_entries<S: Space>(base: &mut S, info: ChainInfo, entries: &[u32]) -> Re
     requires table { HasAllocationTable (S.state base.old).shape info }
     requires inside { (k : ℕ) → k < length entries.now → slice_index entries.now k ≤ info.count }
     ensures ready { IsTrue (S.state base.old).told
-        → IfDone (result_err result) (AreUnspoilt (S.state base.old) (IsOf info entries.now)) }
+        → IfDone (result_err result) (AreUnspoilt (S.state base.old) (IsOfEntries info entries.now)) }
     ensures damaged { IsTrue (S.state base.old).told → IfDamaged (result_err result)
         (λ part level block. (entry : ℕ) × Contains entries.now entry
         × HasSpoilt (table_in (S.state base.old).cells info) entry part level block) }
@@ -69,7 +69,7 @@ fn ready_given<S: Space>(
     requires given { IfSome given (IsGivenIn info.count) }
     requires head { head ≤ info.count }
     ensures ready { IsTrue (S.state base.old).told
-        → IfDone (result_err result) (AreUnspoilt (S.state base.old) (IsOf info (given_entries given head))) }
+        → IfDone (result_err result) (AreUnspoilt (S.state base.old) (IsOfEntries info (given_entries given head))) }
     ensures damaged { IsTrue (S.state base.old).told → IfDamaged (result_err result)
         (λ part level block. (entry : ℕ) × Contains (given_entries given head) entry
         × HasSpoilt (table_in (S.state base.old).cells info) entry part level block) }
@@ -118,7 +118,7 @@ fn ready_taken<S: Space>(
     requires first { first ≤ info.count }
     requires boundary { IfSome boundary (IsBoundaryIn info.count) }
     ensures ready { IsTrue (S.state base.old).told
-        → IfDone (result_err result) (AreUnspoilt (S.state base.old) (IsOf info (taken_entries first boundary))) }
+        → IfDone (result_err result) (AreUnspoilt (S.state base.old) (IsOfEntries info (taken_entries first boundary))) }
     ensures damaged { IsTrue (S.state base.old).told → IfDamaged (result_err result)
         (λ part level block. (entry : ℕ) × Contains (taken_entries first boundary) entry
         × HasSpoilt (table_in (S.state base.old).cells info) entry part level block) }
@@ -146,7 +146,7 @@ pub(crate) fn ready_plan<S: Space>(base: &mut S, info: ChainInfo, plan: Plan) ->
     requires table { HasAllocationTable (S.state base.old).shape info }
     requires plan { IsPlanIn info.count plan }
     ensures ready { IsTrue (S.state base.old).told
-        → IfDone (result_err result) (AreUnspoilt (S.state base.old) (IsOf info (plan_entries plan))) }
+        → IfDone (result_err result) (AreUnspoilt (S.state base.old) (IsOfEntries info (plan_entries plan))) }
     ensures damaged { IsTrue (S.state base.old).told → IfDamaged (result_err result)
         (λ part level block. (entry : ℕ) × Contains (plan_entries plan) entry
         × HasSpoilt (table_in (S.state base.old).cells info) entry part level block) }
@@ -177,7 +177,7 @@ fn give<S: Space>(
         → AreApartLists (table_in (S.state base.old).cells info) info.count old free → AreGivenBy old given → start_of free 0 ≡ head
         → IfOk result (λ first. AreFreeNodes (table_in (S.state base.new).cells info) info.count (old ++ free)
         × (start_of (old ++ free) 0 ≡ first)) }
-    ensures alters { Alters S.state S.keeps S.lands (IsOf info (given_entries given head)) base.old base.new (result_err result) }
+    ensures alters { Alters S.state S.keeps S.lands (IsOfEntries info (given_entries given head)) base.old base.new (result_err result) }
 {
     match given {
         Some(given) => match give_back(base, info, given.first, given.tail, head) {
@@ -204,7 +204,7 @@ fn take<S: Space>(
         → AreFreeNodes (table_in (S.state base.old).cells info) info.count nodes → start_of nodes 0 ≡ first
         → AreCutBy nodes n boundary
         → IfOk result (IsSwapped (table_in (S.state base.new).cells info) info.count n (entries_of nodes)) }
-    ensures alters { Alters S.state S.keeps S.lands (IsOf info (taken_entries first boundary)) base.old base.new
+    ensures alters { Alters S.state S.keeps S.lands (IsOfEntries info (taken_entries first boundary)) base.old base.new
         (result_err result) }
 {
     match boundary {
@@ -231,7 +231,7 @@ pub(crate) fn change<S: Space>(
     ensures swapped { IsTrue (S.state base.old).told → (old free : List Node) (n : ℕ)
         → AreApartLists (table_in (S.state base.old).cells info) info.count old free → IsPlan old free n plan
         → IfOk result (IsSwapped (table_in (S.state base.new).cells info) info.count n (entries_of (old ++ free))) }
-    ensures alters { Alters S.state S.keeps S.lands (IsOf info (plan_entries plan)) base.old base.new (result_err result) }
+    ensures alters { Alters S.state S.keeps S.lands (IsOfEntries info (plan_entries plan)) base.old base.new (result_err result) }
 {
     match give(base, info, plan.given, plan.head) {
         Ok(first) => take(base, info, first, plan.boundary),
@@ -249,7 +249,7 @@ pub(crate) fn plan_ready<S: Space>(
     requires table { HasAllocationTable (S.state base.old).shape info }
     ensures in_table { IfOk result (IsPlanIn info.count) }
     ensures ready { IsTrue (S.state base.old).told
-        → IfOk result (λ plan. AreUnspoilt (S.state base.old) (IsOf info (plan_entries plan))) }
+        → IfOk result (λ plan. AreUnspoilt (S.state base.old) (IsOfEntries info (plan_entries plan))) }
     ensures exact { IsTrue (S.state base.old).told → (old free : List Node)
         → CanPlan (table_in (S.state base.old).cells info) info.count given old free
         → IsReadyAnswer (table_in (S.state base.old).cells info) n (entries_of old) (entries_of free) result

@@ -8,7 +8,7 @@ ghost use Rattle.save_bytes.specs.Refusals.{IfDone};
 ghost use Rattle.save_bytes.specs.Writes.{IsWithin};
 ghost use Rattle.chain_nodes.specs.Table.{table_in, word_u, word_v, HasWords, HasAllocationTable};
 ghost use Rattle.chain_nodes.specs.Edits.{IsEntrySet};
-ghost use Rattle.alloc_chain.specs.Alters.{Alters, IsWordPut, IsOf};
+ghost use Rattle.alloc_chain.specs.Alters.{Alters, IsWordPut, IsOfEntries};
 
 use chain_nodes::ChainInfo;
 use save_bytes::{Bad, Space, set_u32};
@@ -33,7 +33,7 @@ pub(crate) fn set_u<S: Space>(base: &mut S, info: ChainInfo, entry: u32, u: u32)
     ensures set { let table = table_in (S.state base.old).cells info in IsTrue (S.state base.old).told → HasWords table entry
         → IfDone (result_err result)
         (IsEntrySet table (table_in (S.state base.new).cells info) info.count entry u (word_v table entry)) }
-    ensures alters { Alters S.state S.keeps S.lands (IsOf info (entry ∷ [])) base.old base.new (result_err result) }
+    ensures alters { Alters S.state S.keeps S.lands (IsOfEntries info (entry ∷ [])) base.old base.new (result_err result) }
 {
     put_word(base, info.table_at + 8 * u64::from(entry), u)
 }
@@ -46,7 +46,7 @@ pub(crate) fn set_v<S: Space>(base: &mut S, info: ChainInfo, entry: u32, v: u32)
     ensures set { let table = table_in (S.state base.old).cells info in IsTrue (S.state base.old).told → HasWords table entry
         → IfDone (result_err result)
         (IsEntrySet table (table_in (S.state base.new).cells info) info.count entry (word_u table entry) v) }
-    ensures alters { Alters S.state S.keeps S.lands (IsOf info (entry ∷ [])) base.old base.new (result_err result) }
+    ensures alters { Alters S.state S.keeps S.lands (IsOfEntries info (entry ∷ [])) base.old base.new (result_err result) }
 {
     put_word(base, info.table_at + 8 * u64::from(entry) + 4, v)
 }
@@ -64,7 +64,7 @@ pub(crate) fn set_words<S: Space>(
     requires inside { entry ≤ info.count }
     ensures set { let table = table_in (S.state base.old).cells info in IsTrue (S.state base.old).told
         → IfDone (result_err result) (IsEntrySet table (table_in (S.state base.new).cells info) info.count entry u v) }
-    ensures alters { Alters S.state S.keeps S.lands (IsOf info (entry ∷ [])) base.old base.new (result_err result) }
+    ensures alters { Alters S.state S.keeps S.lands (IsOfEntries info (entry ∷ [])) base.old base.new (result_err result) }
 {
     let at = info.table_at + 8 * u64::from(entry);
     match put_word(base, at, u) {

@@ -1,5 +1,6 @@
 -- Lists in which no number stands twice, and parts of them.
-use Rattle.std.proofs.Common.{◌≡◌, ℕ, ◌+◌, ◌-◌, ◌<◌, ◌≤◌, List, ◌++◌, length, get_or, nat_eq, false, sym, ◌∙◌, ap, arith}
+use Rattle.std.proofs.Common.{◌≡◌, ℕ, ◌+◌, ◌-◌, ◌<◌, ◌≤◌, List, ◌++◌, length, get_or, nat_eq, sym, ◌∙◌, ap}
+use Rattle.std.proofs.Common.{arith}
 use Rattle.std.proofs.Common.{⊎_elim, subst, length-append}
 use Rattle.std.proofs.lemmas.Bool.{cases_lt, eqb-false, ne_eqb}
 use Rattle.std.proofs.lemmas.List.{get_or_append_left, get_or-append-add}
@@ -8,7 +9,8 @@ use Rattle.std.proofs.lemmas.List.Elements.{Contains-get_or}
 use Rattle.std.specs.List.{IsDistinct, Contains}
 
 -- two places of a list have two numbers
-differ : (list : List ℕ) (i j d : ℕ) → IsDistinct nat_eq list → i < j → j < length list → get_or list i d ≡ get_or list j d → ⊥
+differ : (list : List ℕ) (i j d : ℕ) → IsDistinct nat_eq list → i < j → j < length list → get_or list i d ≡ get_or
+    list j d → ⊥
 differ list i j d once less within same =
     eqb-false (get_or list i d) (get_or list j d) (apart_from_distinct nat_eq list i j d once less within) same
 
@@ -23,7 +25,8 @@ module _ (xs ys : List ℕ) where
   distinct_left once = IsDistinct-from_apart nat_eq xs (λ i j d less within.
       ne_eqb (get_or xs i d) (get_or xs j d) (λ same. differ (xs ++ ys) i j d once less
       (omega (arith, within, length-append xs ys))
-      (get_or_append_left xs ys d i (omega (arith, less, within)) ∙ same ∙ sym (get_or_append_left xs ys d j within))))
+      (get_or_append_left xs ys d i (omega (arith, less, within)) ∙ same ∙ sym (get_or_append_left xs ys d j
+      within))))
 
   pub distinct_right : IsDistinct nat_eq (xs ++ ys) → IsDistinct nat_eq ys
   distinct_right once = IsDistinct-from_apart nat_eq ys (λ i j d less within.
@@ -43,7 +46,8 @@ module _ (xs ys : List ℕ) where
       let m : ℕ = j - length xs in
       let m_is : j ≡ length xs + m = omega arith in
       let in_ys : m < length ys = omega (arith, within, length-append xs ys) in
-      let at_j : get_or (xs ++ ys) j d ≡ get_or ys m d = ap (λ (p : ℕ). get_or (xs ++ ys) p d) m_is ∙ get_or-append-add xs ys m d in
+      let at_j : get_or (xs ++ ys) j d ≡ get_or ys m d = ap (λ (p : ℕ). get_or (xs ++ ys) p d) m_is ∙
+      get_or-append-add xs ys m d in
       ⊎_elim
       (λ (low : i < length xs). apart (get_or xs i d) (Contains-get_or xs i d low)
       (subst (λ (y : ℕ). Contains ys y) (sym at_j ∙ sym same ∙ get_or_append_left xs ys d i low)
@@ -51,7 +55,8 @@ module _ (xs ys : List ℕ) where
       (λ (high : length xs ≤ i).
       let l : ℕ = i - length xs in
       let l_is : i ≡ length xs + l = omega arith in
-      let at_i : get_or (xs ++ ys) i d ≡ get_or ys l d = ap (λ (p : ℕ). get_or (xs ++ ys) p d) l_is ∙ get_or-append-add xs ys l d in
+      let at_i : get_or (xs ++ ys) i d ≡ get_or ys l d = ap (λ (p : ℕ). get_or (xs ++ ys) p d) l_is ∙
+      get_or-append-add xs ys l d in
       differ ys l m d once_ys (omega arith) in_ys (sym at_i ∙ same ∙ at_j))
       (cases_lt i (length xs)))
       (cases_lt j (length xs))))

@@ -2,7 +2,7 @@
 use Rattle.std.proofs.Common.{◌≡◌, ◌≢◌, ℕ, ◌+◌, ◌-◌, ◌<◌, ◌≤◌, List, [], ◌∷◌, ◌++◌, nat_eq, sym, ◌∙◌, ap}
 use Rattle.std.proofs.Common.{subst, arith, refl, append_assoc, ⊎_elim}
 use Rattle.std.specs.List.{range_with_len, Contains, IsDistinct}
-use Rattle.std.proofs.lemmas.List.Elements.{Contains-append_left, Contains-append_right, Contains-append_cases}
+use Rattle.std.proofs.lemmas.List.Elements.{Contains-append_left, Contains-append_cases}
 use Rattle.std.proofs.lemmas.List.FromFn.{length-range_with_len, get_or-range_with_len}
 use Rattle.save_bytes.specs.Cells.{Cell}
 use Rattle.chain_nodes.specs.declared.node.Node.{Node}
@@ -13,7 +13,7 @@ use Rattle.chain_nodes.specs.Chains.{IsLead, IsInner, IsNode, start_of, AreNodes
 use Rattle.chain_nodes.specs.Edits.{IsEntrySet, IsHeadWord, HasEnds}
 use Rattle.chain_nodes.proofs.ListLemmas.{start_of-append, lead_after-append, AreNodes-append, entries_of-append}
 use Rattle.chain_nodes.proofs.OwnLemmas.{range_contains, entry_of, words_read, same_u, same_inner, nodes_rest}
-use Rattle.chain_nodes.proofs.DistinctLemmas.{distinct_apart, distinct_left, distinct_right}
+use Rattle.chain_nodes.proofs.DistinctLemmas.{distinct_apart, distinct_right}
 
 -- the numbers of a run
 pub range_bounds : (a n x : ℕ) → Contains (range_with_len a n) x → (a ≤ x) × (x < a + n)
@@ -47,7 +47,8 @@ module _ (table : ℕ → ℕ → Cell) (count : ℕ) where
       let rest = AreNodes-split (Follows x.first) xs ys next h.1 in
       ((subst (λ (n : ℕ). IsNode table count lead x n) (start_of-append xs ys next) h.0, rest.0), rest.1)
 
-  pub ends_of : (lead : Lead) (node : Node) (next : ℕ) → IsNode table count lead node next → HasEnds table count lead node
+  pub ends_of : (lead : Lead) (node : Node) (next : ℕ) → IsNode table count lead node next → HasEnds table count lead
+      node
   ends_of lead node next h = record {
     starts = h.starts;
     ordered = h.ordered;
@@ -113,20 +114,6 @@ module _ (old new : ℕ → ℕ → Cell) (count entry u v : ℕ) (set : IsEntry
       (λ x within. set.others x (entry_within old count lead nodes next x h within).1
       (λ same. apart (subst (λ (y : ℕ). Contains (entries_of nodes) y) same within))) h
 
-  -- so is a node before or behind which the entry lies
-  pub ends_kept : (lead : Lead) (node : Node) → ((x : ℕ) → node.first ≤ x → x ≤ node.last → x ≢ entry)
-      → HasEnds old count lead node → HasEnds new count lead node
-  ends_kept lead node apart h = record {
-    starts = h.starts;
-    ordered = h.ordered;
-    ends = h.ends;
-    read = words_read old new node.first (set.others node.first (omega (arith, h.ordered, h.ends)) (apart node.first (omega arith) h.ordered)) h.read;
-    u = subst (λ (w : ℕ). IsLead lead w) (sym (same_u old new node.first (set.others node.first (omega (arith, h.ordered, h.ends)) (apart node.first (omega arith) h.ordered)) h.read)) h.u;
-    second = λ more. kept_inner node (node.first + 1) (omega (arith, more, h.ends)) (apart (node.first + 1) (omega arith) (omega (arith, more)))
-        (h.second more);
-    last = λ more. kept_inner node node.last h.ends (apart node.last h.ordered (omega arith)) (h.last more);
-  }
-
   -- a list whose first entry was written begins at another place
   pub list_led : (lead other : Lead) (nodes : List Node) (next : ℕ) → entry ≡ start_of nodes 0 → v ≡ word_v old entry
       → IsDistinct nat_eq (entries_of nodes) → IsLead other u → AreNodes old count lead nodes next
@@ -134,12 +121,16 @@ module _ (old new : ℕ → ℕ → Cell) (count entry u v : ℕ) (set : IsEntry
   list_led lead other [] next is same once led h = tt
   list_led lead other (node ∷ nodes) next is same once led h =
       let v_old : v ≡ word_v old node.first = same ∙ ap (word_v old) is in (
-        node_named lead other node (start_of nodes next) is (ends_of old count lead node (start_of nodes next) h.0) led
+        node_named lead other node (start_of nodes next) is (ends_of old count lead node (start_of nodes next) h.0)
+            led
             (record { single = λ one. v_old ∙ h.0.single one; several = λ more. v_old ∙ h.0.several more }),
         nodes_kept (Follows node.first) nodes next
             (λ there. distinct_apart (run_of node) (entries_of nodes) once entry
             (subst (λ (y : ℕ). Contains (run_of node) y) (sym is)
-            (range_contains node.first (node.last + 1 - node.first) node.first (omega arith) (omega (arith, h.0.ordered)))) there) h.1,
+            (range_contains node.first (node.last + 1 - node.first) node.first (omega arith) (omega (
+              arith,
+              h.0.ordered,
+            )))) there) h.1,
       )
 
 module _ (count : ℕ) (lead : Lead) (xs : List Node) (before : Node) (ys : List Node)
@@ -159,13 +150,15 @@ module _ (count : ℕ) (lead : Lead) (xs : List Node) (before : Node) (ys : List
 
   pub apart_before : before.first ≤ before.last → ¬ Contains (entries_of xs) before.first
   apart_before ordered within =
-      distinct_apart (entries_of xs) (run_of before ++ entries_of ys) (subst (λ (l : List ℕ). IsDistinct nat_eq l) parts once)
+      distinct_apart (entries_of xs) (run_of before ++ entries_of ys) (subst (λ (l : List ℕ). IsDistinct nat_eq l)
+      parts once)
       before.first within (Contains-append_left (run_of before) (entries_of ys) before.first (first_in ordered))
 
   apart_behind : before.first ≤ before.last → ¬ Contains (entries_of ys) before.first
   apart_behind ordered =
       distinct_apart (run_of before) (entries_of ys)
-      (distinct_right (entries_of xs) (run_of before ++ entries_of ys) (subst (λ (l : List ℕ). IsDistinct nat_eq l) parts once))
+      (distinct_right (entries_of xs) (run_of before ++ entries_of ys) (subst (λ (l : List ℕ). IsDistinct nat_eq l)
+      parts once))
       before.first (first_in ordered)
 
   pub once_behind : IsDistinct nat_eq (entries_of ys)
@@ -174,7 +167,8 @@ module _ (count : ℕ) (lead : Lead) (xs : List Node) (before : Node) (ys : List
 
   pub apart_front : (x : ℕ) → Contains (entries_of ys) x → ¬ Contains (entries_of (xs ++ before ∷ [])) x
   apart_front x behind front =
-      distinct_apart (entries_of (xs ++ before ∷ [])) (entries_of ys) (subst (λ (l : List ℕ). IsDistinct nat_eq l) halves once)
+      distinct_apart (entries_of (xs ++ before ∷ [])) (entries_of ys) (subst (λ (l : List ℕ). IsDistinct nat_eq l)
+      halves once)
       x front behind
 
   module _ (old new : ℕ → ℕ → Cell) (v : ℕ) (set : IsEntrySet old new count before.first (word_u old before.first) v)
@@ -184,8 +178,10 @@ module _ (count : ℕ) (lead : Lead) (xs : List Node) (before : Node) (ys : List
         → AreNodes new count lead (xs ++ before ∷ []) next
     front_named next word h =
         AreNodes-append new count lead xs (before ∷ []) next
-        (nodes_kept old new count before.first (word_u old before.first) v set lead xs before.first (apart_before ends.ordered) h) (
-          node_named old new count before.first (word_u old before.first) v set (lead_after lead xs) (lead_after lead xs) before
+        (nodes_kept old new count before.first (word_u old before.first) v set lead xs before.first (apart_before
+        ends.ordered) h) (
+          node_named old new count before.first (word_u old before.first) v set (lead_after lead xs) (lead_after lead
+              xs) before
               next refl ends ends.u word,
           tt,
         )
@@ -205,9 +201,11 @@ module _ (count : ℕ) (lead : Lead) (xs : List Node) (before : Node) (ys : List
       (start_contained old count other ys behind (λ none. some (sym starts ∙ none))) in
       let front_kept : AreNodes new count lead (xs ++ before ∷ []) (start_of ys 0) =
       subst (λ (n : ℕ). AreNodes new count lead (xs ++ before ∷ []) n) (sym starts)
-      (nodes_kept old new count after before.first v set lead (xs ++ before ∷ []) after (apart_front after within) front) in
+      (nodes_kept old new count after before.first v set lead (xs ++ before ∷ []) after (apart_front after within)
+      front) in
       let led : AreNodes new count (Follows before.first) ys 0 =
-      list_led old new count after before.first v set other (Follows before.first) ys 0 (sym starts) same once_behind refl behind
+      list_led old new count after before.first v set other (Follows before.first) ys 0 (sym starts) same once_behind
+      refl behind
       in
       let led_after : AreNodes new count (lead_after lead (xs ++ before ∷ [])) ys 0 =
       subst (λ (l : Lead). AreNodes new count l ys 0) (sym (lead_after-append lead xs (before ∷ []))) led in
@@ -222,7 +220,8 @@ module _ (count : ℕ) (lead : Lead) (xs : List Node) (before : Node) (ys : List
       (sym (no_nodes_behind new count other ys behind starts)) front
 
 -- the entry with which nodes begin has words
-pub start_read : (table : ℕ → ℕ → Cell) (count : ℕ) (lead : Lead) (nodes : List Node) → AreNodes table count lead nodes 0
+pub start_read : (table : ℕ → ℕ → Cell) (count : ℕ) (lead : Lead) (nodes : List Node) → AreNodes table count lead
+    nodes 0
     → start_of nodes 0 ≢ 0 → HasWords table (start_of nodes 0)
 start_read table count lead [] h some = absurd (some refl)
 start_read table count lead (node ∷ nodes) h some = h.0.read

@@ -43,7 +43,8 @@ module _ (old new : ℕ → ℕ → Cell) where
   same_v entry kept words = number_in-same 4 (new entry) (old entry) 4 4 (λ k less.
       (let small : 4 + k < 8 = omega (arith, less) in kept (4 + k) small (words (4 + k) small)))
 
-  pub same_inner : (node : Node) (entry : ℕ) → KeepsEntry old new entry → IsInner old node entry → IsInner new node entry
+  pub same_inner : (node : Node) (entry : ℕ) → KeepsEntry old new entry → IsInner old node entry → IsInner new node
+      entry
   same_inner node entry kept h = record {
     read = words_read entry kept h.read;
     u = same_u entry kept h.read ∙ h.u;
@@ -81,7 +82,8 @@ module _ (old new : ℕ → ℕ → Cell) where
   )
 
   -- so is a list
-  pub list_rests : (count : ℕ) (lead : Lead) (first : ℕ) (list : List ℕ) → ((x : ℕ) → Contains list x → KeepsEntry old new x)
+  pub list_rests : (count : ℕ) (lead : Lead) (first : ℕ) (list : List ℕ) → ((x : ℕ) → Contains list x → KeepsEntry
+      old new x)
       → IsLinkedBy old count lead first list → IsLinkedBy new count lead first list
   list_rests count lead first list kept h = record {
     nodes = h.nodes;

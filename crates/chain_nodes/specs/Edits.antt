@@ -44,7 +44,8 @@ pub record AreFreeNodes (table : ℕ → ℕ → Cell) (count : ℕ) (nodes : Li
 
 -- Nodes of two lists that can be linked: some nodes and one behind them, of which none is named as the next, and a list
 -- that begins with `after`. No entry stands twice.
-pub record AreJoinable (table : ℕ → ℕ → Cell) (count : ℕ) (lead other : Lead) (xs : List Node) (before : Node) (ys : List Node)
+pub record AreJoinable (table : ℕ → ℕ → Cell) (count : ℕ) (lead other : Lead) (xs : List Node) (before : Node) (ys :
+    List Node)
     (after : ℕ) : Type 0 where
   pub front : AreNodes table count lead xs before.first
   pub ends : HasEnds table count (lead_after lead xs) before
@@ -61,20 +62,23 @@ pub record AreBefore (table : ℕ → ℕ → Cell) (count : ℕ) (lead : Lead) 
   pub once : IsDistinct nat_eq (entries_of (xs ++ node ∷ []))
 
 -- nodes that begin with `next`, and a node that shares no entry with them
-pub record AreBehind (table : ℕ → ℕ → Cell) (count : ℕ) (lead : Lead) (node : Node) (ys : List Node) (next : ℕ) : Type 0 where
+pub record AreBehind (table : ℕ → ℕ → Cell) (count : ℕ) (lead : Lead) (node : Node) (ys : List Node) (next : ℕ) :
+    Type 0 where
   pub linked : AreNodes table count lead ys 0
   pub starts : start_of ys 0 ≡ next
   pub once : IsDistinct nat_eq (entries_of (node ∷ ys))
 
 -- some free nodes, one behind them, and others that begin with `next`
-pub record AreFreeAround (table : ℕ → ℕ → Cell) (count : ℕ) (xs : List Node) (node : Node) (ys : List Node) (next : ℕ) : Type 0 where
+pub record AreFreeAround (table : ℕ → ℕ → Cell) (count : ℕ) (xs : List Node) (node : Node) (ys : List Node) (next :
+    ℕ) : Type 0 where
   pub linked : AreNodes table count OpensFree (xs ++ node ∷ ys) 0
   pub starts : start_of ys 0 ≡ next
   pub once : IsDistinct nat_eq (entries_of (xs ++ node ∷ ys))
 
 -- Nodes that were one list are two, of the same entries. The first ends with the entry `middle` of a node, and the other
 -- begins with `rest`.
-pub record AreCut (table : ℕ → ℕ → Cell) (count : ℕ) (xs : List Node) (node : Node) (ys : List Node) (middle rest : ℕ) : Type 0 where
+pub record AreCut (table : ℕ → ℕ → Cell) (count : ℕ) (xs : List Node) (node : Node) (ys : List Node) (middle rest :
+    ℕ) : Type 0 where
   pub nodes : List Node
   pub front : AreNodes table count OpensFree (xs ++ record { first = node.first; last = middle } ∷ []) 0
   pub behind : AreNodes table count OpensFree nodes 0
@@ -83,7 +87,8 @@ pub record AreCut (table : ℕ → ℕ → Cell) (count : ℕ) (xs : List Node) 
       ≡ entries_of (xs ++ node ∷ ys)
 
 -- nodes that were one free list are a chain, up to the entry `middle` of a node, and the free list behind it
-pub record AreTaken (table : ℕ → ℕ → Cell) (count : ℕ) (xs : List Node) (node : Node) (ys : List Node) (middle : ℕ) : Type 0 where
+pub record AreTaken (table : ℕ → ℕ → Cell) (count : ℕ) (xs : List Node) (node : Node) (ys : List Node) (middle : ℕ) :
+    Type 0 where
   pub nodes : List Node
   pub chain : AreNodes table count Opens (xs ++ record { first = node.first; last = middle } ∷ []) 0
   pub free : AreFreeNodes table count nodes
@@ -91,7 +96,8 @@ pub record AreTaken (table : ℕ → ℕ → Cell) (count : ℕ) (xs : List Node
       ≡ entries_of (xs ++ node ∷ ys)
 
 -- a chain of nodes that begins with `first` and ends with `tail`, and the free list, which begins with `head`
-pub record AreApartFrom (table : ℕ → ℕ → Cell) (count : ℕ) (xs : List Node) (tail : Node) (ys : List Node) (first head : ℕ) : Type 0 where
+pub record AreApartFrom (table : ℕ → ℕ → Cell) (count : ℕ) (xs : List Node) (tail : Node) (ys : List Node) (first
+    head : ℕ) : Type 0 where
   pub chain : AreNodes table count Opens (xs ++ tail ∷ []) 0
   pub starts : start_of (xs ++ tail ∷ []) 0 ≡ first
   pub read : HasWords table 0

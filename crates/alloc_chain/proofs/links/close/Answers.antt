@@ -1,4 +1,4 @@
-use Rattle.std.proofs.Common.{◌≡◌, ℕ, ◌+◌, min, List, [], ◌∷◌, Some, refl, arith}
+use Rattle.std.proofs.Common.{ℕ, ◌+◌, min, List, [], ◌∷◌, Some, refl, arith}
 use Rattle.std.specs.Result.{result_err}
 use Rattle.chain_nodes.specs.declared.node.Lead.TheVariants.{OpensFree}
 use Rattle.chain_nodes.specs.Table.{table_in}
@@ -26,7 +26,8 @@ returns-in-Ok-clause-alters g c =
     alters_then space.state space.keeps space.lands g.met.S.Space.keeps_join c.args.info (second ∷ node.last ∷ [])
     (node.first ∷ 0 ∷ []) many c.args.base.now c.set_ends.new.base c.link.new.base (result_err c.link.result)
     (among_two second node.last many (1, omega arith, refl) (2, omega arith, refl))
-    (among_two node.first 0 many (0, omega arith, refl) (3, omega arith, refl)) c.in-Ok.ensures.alters c.link.ensures.alters
+    (among_two node.first 0 many (0, omega arith, refl) (3, omega arith, refl)) c.in-Ok.ensures.alters
+    c.link.ensures.alters
 
 pub returns-in-Err-clause-alters : goal.returns-in-Err-clause-alters
 returns-in-Err-clause-alters g c =
@@ -34,5 +35,7 @@ returns-in-Err-clause-alters g c =
     let node = c.args.node in
     let second : ℕ = min (node.first + 1) node.last in
     let many : List ℕ = node.first ∷ second ∷ node.last ∷ 0 ∷ [] in
-    alters_of space.state space.keeps space.lands c.args.info (second ∷ node.last ∷ []) many c.args.base.now c.set_ends.new.base
-    (Some c.in-Err.bad) (among_two second node.last many (1, omega arith, refl) (2, omega arith, refl)) c.in-Err.ensures.alters
+    alters_of space.state space.keeps space.lands c.args.info (second ∷ node.last ∷ []) many c.args.base.now
+    c.set_ends.new.base
+    (Some c.in-Err.bad) (among_two second node.last many (1, omega arith, refl) (2, omega arith, refl))
+    c.in-Err.ensures.alters

@@ -1,4 +1,4 @@
-use Rattle.std.proofs.Common.{◌≡◌, ℕ, List, [], ◌∷◌, None, Some, refl, arith}
+use Rattle.std.proofs.Common.{ℕ, List, [], ◌∷◌, None, Some, refl, arith}
 use Rattle.alloc_chain.specs.Alters.{cut_entries}
 use Rattle.alloc_chain.proofs.AlterLemmas.{alters_of, among_three}
 use Rattle.alloc_chain.proofs.links.cut.Goals as goal
@@ -11,7 +11,8 @@ returns-in-Ok-clause-alters g c =
     let many : List ℕ = cut_entries c.args.node c.args.middle next in
     alters_of space.state space.keeps space.lands c.args.info (first ∷ 0 ∷ next ∷ []) many c.args.base.now
     c.cut_behind.new.base None
-    (among_three first 0 next many (1, omega arith, refl) (0, omega arith, refl) (7, omega arith, refl)) c.in-Ok.ensures.alters
+    (among_three first 0 next many (1, omega arith, refl) (0, omega arith, refl) (7, omega arith, refl))
+    c.in-Ok.ensures.alters
 
 pub returns-in-Err-clause-alters : goal.returns-in-Err-clause-alters
 returns-in-Err-clause-alters g c =
@@ -21,4 +22,5 @@ returns-in-Err-clause-alters g c =
     let many : List ℕ = cut_entries c.args.node c.args.middle next in
     alters_of space.state space.keeps space.lands c.args.info (first ∷ 0 ∷ next ∷ []) many c.args.base.now
     c.cut_behind.new.base (Some c.in-Err.bad)
-    (among_three first 0 next many (1, omega arith, refl) (0, omega arith, refl) (7, omega arith, refl)) c.in-Err.ensures.alters
+    (among_three first 0 next many (1, omega arith, refl) (0, omega arith, refl) (7, omega arith, refl))
+    c.in-Err.ensures.alters

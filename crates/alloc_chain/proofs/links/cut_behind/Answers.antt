@@ -1,4 +1,4 @@
-use Rattle.std.proofs.Common.{◌≡◌, ◌≢◌, ℕ, List, [], ◌∷◌, ◌++◌, None, Some, refl, arith}
+use Rattle.std.proofs.Common.{◌≢◌, ℕ, List, [], ◌∷◌, None, Some, refl, arith}
 use Rattle.std.specs.Result.{result_err}
 use Rattle.save_bytes.proofs.SpaceLemmas.{IfDone-map}
 use Rattle.chain_nodes.specs.declared.node.Lead.TheVariants.{OpensFree}
@@ -29,7 +29,8 @@ returns-clause-alters g c =
     let space = g.S.Space in
     let first = c.args.node.first in
     let many : List ℕ = first ∷ 0 ∷ c.args.next ∷ [] in
-    alters_then space.state space.keeps space.lands g.met.S.Space.keeps_join c.args.info (first ∷ 0 ∷ []) (c.args.next ∷ []) many
+    alters_then space.state space.keeps space.lands g.met.S.Space.keeps_join c.args.info (first ∷ 0 ∷ [])
+    (c.args.next ∷ []) many
     c.args.base.now c.link.new.base c.set_u.new.base (result_err c.set_u.result)
     (among_two first 0 many (0, omega arith, refl) (1, omega arith, refl))
     (among_one c.args.next many (2, omega arith, refl)) c.in-Ok.ensures.alters c.set_u.ensures.alters
@@ -41,7 +42,8 @@ returns-then-next-eq0-clause-cut g c = λ told xs ys around.
     let info = c.args.info in
     let node = c.args.node in
     let done = c.in-Ok.ensures in
-    cut_none s info xs node ys c.args.next around m c.requires.table (g.met.S.Space.no_twins c.args.base.now c.requires.single)
+    cut_none s info xs node ys c.args.next around m c.requires.table (g.met.S.Space.no_twins c.args.base.now
+    c.requires.single)
     (done.alters.changes told) (omega arith)
     (done.linked told OpensFree OpensFree xs [] (can_end s info xs node ys c.args.next around))
 
@@ -58,7 +60,8 @@ returns-clause-cut g c = λ told xs ys around.
     let some : next ≢ 0 = λ none. omega (arith, none) in
     let changes = done.alters.changes told in
     IfDone-map (result_err c.set_u.result)
-    (λ (set : IsEntrySet (table_in m.cells info) (table_in t.cells info) info.count next 0 (word_v (table_in m.cells info) next)).
+    (λ (set : IsEntrySet (table_in m.cells info) (table_in t.cells info) info.count next 0 (word_v (table_in m.cells
+    info) next)).
     cut_some s info xs node ys next around m c.requires.table single changes t some set
     (done.linked told OpensFree OpensFree xs [] (can_end s info xs node ys next around)))
     (c.set_u.ensures.set (done.alters.space.told told)

@@ -1,13 +1,12 @@
-use Rattle.std.proofs.Common.{◌≡◌, ℕ, ◌+◌, ◌++◌, min, List, [], ◌∷◌, Some, IsFalse, refl, sym, subst, arith}
+use Rattle.std.proofs.Common.{ℕ, ◌+◌, ◌++◌, min, List, [], ◌∷◌, Some, IsFalse, refl, sym, subst, arith}
 use Rattle.std.specs.Result.{result_err}
 use Rattle.save_bytes.specs.State.{Shape}
 use Rattle.save_bytes.specs.Within.{ChangesWithin}
 use Rattle.save_bytes.proofs.SpaceLemmas.{IfDone-both}
-use Rattle.chain_nodes.specs.declared.node.Node.{Node}
 use Rattle.chain_nodes.specs.declared.node.Lead.TheVariants.{OpensFree, Follows}
 use Rattle.chain_nodes.specs.Table.{table_in, HasAllocationTable}
 use Rattle.chain_nodes.specs.Chains.{AreNodes}
-use Rattle.alloc_chain.specs.Alters.{IsOf, cut_entries}
+use Rattle.alloc_chain.specs.Alters.{IsOfEntries, cut_entries}
 use Rattle.alloc_chain.proofs.AlterLemmas.{alters_of, alters_then, among_four}
 use Rattle.alloc_chain.proofs.CutLemmas.{right_behind, left_before, cut_done}
 use Rattle.alloc_chain.proofs.links.cut_within.Goals as goal
@@ -32,9 +31,14 @@ returns-in-Ok-clause-cut g c = λ told xs ys around.
     let behind = done.linked told (Follows node.first) ys
     (right_behind s info xs node ys next around middle c.requires.from c.requires.below) in
     IfDone-both (result_err c.close.result)
-    (λ (front : AreNodes (table_in t.cells info) info.count OpensFree (xs ++ record { first = node.first; last = middle } ∷ []) 0).
-    λ (changes : ChangesWithin m (IsOf info (node.first ∷ min (node.first + 1) middle ∷ middle ∷ 0 ∷ [])) t.cells).
-    cut_done s info xs node ys next around middle c.requires.from c.requires.below m t table single_mid changes behind front)
+    (λ (front : AreNodes (table_in t.cells info) info.count OpensFree (xs ++ record {
+      first = node.first;
+      last =
+          middle;
+    } ∷ []) 0).
+    λ (changes : ChangesWithin m (IsOfEntries info (node.first ∷ min (node.first + 1) middle ∷ middle ∷ 0 ∷ [])) t.cells).
+    cut_done s info xs node ys next around middle c.requires.from c.requires.below m t table single_mid changes
+    behind front)
     (c.close.ensures.linked told_mid OpensFree xs
     (left_before s info xs node ys next around middle c.requires.from c.requires.below m c.requires.table single
     (done.alters.changes told)))

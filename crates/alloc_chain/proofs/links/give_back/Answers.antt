@@ -1,11 +1,11 @@
-use Rattle.std.proofs.Common.{◌≡◌, ℕ, List, [], ◌∷◌, ◌++◌, None, Some, refl, sym, subst, arith}
+use Rattle.std.proofs.Common.{ℕ, List, [], ◌∷◌, None, Some, refl, sym, subst, arith}
 use Rattle.std.specs.Result.{result_err}
 use Rattle.save_bytes.specs.State.{Shape}
 use Rattle.save_bytes.proofs.SpaceLemmas.{IfDone-map}
 use Rattle.chain_nodes.specs.declared.node.Lead.TheVariants.{OpensFree}
 use Rattle.chain_nodes.specs.Table.{table_in, word_u, HasAllocationTable}
 use Rattle.chain_nodes.specs.Edits.{IsEntrySet}
-use Rattle.alloc_chain.specs.Alters.{Alters, IsOf}
+use Rattle.alloc_chain.specs.Alters.{Alters, IsOfEntries}
 use Rattle.alloc_chain.proofs.AlterLemmas.{alters_of, alters_then, among_all, among_one, among_two}
 use Rattle.alloc_chain.proofs.WordLemmas.{words_stay}
 use Rattle.alloc_chain.proofs.TakeLemmas.{chain_read, can_give, given}
@@ -31,14 +31,17 @@ returns-in-Ok-link-clause-given g c = λ told xs ys apart.
     let all = joined.linked told_opened OpensFree OpensFree xs ys
     (can_give count few xs tail ys first head table apart (table_in opened.cells info)
     (begun.set told (chain_read count few xs tail ys first head table apart))) in
-    let read_opened = words_stay s opened info 0 c.requires.table (begun.alters.bytes told) (omega arith) apart.read in
+    let read_opened = words_stay s opened info 0 c.requires.table (begun.alters.bytes told) (omega arith) apart.read
+    in
     let read_linked = words_stay opened linked info 0
-    (subst (λ (shape : Shape). HasAllocationTable shape info) (sym shape) c.requires.table) (joined.alters.bytes told_opened)
+    (subst (λ (shape : Shape). HasAllocationTable shape info) (sym shape) c.requires.table) (joined.alters.bytes
+    told_opened)
     (omega arith) read_opened in
     let u : ℕ = word_u (table_in linked.cells info) 0 in
     IfDone-map (result_err c.set_v.result)
     (λ (root : IsEntrySet (table_in linked.cells info) (table_in new.cells info) count 0 u first).
-    given count few xs tail ys first head table apart (table_in linked.cells info) (table_in new.cells info) u c.requires.first
+    given count few xs tail ys first head table apart (table_in linked.cells info) (table_in new.cells info) u
+    c.requires.first
     all root)
     (c.set_v.ensures.set (joined.alters.space.told told_opened) read_linked)
 
@@ -57,8 +60,14 @@ returns-in-Err-link-clause-alters g c =
     let tail = c.args.tail in
     let head = c.args.head in
     let many : List ℕ = 0 ∷ first ∷ tail.first ∷ head ∷ [] in
-    alters_then space.state space.keeps space.lands g.met.S.Space.keeps_join c.args.info (first ∷ []) (tail.first ∷ head ∷ [])
-    many c.args.base.now c.set_u.new.base c.link.new.base (Some c.in-Err-link.bad) (among_one first many (1, omega arith, refl))
+    alters_then space.state space.keeps space.lands g.met.S.Space.keeps_join c.args.info (first ∷ []) (tail.first ∷
+    head ∷ [])
+    many c.args.base.now c.set_u.new.base c.link.new.base (Some c.in-Err-link.bad) (among_one first many (
+      1,
+      omega
+          arith,
+      refl,
+    ))
     (among_two tail.first head many (2, omega arith, refl) (3, omega arith, refl)) c.in-Ok.ensures.alters
     c.in-Err-link.ensures.alters
 
@@ -69,11 +78,18 @@ returns-in-Ok-link-clause-alters g c =
     let tail = c.args.tail in
     let head = c.args.head in
     let many : List ℕ = 0 ∷ first ∷ tail.first ∷ head ∷ [] in
-    let both : Alters space.state space.keeps space.lands (IsOf c.args.info many) c.args.base.now c.link.new.base None =
-    alters_then space.state space.keeps space.lands g.met.S.Space.keeps_join c.args.info (first ∷ []) (tail.first ∷ head ∷ [])
+    let both : Alters space.state space.keeps space.lands (IsOfEntries c.args.info many) c.args.base.now c.link.new.base
+    None =
+    alters_then space.state space.keeps space.lands g.met.S.Space.keeps_join c.args.info (first ∷ []) (tail.first ∷
+    head ∷ [])
     many c.args.base.now c.set_u.new.base c.link.new.base None (among_one first many (1, omega arith, refl))
     (among_two tail.first head many (2, omega arith, refl) (3, omega arith, refl)) c.in-Ok.ensures.alters
     c.in-Ok-link.ensures.alters in
-    alters_then space.state space.keeps space.lands g.met.S.Space.keeps_join c.args.info many (0 ∷ []) many c.args.base.now
-    c.link.new.base c.set_v.new.base (result_err c.set_v.result) (among_all many) (among_one 0 many (0, omega arith, refl)) both
+    alters_then space.state space.keeps space.lands g.met.S.Space.keeps_join c.args.info many (0 ∷ []) many
+    c.args.base.now
+    c.link.new.base c.set_v.new.base (result_err c.set_v.result) (among_all many) (among_one 0 many (
+      0,
+      omega arith,
+      refl,
+    )) both
     c.set_v.ensures.alters

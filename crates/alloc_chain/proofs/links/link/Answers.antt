@@ -1,10 +1,9 @@
 use Rattle.std.proofs.Common.{◌≡◌, ◌≢◌, ℕ, List, [], ◌∷◌, ◌++◌, None, Some, refl, sym, ◌∙◌, subst, arith}
 use Rattle.std.specs.Result.{result_err}
 use Rattle.save_bytes.proofs.SpaceLemmas.{IfDone-map}
-use Rattle.chain_nodes.specs.declared.node.Node.{Node}
-use Rattle.chain_nodes.specs.Table.{table_in, word_u, word_v, HasWords}
-use Rattle.chain_nodes.specs.Chains.{AreNodes, start_of}
-use Rattle.chain_nodes.specs.Edits.{IsEntrySet, IsHeadWord}
+use Rattle.chain_nodes.specs.Table.{table_in, word_v, HasWords}
+use Rattle.chain_nodes.specs.Chains.{AreNodes}
+use Rattle.chain_nodes.specs.Edits.{IsEntrySet}
 use Rattle.chain_nodes.proofs.EditLemmas.{front_named, behind_kept, both_linked, none_linked, start_read}
 use Rattle.alloc_chain.proofs.AlterLemmas.{alters_of, alters_then, among_one}
 use Rattle.alloc_chain.proofs.links.link.Goals as goal
@@ -30,8 +29,14 @@ returns-clause-alters g c =
     let space = g.S.Space in
     let first = c.args.before.first in
     let many : List ℕ = first ∷ c.args.after ∷ [] in
-    alters_then space.state space.keeps space.lands g.met.S.Space.keeps_join c.args.info (first ∷ []) (c.args.after ∷ []) many
-    c.args.base.now c.set_v.new.base c.set_u.new.base (result_err c.set_u.result) (among_one first many (0, omega arith, refl))
+    alters_then space.state space.keeps space.lands g.met.S.Space.keeps_join c.args.info (first ∷ []) (c.args.after ∷
+    []) many
+    c.args.base.now c.set_v.new.base c.set_u.new.base (result_err c.set_u.result) (among_one first many (
+      0,
+      omega
+          arith,
+      refl,
+    ))
     (among_one c.args.after many (1, omega arith, refl)) c.in-Ok.ensures.alters c.set_u.ensures.alters
 
 pub returns-then-after-eq0-clause-linked : goal.returns-then-after-eq0-clause-linked
@@ -47,7 +52,8 @@ returns-then-after-eq0-clause-linked g c = λ told lead other xs ys join.
     none_linked count lead xs before ys join.once new other
     (behind_kept count lead xs before ys join.once old new v set join.ends other join.behind) (join.starts ∙ none)
     (subst (λ (n : ℕ). AreNodes new count lead (xs ++ before ∷ []) n) none
-    (front_named count lead xs before ys join.once old new v set join.ends c.args.after c.head_word.ensures.word join.front))
+    (front_named count lead xs before ys join.once old new v set join.ends c.args.after c.head_word.ensures.word
+    join.front))
 
 pub returns-clause-linked : goal.returns-clause-linked
 returns-clause-linked g c = λ told lead other xs ys join.
@@ -62,10 +68,12 @@ returns-clause-linked g c = λ told lead other xs ys join.
     let set = c.in-Ok.ensures.set told join.ends.read in
     let some : after ≢ 0 = λ none. omega (arith, none) in
     let behind = behind_kept count lead xs before ys join.once old mid v set join.ends other join.behind in
-    let front = front_named count lead xs before ys join.once old mid v set join.ends after c.head_word.ensures.word join.front in
+    let front = front_named count lead xs before ys join.once old mid v set join.ends after c.head_word.ensures.word
+    join.front in
     let read = subst (λ (e : ℕ). HasWords mid e) join.starts
     (start_read mid count other ys behind (λ none. some (sym join.starts ∙ none))) in
     IfDone-map (result_err c.set_u.result)
     (λ (led : IsEntrySet mid new count after before.first (word_v mid after)).
-    both_linked count lead xs before ys join.once mid new other after (word_v mid after) join.starts some refl led front behind)
+    both_linked count lead xs before ys join.once mid new other after (word_v mid after) join.starts some refl led
+    front behind)
     (c.set_u.ensures.set (c.in-Ok.ensures.alters.space.told told) read)

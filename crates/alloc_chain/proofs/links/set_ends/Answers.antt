@@ -1,9 +1,7 @@
-use Rattle.std.proofs.Common.{◌≡◌, ◌≢◌, ℕ, ◌+◌, ◌<◌, ◌≤◌, min, List, [], ◌∷◌, None, Some, refl, sym, ◌∙◌, subst, arith}
+use Rattle.std.proofs.Common.{◌≡◌, ◌≢◌, ℕ, ◌+◌, ◌<◌, ◌≤◌, min, List, [], ◌∷◌, Some, refl, arith}
 use Rattle.std.specs.Result.{result_err}
 use Rattle.save_bytes.proofs.SpaceLemmas.{IfDone-map}
-use Rattle.chain_nodes.specs.declared.node.Node.{Node}
 use Rattle.chain_nodes.specs.Table.{table_in, flagged}
-use Rattle.chain_nodes.specs.Chains.{IsInner}
 use Rattle.chain_nodes.specs.Edits.{IsEntrySet}
 use Rattle.alloc_chain.proofs.AlterLemmas.{alters_of, alters_then, among_one}
 use Rattle.alloc_chain.proofs.LinkLemmas.{set_inner, inner_stays, kept_twice}
@@ -40,7 +38,8 @@ returns-in-Ok-clause-alters g c =
     let second : ℕ = node.first + 1 in
     let is : min (node.first + 1) node.last ≡ second = omega (arith, c.requires.ordered) in
     let many : List ℕ = min (node.first + 1) node.last ∷ node.last ∷ [] in
-    alters_then space.state space.keeps space.lands g.met.S.Space.keeps_join c.args.info (second ∷ []) (node.last ∷ []) many
+    alters_then space.state space.keeps space.lands g.met.S.Space.keeps_join c.args.info (second ∷ []) (node.last ∷
+    []) many
     c.args.base.now c.set_words.new.base c.set_words-in-Ok.new.base (result_err c.set_words-in-Ok.result)
     (among_one second many (0, omega arith, is))
     (among_one node.last many (1, omega arith, refl)) c.in-Ok.ensures.alters c.set_words-in-Ok.ensures.alters
@@ -66,7 +65,19 @@ returns-in-Ok-clause-kept g c = λ told.
     IfDone-map (result_err c.set_words-in-Ok.result)
     (λ (set : IsEntrySet mid new info.count node.last (flagged node.first) node.last).
     λ (x : ℕ) (inside : x ≤ info.count) (apart : ¬ ((node.first < x) × (x ≤ node.last))).
-    let second_other : x ≢ node.first + 1 = λ same. apart (omega (arith, same), omega (arith, same, c.if-node.false, c.requires.ordered)) in
-    let last_other : x ≢ node.last = λ same. apart (omega (arith, same, c.if-node.false, c.requires.ordered), omega (arith, same)) in
+    let second_other : x ≢ node.first + 1 = λ same. apart (
+      omega (arith, same),
+      omega (
+        arith,
+        same,
+        c.if-node.false,
+        c.requires.ordered,
+      ),
+    ) in
+    let last_other : x ≢ node.last = λ same. apart (
+      omega (arith, same, c.if-node.false, c.requires.ordered),
+      omega
+          (arith, same),
+    ) in
     kept_twice old mid new x (first.others x inside second_other) (set.others x inside last_other))
     (c.set_words-in-Ok.ensures.set (c.in-Ok.ensures.alters.space.told told))

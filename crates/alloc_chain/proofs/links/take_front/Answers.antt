@@ -1,10 +1,10 @@
-use Rattle.std.proofs.Common.{◌≡◌, ℕ, List, [], ◌∷◌, ◌++◌, None, Some, refl, sym, subst, arith}
+use Rattle.std.proofs.Common.{ℕ, List, [], ◌∷◌, None, Some, refl, sym, subst, arith}
 use Rattle.std.specs.Result.{result_err}
 use Rattle.save_bytes.specs.State.{Shape}
 use Rattle.save_bytes.proofs.SpaceLemmas.{IfDone-map}
 use Rattle.chain_nodes.specs.Table.{table_in, word_u, HasAllocationTable}
 use Rattle.chain_nodes.specs.Edits.{IsEntrySet, AreFreeAround}
-use Rattle.alloc_chain.specs.Alters.{Alters, IsOf, cut_entries}
+use Rattle.alloc_chain.specs.Alters.{Alters, IsOfEntries, cut_entries}
 use Rattle.alloc_chain.proofs.AlterLemmas.{alters_of, alters_then, among_all, among_one, among_behind}
 use Rattle.alloc_chain.proofs.WordLemmas.{words_stay}
 use Rattle.alloc_chain.proofs.TakeLemmas.{first_read, taken}
@@ -39,7 +39,8 @@ returns-in-Ok-set_u-clause-taken g c = λ told xs ys free next_is starts.
     let u : ℕ = word_u (table_in chained.cells info) 0 in
     IfDone-map (result_err c.set_v.result)
     (λ (root : IsEntrySet (table_in chained.cells info) (table_in new.cells info) count 0 u rest).
-    taken count few xs node ys middle rest mid cut free.once first starts (table_in chained.cells info) (table_in new.cells info)
+    taken count few xs node ys middle rest mid cut free.once first starts (table_in chained.cells info) (table_in
+    new.cells info)
     u cut_ensures.small set root)
     (c.set_v.ensures.set (head.alters.space.told told_m) read_chained)
 
@@ -56,7 +57,8 @@ returns-in-Err-set_u-clause-alters g c =
     let space = g.S.Space in
     let first = c.args.first in
     let few : List ℕ = cut_entries c.args.node c.args.middle c.args.next in
-    alters_then space.state space.keeps space.lands g.met.S.Space.keeps_join c.args.info few (first ∷ []) (first ∷ few)
+    alters_then space.state space.keeps space.lands g.met.S.Space.keeps_join c.args.info few (first ∷ []) (first ∷
+    few)
     c.args.base.now c.cut.new.base c.set_u.new.base (Some c.in-Err-set_u.bad) (among_behind first few)
     (among_one first (first ∷ few) (0, omega arith, refl)) c.in-Ok.ensures.alters c.in-Err-set_u.ensures.alters
 
@@ -65,10 +67,13 @@ returns-in-Ok-set_u-clause-alters g c =
     let space = g.S.Space in
     let first = c.args.first in
     let few : List ℕ = cut_entries c.args.node c.args.middle c.args.next in
-    let both : Alters space.state space.keeps space.lands (IsOf c.args.info (first ∷ few)) c.args.base.now c.set_u.new.base None =
-    alters_then space.state space.keeps space.lands g.met.S.Space.keeps_join c.args.info few (first ∷ []) (first ∷ few)
+    let both : Alters space.state space.keeps space.lands (IsOfEntries c.args.info (first ∷ few)) c.args.base.now
+    c.set_u.new.base None =
+    alters_then space.state space.keeps space.lands g.met.S.Space.keeps_join c.args.info few (first ∷ []) (first ∷
+    few)
     c.args.base.now c.cut.new.base c.set_u.new.base None (among_behind first few)
     (among_one first (first ∷ few) (0, omega arith, refl)) c.in-Ok.ensures.alters c.in-Ok-set_u.ensures.alters in
-    alters_then space.state space.keeps space.lands g.met.S.Space.keeps_join c.args.info (first ∷ few) (0 ∷ []) (first ∷ few)
+    alters_then space.state space.keeps space.lands g.met.S.Space.keeps_join c.args.info (first ∷ few) (0 ∷ [])
+    (first ∷ few)
     c.args.base.now c.set_u.new.base c.set_v.new.base (result_err c.set_v.result) (among_all (first ∷ few))
     (among_one 0 (first ∷ few) (1, omega arith, refl)) both c.set_v.ensures.alters

@@ -48,5 +48,6 @@ returns-clause-exact g c = λ told list free.
     (no_free_need table info.count list c.requires.few free.read free.linked)
     (returns-clause-faults g c)
     (IfOk-map c.list_len.result (λ n (other, linked, is). is
-    ∙ ap length (same_list table info.count c.requires.few OpensFree (index_of (word_v table 0)) list free.linked other
+    ∙ ap length (same_list table info.count c.requires.few OpensFree (index_of (word_v table 0)) list free.linked
+    other
     linked)) (returns-clause-length g c told))

@@ -1,5 +1,4 @@
-use Rattle.std.proofs.Common.{◌≡◌, ◌≢◌, ℕ, ◌+◌, ◌-◌, ◌*◌, ◌≤◌, List, length, Ok, Err, refl, sym, subst, arith}
-use Rattle.std.specs.Result.{result_err}
+use Rattle.std.proofs.Common.{ℕ, ◌+◌, ◌-◌, length, refl, sym, subst, arith}
 use Rattle.save_bytes.specs.Cells.{Cell}
 use Rattle.save_bytes.proofs.CallLemmas.{reads_then}
 use Rattle.chain_nodes.specs.declared.node.Lead.TheVariants.{OpensFree}
@@ -7,7 +6,8 @@ use Rattle.chain_nodes.specs.Table.{table_in}
 use Rattle.chain_nodes.specs.Chains.{AreNodes, entries_of}
 use Rattle.chain_nodes.proofs.TableLemmas.{table_stays}
 use Rattle.alloc_chain.specs.Plans.{IsNodeAt, IsBoundary}
-use Rattle.alloc_chain.proofs.PlanLemmas.{done_other, enough_done, start_at, end_within, all_counted, all_before, boundary_of, is_last}
+use Rattle.alloc_chain.proofs.PlanLemmas.{enough_done, start_at, end_within, all_counted, all_before, boundary_of}
+use Rattle.alloc_chain.proofs.PlanLemmas.{is_last}
 use Rattle.alloc_chain.proofs.plan.free_boundary.Goals as goal
 
 pub returns-in-Err-walk_on-clause-exact : goal.returns-in-Err-walk_on-clause-exact
@@ -17,11 +17,16 @@ returns-in-Err-walk_on-clause-exact g c = λ told nodes linked starts few.
     let read = c.in-Ok.ensures in
     let stays = read.reads.stays in
     let linked_mid = subst (λ (t : ℕ → ℕ → Cell). AreNodes t info.count OpensFree nodes 0)
-    (sym (table_stays (g.S.Space.state c.args.base.now) (g.S.Space.state c.read_at.new.base) info c.requires.table stays told))
+    (sym (table_stays (g.S.Space.state c.args.base.now) (g.S.Space.state c.read_at.new.base) info c.requires.table
+    stays told))
     linked in
     enough_done c.args.n (from + length (entries_of nodes)) (IsNodeAt nodes from) (IsBoundary nodes from c.args.n)
     c.in-Err-walk_on.fault
-    (c.in-Err-walk_on.ensures.exact (stays.space.told told) OpensFree nodes from linked_mid (omega (arith, few, c.requires.small))
+    (c.in-Err-walk_on.ensures.exact (stays.space.told told) OpensFree nodes from linked_mid (omega (
+      arith,
+      few,
+      c.requires.small,
+    ))
     (start_at nodes from c.in-Ok.start (read.exact told nodes linked starts) read.counted))
 
 pub returns-in-Err-walk_on-clause-reads : goal.returns-in-Err-walk_on-clause-reads
@@ -44,15 +49,21 @@ returns-then-at-n-clause-exact g c = λ told nodes linked starts few.
     let at = c.in-Ok-walk_on.at in
     let stays = read.reads.stays in
     let linked_mid = subst (λ (t : ℕ → ℕ → Cell). AreNodes t info.count OpensFree nodes 0)
-    (sym (table_stays (g.S.Space.state c.args.base.now) (g.S.Space.state c.read_at.new.base) info c.requires.table stays told))
+    (sym (table_stays (g.S.Space.state c.args.base.now) (g.S.Space.state c.read_at.new.base) info c.requires.table
+    stays told))
     linked in
     let is = walk.exact (stays.space.told told) OpensFree nodes from linked_mid (omega (arith, few, c.requires.small))
     (start_at nodes from c.in-Ok.start (read.exact told nodes linked starts) read.counted) in
     let last = is_last at.next at.end (c.args.n - 1) walk.found (omega (arith, c.if-at-n.true)) in
     let all = all_before nodes from c.args.n at is walk.in_table.ordered
-    (all_counted nodes from c.args.n at is (table_in (g.S.Space.state c.args.base.now).cells info) info.count OpensFree linked
-    walk.in_table.ordered last) in
-    (refl, omega (arith, all, c.blocks-have-then-at-n.ensures, few, c.requires.small, c.requires.table.few), omega (arith, all, c.if-at-n.true))
+    (all_counted nodes from c.args.n at is (table_in (g.S.Space.state c.args.base.now).cells info) info.count
+    OpensFree linked
+    walk.in_table.ordered last) in (
+      refl,
+      omega (arith, all, c.blocks-have-then-at-n.ensures, few, c.requires.small, c.requires.table.few),
+      omega
+          (arith, all, c.if-at-n.true),
+    )
 
 pub returns-clause-exact : goal.returns-clause-exact
 returns-clause-exact g c = λ told nodes linked starts few.
@@ -63,7 +74,8 @@ returns-clause-exact g c = λ told nodes linked starts few.
     let at = c.in-Ok-walk_on.at in
     let stays = read.reads.stays in
     let linked_mid = subst (λ (t : ℕ → ℕ → Cell). AreNodes t info.count OpensFree nodes 0)
-    (sym (table_stays (g.S.Space.state c.args.base.now) (g.S.Space.state c.read_at.new.base) info c.requires.table stays told))
+    (sym (table_stays (g.S.Space.state c.args.base.now) (g.S.Space.state c.read_at.new.base) info c.requires.table
+    stays told))
     linked in
     let is = walk.exact (stays.space.told told) OpensFree nodes from linked_mid (omega (arith, few, c.requires.small))
     (start_at nodes from c.in-Ok.start (read.exact told nodes linked starts) read.counted) in (

@@ -1,14 +1,12 @@
-use Rattle.std.proofs.Common.{◌≡◌, ◌≢◌, ℕ, ◌+◌, ◌≤◌, List, ◌++◌, length, Some, Ok, Err, refl, sym, ◌∙◌, ap, subst, arith}
-use Rattle.std.specs.Result.{result_err}
+use Rattle.std.proofs.Common.{ℕ, ◌+◌, length, sym, ◌∙◌, ap, subst, arith}
 use Rattle.save_bytes.specs.Cells.{Cell}
 use Rattle.save_bytes.proofs.CallLemmas.{reads_then}
-use Rattle.chain_nodes.specs.declared.node.Node.{Node}
 use Rattle.chain_nodes.specs.declared.node.Lead.TheVariants.{OpensFree}
 use Rattle.chain_nodes.specs.Table.{table_in}
 use Rattle.chain_nodes.specs.Chains.{AreNodes, entries_of}
 use Rattle.chain_nodes.proofs.TableLemmas.{table_stays}
 use Rattle.alloc_chain.specs.Plans.{IsBoundary, IsPlan}
-use Rattle.alloc_chain.proofs.PlanLemmas.{enough_done, enough_other, end_within, ended_by, old_blocks, cut_in_old, cut_in_free}
+use Rattle.alloc_chain.proofs.PlanLemmas.{enough_other, end_within, ended_by, old_blocks, cut_in_old, cut_in_free}
 use Rattle.alloc_chain.proofs.plan.plan_given.Goals as goal
 
 pub returns-then-n-eq0-clause-exact : goal.returns-then-n-eq0-clause-exact
@@ -21,7 +19,8 @@ returns-then-n-eq0-clause-exact g c = λ told old free can head_is.
     let at = c.in-Ok.ends.0 in
     let tail = c.in-Ok.ends.1 in
     let are = ends.exact told old linked starts can.few_old in
-    let given = ended_by table info.count old free linked c.args.first tail starts are.1 ends.last_in_table.ordered ends.last in
+    let given = ended_by table info.count old free linked c.args.first tail starts are.1 ends.last_in_table.ordered
+    ends.last in
     (omega arith, record { given = given; head = head_is; cut = omega arith })
 
 pub returns-then-n-at-clause-exact : goal.returns-then-n-at-clause-exact
@@ -34,7 +33,8 @@ returns-then-n-at-clause-exact g c = λ told old free can head_is.
     let at = c.in-Ok.ends.0 in
     let tail = c.in-Ok.ends.1 in
     let are = ends.exact told old linked starts can.few_old in
-    let given = ended_by table info.count old free linked c.args.first tail starts are.1 ends.last_in_table.ordered ends.last in
+    let given = ended_by table info.count old free linked c.args.first tail starts are.1 ends.last_in_table.ordered
+    ends.last in
     let made = c.boundary_at.ensures in
     let next = c.next_or.ensures in (
       omega (arith, end_within old 0 at are.0 ends.in_table.ordered, c.if-n-at.true),
@@ -59,11 +59,13 @@ returns-in-Ok-free_boundary-clause-exact g c = λ told old free can head_is.
     let at = c.in-Ok.ends.0 in
     let tail = c.in-Ok.ends.1 in
     let are = ends.exact told old linked starts can.few_old in
-    let given = ended_by table info.count old free linked c.args.first tail starts are.1 ends.last_in_table.ordered ends.last in
+    let given = ended_by table info.count old free linked c.args.first tail starts are.1 ends.last_in_table.ordered
+    ends.last in
     let count_is = old_blocks table info.count old free linked tail are.1 ends.last_in_table.ordered ends.last in
     let stays = ends.reads.stays in
     let free_mid = subst (λ (t : ℕ → ℕ → Cell). AreNodes t info.count OpensFree free 0)
-    (sym (table_stays (g.S.Space.state c.args.base.now) (g.S.Space.state c.old_ends.new.base) info c.requires.table stays told))
+    (sym (table_stays (g.S.Space.state c.args.base.now) (g.S.Space.state c.old_ends.new.base) info c.requires.table
+    stays told))
     can.free_nodes.linked in
     let found = c.in-Ok-free_boundary.ensures.exact (stays.space.told told) free free_mid head_is can.few_free in (
       omega (arith, found.0, count_is),
@@ -84,11 +86,13 @@ returns-in-Err-free_boundary-clause-exact g c = λ told old free can head_is.
     let at = c.in-Ok.ends.0 in
     let tail = c.in-Ok.ends.1 in
     let are = ends.exact told old linked starts can.few_old in
-    let given = ended_by table info.count old free linked c.args.first tail starts are.1 ends.last_in_table.ordered ends.last in
+    let given = ended_by table info.count old free linked c.args.first tail starts are.1 ends.last_in_table.ordered
+    ends.last in
     let count_is = old_blocks table info.count old free linked tail are.1 ends.last_in_table.ordered ends.last in
     let stays = ends.reads.stays in
     let free_mid = subst (λ (t : ℕ → ℕ → Cell). AreNodes t info.count OpensFree free 0)
-    (sym (table_stays (g.S.Space.state c.args.base.now) (g.S.Space.state c.old_ends.new.base) info c.requires.table stays told))
+    (sym (table_stays (g.S.Space.state c.args.base.now) (g.S.Space.state c.old_ends.new.base) info c.requires.table
+    stays told))
     can.free_nodes.linked in
     enough_other c.args.n (tail.end + length (entries_of free)) (length (entries_of old) + length (entries_of free))
     (IsBoundary free tail.end c.args.n) (IsPlan old free c.args.n) c.in-Err-free_boundary.fault

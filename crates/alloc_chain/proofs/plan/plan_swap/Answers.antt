@@ -1,9 +1,7 @@
-use Rattle.std.proofs.Common.{◌≡◌, ℕ, ◌+◌, List, [], ◌++◌, length, Option, Some, None, Ok, Err, refl, sym, ◌∙◌, ap, subst, arith}
+use Rattle.std.proofs.Common.{ℕ, ◌+◌, length, Option, Some, Err, refl, sym, ◌∙◌, subst}
 use Rattle.std.specs.Bool.{⊤}
-use Rattle.std.specs.Result.{result_err}
 use Rattle.save_bytes.specs.Cells.{Cell}
 use Rattle.save_bytes.proofs.CallLemmas.{reads_then}
-use Rattle.chain_nodes.specs.declared.node.Node.{Node}
 use Rattle.chain_nodes.specs.Table.{table_in, index_of, word_v}
 use Rattle.chain_nodes.specs.Chains.{entries_of, IsLinkedBy}
 use Rattle.chain_nodes.specs.declared.node.Lead.TheVariants.{OpensFree}
@@ -21,8 +19,14 @@ returns-in-Err-clause-exact g c = λ told old free can.
     let table = table_in s.cells info in
     let few = c.requires.table.few in
     let list = entries_of free in
-    let linked : IsLinkedBy table info.count OpensFree (index_of (word_v table 0)) list = record { nodes = free; linked = can.free_nodes.linked; starts = can.free_nodes.starts; entries = refl } in
-    enough_done c.args.n (length (entries_of old) + length list) (λ (first : ℕ). ⊤) (IsPlan old free c.args.n) c.in-Err.fault
+    let linked : IsLinkedBy table info.count OpensFree (index_of (word_v table 0)) list = record {
+      nodes = free;
+      linked = can.free_nodes.linked;
+      starts = can.free_nodes.starts;
+      entries = refl;
+    } in
+    enough_done c.args.n (length (entries_of old) + length list) (λ (first : ℕ). ⊤) (IsPlan old free c.args.n)
+    c.in-Err.fault
     (done_unless_disk s info told (λ (first : ℕ). ⊤) (Err c.in-Err.fault)
     (no_free_break table info.count list few linked can.free_nodes.once)
     (no_free_need table info.count list few can.free_nodes.read linked)
@@ -50,11 +54,14 @@ returns-in-None-clause-exact g c = λ told old free can.
     let free_mid = subst (λ (t : ℕ → ℕ → Cell). AreFreeNodes t info.count free)
     (sym (table_stays s m info c.requires.table stays told)) can.free_nodes in
     fresh_enough c.args.n old free c.plan_fresh.result can_here.old_nodes
-    (c.plan_fresh.ensures.exact (stays.space.told told) free free_mid (can.free_nodes.starts ∙ sym (c.in-Ok.ensures.first told).1)
+    (c.plan_fresh.ensures.exact (stays.space.told told) free free_mid (can.free_nodes.starts ∙ sym
+    (c.in-Ok.ensures.first told).1)
     can.few_free)
 
 pub returns-in-Some-clause-reads : goal.returns-in-Some-clause-reads
-returns-in-Some-clause-reads g c = reads_then g.met.S.Space.keeps_join c.in-Ok.ensures.reads c.plan_given.ensures.reads
+returns-in-Some-clause-reads g c = reads_then g.met.S.Space.keeps_join c.in-Ok.ensures.reads
+    c.plan_given.ensures.reads
 
 pub returns-in-None-clause-reads : goal.returns-in-None-clause-reads
-returns-in-None-clause-reads g c = reads_then g.met.S.Space.keeps_join c.in-Ok.ensures.reads c.plan_fresh.ensures.reads
+returns-in-None-clause-reads g c = reads_then g.met.S.Space.keeps_join c.in-Ok.ensures.reads
+    c.plan_fresh.ensures.reads

@@ -1,8 +1,6 @@
-use Rattle.std.proofs.Common.{◌≡◌, ℕ, ◌*◌, ◌≤◌, IsTrue, List, Ok, Err, None, Some, sym, subst, arith}
-use Rattle.std.specs.Result.{result_err}
+use Rattle.std.proofs.Common.{ℕ, sym, subst, arith}
 use Rattle.save_bytes.specs.Cells.{Cell}
 use Rattle.save_bytes.proofs.CallLemmas.{reads_then}
-use Rattle.chain_nodes.specs.declared.node.Node.{Node}
 use Rattle.chain_nodes.specs.declared.node.Lead.TheVariants.{Follows}
 use Rattle.chain_nodes.specs.Table.{table_in}
 use Rattle.chain_nodes.specs.Chains.{AreNodes}

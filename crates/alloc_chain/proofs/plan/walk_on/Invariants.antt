@@ -1,4 +1,4 @@
-use Rattle.std.proofs.Common.{◌≡◌, ℕ, ◌+◌, ◌-◌, ◌*◌, ◌≤◌, IsTrue, List, length, None}
+use Rattle.std.proofs.Common.{◌≡◌, ℕ, ◌+◌, ◌-◌, ◌*◌, ◌≤◌, IsTrue, List, None}
 use Rattle.save_bytes.specs.Reads.{Reads}
 use Rattle.chain_nodes.specs.declared.node.Node.{Node}
 use Rattle.alloc_chain.specs.Plans.{IsInTable, IsNodeAt}

@@ -1,6 +1,6 @@
-use Rattle.std.proofs.Common.{◌≡◌, ℕ, List, ◌++◌, Some, sym, subst}
+use Rattle.std.proofs.Common.{ℕ, List, ◌++◌, Some, subst}
 use Rattle.std.specs.Result.{result_err}
-use Rattle.alloc_chain.specs.Alters.{Alters, IsOf}
+use Rattle.alloc_chain.specs.Alters.{Alters, IsOfEntries}
 use Rattle.alloc_chain.specs.Swaps.{first_of, given_entries, taken_entries}
 use Rattle.alloc_chain.proofs.AlterLemmas.{alters_of, alters_then, among_left, among_right}
 use Rattle.alloc_chain.proofs.swap.change.Goals as goal
@@ -17,10 +17,12 @@ returns-in-Ok-clause-alters g c =
     let given : List ℕ = given_entries plan.given plan.head in
     let first = first_of plan.given plan.head in
     let taken : List ℕ = taken_entries first plan.boundary in
-    let takes = subst (λ (f : ℕ). Alters space.state space.keeps space.lands (IsOf c.args.info (taken_entries f plan.boundary))
+    let takes = subst (λ (f : ℕ). Alters space.state space.keeps space.lands (IsOfEntries c.args.info (taken_entries f
+    plan.boundary))
     c.give.new.base c.take.new.base (result_err c.take.result)) c.in-Ok.ensures.first c.take.ensures.alters in
     alters_then space.state space.keeps space.lands g.met.S.Space.keeps_join c.args.info given taken (given ++ taken)
-    c.args.base.now c.give.new.base c.take.new.base (result_err c.take.result) (among_left given taken) (among_right given taken)
+    c.args.base.now c.give.new.base c.take.new.base (result_err c.take.result) (among_left given taken) (among_right
+    given taken)
     c.in-Ok.ensures.alters takes
 
 pub returns-in-Err-clause-alters : goal.returns-in-Err-clause-alters

@@ -1,20 +1,16 @@
-use Rattle.std.proofs.Common.{◌≡◌, ℕ, List, ◌++◌, Ok, Err, Some, sym, subst}
-use Rattle.std.specs.Result.{result_err}
-use Rattle.save_bytes.specs.Cells.{Cell}
 use Rattle.save_bytes.proofs.CallLemmas.{reads_then}
-use Rattle.chain_nodes.specs.declared.node.Node.{Node}
 use Rattle.chain_nodes.specs.Table.{table_in}
 use Rattle.chain_nodes.specs.Chains.{entries_of}
 use Rattle.chain_nodes.proofs.TableLemmas.{table_stays}
-use Rattle.alloc_chain.specs.Alters.{AreUnspoilt, IsOf}
-use Rattle.alloc_chain.specs.Plans.{IsPlan, EnoughUnlessDisk}
+use Rattle.alloc_chain.specs.Plans.{IsPlan}
 use Rattle.alloc_chain.specs.Swaps.{plan_entries}
 use Rattle.alloc_chain.proofs.SwapLemmas.{unspoilt_before, refused_plan, spoilt_plan}
 use Rattle.alloc_chain.proofs.swap.plan_ready.Goals as goal
 
 pub returns-in-Err-clause-exact : goal.returns-in-Err-clause-exact
 returns-in-Err-clause-exact g c = λ told old free can. (
-  refused_plan (table_in (g.S.Space.state c.args.base.now).cells c.args.info) c.args.n (entries_of old) (entries_of free)
+  refused_plan (table_in (g.S.Space.state c.args.base.now).cells c.args.info) c.args.n (entries_of old) (entries_of
+      free)
       (IsPlan old free c.args.n) c.in-Err.fault (c.in-Err.ensures.exact told old free can),
   tt,
 )
@@ -39,8 +35,10 @@ returns-in-Err-ready_plan-clause-exact g c = λ told old free can.
     let info = c.args.info in
     let stays = c.in-Ok.ensures.reads.stays in (
       spoilt_plan (table_in s.cells info) info.count c.args.given c.args.n old free can c.in-Ok.plan
-          (c.in-Ok.ensures.exact told old free can).1 c.in-Ok.ensures.in_table c.in-Err-ready_plan.bad (table_in m.cells info)
-          (table_stays s m info c.requires.table stays told) (c.in-Err-ready_plan.ensures.damaged (stays.space.told told)),
+          (c.in-Ok.ensures.exact told old free can).1 c.in-Ok.ensures.in_table c.in-Err-ready_plan.bad (table_in
+          m.cells info)
+          (table_stays s m info c.requires.table stays told) (c.in-Err-ready_plan.ensures.damaged (stays.space.told
+          told)),
       tt,
     )
 

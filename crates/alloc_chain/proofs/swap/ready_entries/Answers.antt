@@ -1,14 +1,11 @@
-use Rattle.std.proofs.Common.{◌≡◌, ◌<◌, ◌≤◌, ℕ, [], ◌∷◌, get_or, Some, refl, sym, ◌∙◌, subst, arith, ⊎_elim}
+use Rattle.std.proofs.Common.{◌≡◌, ◌<◌, ◌≤◌, ℕ, [], ◌∷◌, get_or, Some, subst, arith, ⊎_elim}
 use Rattle.std.proofs.lemmas.Bool.{cases_lt}
 use Rattle.std.proofs.lemmas.Grind.{get_or_default_zero}
-use Rattle.std.specs.List.{Contains}
 use Rattle.save_bytes.specs.Cells.{Cell}
-use Rattle.save_bytes.specs.Writes.{IsWithin}
 use Rattle.save_bytes.proofs.CallLemmas.{reads_then}
 use Rattle.save_bytes.proofs.SpaceLemmas.{IfDamaged-map}
-use Rattle.chain_nodes.specs.Table.{table_in}
 use Rattle.chain_nodes.proofs.TableLemmas.{table_stays}
-use Rattle.alloc_chain.specs.Alters.{AreUnspoilt, IsOf}
+use Rattle.alloc_chain.specs.Alters.{AreUnspoilt, IsOfEntries}
 use Rattle.alloc_chain.specs.Swaps.{HasSpoilt}
 use Rattle.alloc_chain.proofs.SwapLemmas.{unspoilt_before, unspoilt_all}
 use Rattle.alloc_chain.proofs.swap.ready_entries.Goals as goal
@@ -25,7 +22,8 @@ returns-in-Err-clause-damaged g c = λ told.
     (λ part level block fault. (
       entry,
       (index, c.loop-entry-test.true, get_or_default_zero c.args.entries.now index entry c.loop-entry-test.true),
-      subst (λ (t : ℕ → ℕ → Cell). HasSpoilt t entry part level block) (table_stays s m info c.requires.table stays told) fault,
+      subst (λ (t : ℕ → ℕ → Cell). HasSpoilt t entry part level block) (table_stays s m info c.requires.table stays
+          told) fault,
     ))
     (c.in-Err.ensures.damaged (stays.space.told told))
 
@@ -48,7 +46,7 @@ loop-entry-preserved g c =
           (λ (before : k < index). invariant.ready told k before)
           (λ (here : index ≤ k).
           let is : index ≡ k = omega (arith, here, less) in
-          subst (λ (i : ℕ). AreUnspoilt s (IsOf info (get_or list i 0 ∷ []))) is
+          subst (λ (i : ℕ). AreUnspoilt s (IsOfEntries info (get_or list i 0 ∷ []))) is
           (unspoilt_before s m info (get_or list index 0 ∷ []) stays told
           (c.in-Ok.ensures.ready (stays.space.told told))))
           (cases_lt k index);

@@ -1,4 +1,4 @@
-use Rattle.std.proofs.Common.{◌≡◌, ℕ, length, ap, arith}
+use Rattle.std.proofs.Common.{length, ap, arith}
 use Rattle.chain_nodes.specs.Table.{table_in}
 use Rattle.chain_nodes.specs.Chains.{entries_of}
 use Rattle.alloc_chain.proofs.AnswerLemmas.{has_nodes, refusal_lists}
@@ -19,5 +19,6 @@ pub returns-in-Err-clause-answer : goal.returns-in-Err-clause-answer
 returns-in-Err-clause-answer g c = λ told mine free can.
     let table = table_in (g.S.Space.state c.args.base.now).cells c.args.info in
     let nodes = has_nodes table c.args.info.count mine free can.listed can.share_none c.args.given can.chain in
-    refusal_lists table c.args.n (entries_of nodes.old_nodes) (entries_of nodes.free_nodes) mine free c.in-Err.fault nodes.old_is
+    refusal_lists table c.args.n (entries_of nodes.old_nodes) (entries_of nodes.free_nodes) mine free c.in-Err.fault
+    nodes.old_is
     nodes.free_is (c.in-Err.ensures.exact told nodes.old_nodes nodes.free_nodes nodes.can).0

@@ -1,4 +1,4 @@
-use Rattle.std.proofs.Common.{◌≡◌, ℕ, List, ◌++◌, sym, subst}
+use Rattle.std.proofs.Common.{ℕ, List, ◌++◌, subst}
 use Rattle.std.proofs.Common.{Some}
 use Rattle.std.specs.Result.{result_err}
 use Rattle.std.proofs.lemmas.List.Elements.{Contains-append_left, Contains-append_right}
@@ -6,9 +6,8 @@ use Rattle.std.specs.List.{Contains}
 use Rattle.save_bytes.specs.Cells.{Cell}
 use Rattle.save_bytes.proofs.CallLemmas.{reads_then}
 use Rattle.save_bytes.proofs.SpaceLemmas.{IfDone-map, IfDamaged-map}
-use Rattle.chain_nodes.specs.Table.{table_in}
 use Rattle.chain_nodes.proofs.TableLemmas.{table_stays}
-use Rattle.alloc_chain.specs.Alters.{AreUnspoilt, IsOf}
+use Rattle.alloc_chain.specs.Alters.{AreUnspoilt, IsOfEntries}
 use Rattle.alloc_chain.specs.Swaps.{first_of, given_entries, taken_entries}
 use Rattle.alloc_chain.specs.Swaps.{HasSpoilt}
 use Rattle.alloc_chain.proofs.SwapLemmas.{unspoilt_before, unspoilt_both}
@@ -33,8 +32,8 @@ returns-clause-ready g c = λ told.
     let given : List ℕ = given_entries plan.given plan.head in
     let taken : List ℕ = taken_entries c.first_free.result plan.boundary in
     IfDone-map (result_err c.ready_taken.result)
-    (λ (un : AreUnspoilt m (IsOf info taken)).
-    subst (λ (first : ℕ). AreUnspoilt s (IsOf info (given ++ taken_entries first plan.boundary))) c.first_free.ensures
+    (λ (un : AreUnspoilt m (IsOfEntries info taken)).
+    subst (λ (first : ℕ). AreUnspoilt s (IsOfEntries info (given ++ taken_entries first plan.boundary))) c.first_free.ensures
     (unspoilt_both s info given taken (c.in-Ok.ensures.ready told) (unspoilt_before s m info taken stays told un)))
     (c.ready_taken.ensures.ready (stays.space.told told))
 
@@ -51,7 +50,8 @@ returns-clause-damaged g c = λ told.
       fault.0,
       subst (λ (first : ℕ). Contains (given ++ taken_entries first plan.boundary) fault.0) c.first_free.ensures
           (Contains-append_right given (taken_entries c.first_free.result plan.boundary) fault.0 fault.1),
-      subst (λ (t : ℕ → ℕ → Cell). HasSpoilt t fault.0 part level block) (table_stays s m info c.requires.table stays told) fault.2,
+      subst (λ (t : ℕ → ℕ → Cell). HasSpoilt t fault.0 part level block) (table_stays s m info c.requires.table stays
+          told) fault.2,
     ))
     (c.ready_taken.ensures.damaged (stays.space.told told))
 

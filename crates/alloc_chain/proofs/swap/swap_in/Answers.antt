@@ -1,12 +1,10 @@
-use Rattle.std.proofs.Common.{◌≡◌, ℕ, ◌+◌, ◌≤◌, List, ◌++◌, length, None, Some, Err, refl, sym, ◌∙◌, ap, subst, arith}
-use Rattle.std.specs.Result.{result_err}
+use Rattle.std.proofs.Common.{ℕ, length, None, Some, sym, ap, subst, arith}
 use Rattle.save_bytes.specs.Cells.{Cell}
-use Rattle.save_bytes.proofs.CallLemmas.{IfOk-map}
 use Rattle.chain_nodes.specs.Table.{table_in}
 use Rattle.chain_nodes.specs.Chains.{entries_of}
 use Rattle.chain_nodes.specs.Faults.{refusal_of}
 use Rattle.chain_nodes.proofs.TableLemmas.{table_stays}
-use Rattle.alloc_chain.specs.Alters.{Alters, IsOf}
+use Rattle.alloc_chain.specs.Alters.{IsOfEntries}
 use Rattle.alloc_chain.specs.Plans.{AreApartLists}
 use Rattle.alloc_chain.specs.Swaps.{IsSwapSite, plan_entries}
 use Rattle.alloc_chain.proofs.AlterLemmas.{Alters-read, Alters-wider, Alters-join}
@@ -19,7 +17,8 @@ returns-in-Err-clause-answer g c = λ told mine free can.
     let info = c.args.info in
     let table = table_in s.cells info in
     let nodes = has_nodes table info.count mine free can.listed can.share_none c.args.given can.chain in
-    refusal_lists table c.args.n (entries_of nodes.old_nodes) (entries_of nodes.free_nodes) mine free c.in-Err.fault nodes.old_is
+    refusal_lists table c.args.n (entries_of nodes.old_nodes) (entries_of nodes.free_nodes) mine free c.in-Err.fault
+    nodes.old_is
     nodes.free_is (c.in-Err.ensures.exact told nodes.old_nodes nodes.free_nodes nodes.can).0
 
 pub returns-in-Err-clause-alters : goal.returns-in-Err-clause-alters
@@ -30,9 +29,11 @@ returns-in-Err-clause-alters g c = λ told mine free can.
     let nodes = has_nodes table info.count mine free can.listed can.share_none c.args.given can.chain in
     let space = g.S.Space in
     let refused = refusal_lists table c.args.n (entries_of nodes.old_nodes) (entries_of nodes.free_nodes) mine free
-    c.in-Err.fault nodes.old_is nodes.free_is (c.in-Err.ensures.exact told nodes.old_nodes nodes.free_nodes nodes.can).0 in
+    c.in-Err.fault nodes.old_is nodes.free_is (c.in-Err.ensures.exact told nodes.old_nodes nodes.free_nodes
+    nodes.can).0 in
     Alters-read space.state space.keeps space.lands (IsSwapSite info mine free) c.args.base.now c.plan_ready.new.base
-    (refusal_of (Some c.in-Err.fault)) (g.met.S.Space.keeps_hold c.args.base.now c.plan_ready.new.base) c.in-Err.ensures.plain
+    (refusal_of (Some c.in-Err.fault)) (g.met.S.Space.keeps_hold c.args.base.now c.plan_ready.new.base)
+    c.in-Err.ensures.plain
     (λ told un. refused_ready s info c.args.given c.args.n mine free c.requires.table nodes c.in-Err.fault refused un)
     c.in-Err.ensures.reads
 
@@ -43,12 +44,14 @@ returns-in-Ok-change-clause-alters g c = λ told mine free can.
     let table = table_in s.cells info in
     let nodes = has_nodes table info.count mine free can.listed can.share_none c.args.given can.chain in
     let space = g.S.Space in
-    let few = IsOf info (plan_entries c.in-Ok.plan) in
+    let few = IsOfEntries info (plan_entries c.in-Ok.plan) in
     let many = IsSwapSite info mine free in
     let planned = c.in-Ok.ensures.exact told nodes.old_nodes nodes.free_nodes nodes.can in
     let reads = Alters-read space.state space.keeps space.lands many c.args.base.now c.plan_ready.new.base None
-    (g.met.S.Space.keeps_hold c.args.base.now c.plan_ready.new.base) (λ plain. tt) (λ told un. tt) c.in-Ok.ensures.reads in
-    Alters-join space.state space.keeps space.lands g.met.S.Space.keeps_join many c.args.base.now c.plan_ready.new.base
+    (g.met.S.Space.keeps_hold c.args.base.now c.plan_ready.new.base) (λ plain. tt) (λ told un. tt)
+    c.in-Ok.ensures.reads in
+    Alters-join space.state space.keeps space.lands g.met.S.Space.keeps_join many c.args.base.now
+    c.plan_ready.new.base
     c.change.new.base None reads
     (Alters-wider space.state space.keeps space.lands few many c.plan_ready.new.base c.change.new.base None
     (plan_sites table info c.args.given c.args.n mine free nodes c.in-Ok.plan planned.1 c.in-Ok.ensures.in_table)
@@ -61,14 +64,17 @@ returns-in-Err-change-clause-alters g c = λ told mine free can.
     let table = table_in s.cells info in
     let nodes = has_nodes table info.count mine free can.listed can.share_none c.args.given can.chain in
     let space = g.S.Space in
-    let few = IsOf info (plan_entries c.in-Ok.plan) in
+    let few = IsOfEntries info (plan_entries c.in-Ok.plan) in
     let many = IsSwapSite info mine free in
     let planned = c.in-Ok.ensures.exact told nodes.old_nodes nodes.free_nodes nodes.can in
     let reads = Alters-read space.state space.keeps space.lands many c.args.base.now c.plan_ready.new.base None
-    (g.met.S.Space.keeps_hold c.args.base.now c.plan_ready.new.base) (λ plain. tt) (λ told un. tt) c.in-Ok.ensures.reads in
-    Alters-join space.state space.keeps space.lands g.met.S.Space.keeps_join many c.args.base.now c.plan_ready.new.base
+    (g.met.S.Space.keeps_hold c.args.base.now c.plan_ready.new.base) (λ plain. tt) (λ told un. tt)
+    c.in-Ok.ensures.reads in
+    Alters-join space.state space.keeps space.lands g.met.S.Space.keeps_join many c.args.base.now
+    c.plan_ready.new.base
     c.change.new.base (Some c.in-Err-change.bad) reads
-    (Alters-wider space.state space.keeps space.lands few many c.plan_ready.new.base c.change.new.base (Some c.in-Err-change.bad)
+    (Alters-wider space.state space.keeps space.lands few many c.plan_ready.new.base c.change.new.base (Some
+    c.in-Err-change.bad)
     (plan_sites table info c.args.given c.args.n mine free nodes c.in-Ok.plan planned.1 c.in-Ok.ensures.in_table)
     c.in-Err-change.ensures.alters)
 
@@ -85,6 +91,8 @@ returns-in-Ok-change-clause-answer g c = λ told mine free can.
     let apart = subst (λ (t : ℕ → ℕ → Cell). AreApartLists t info.count nodes.old_nodes nodes.free_nodes)
     (sym (table_stays s m info c.requires.table stays told)) nodes.apart in (
       omega (arith, planned.0, ap length nodes.old_is, ap length nodes.free_is),
-      swapped_lists new info.count c.args.n nodes.old_nodes nodes.free_nodes mine free c.in-Ok-change.taken nodes.old_is nodes.free_is
-          (c.in-Ok-change.ensures.swapped (stays.space.told told) nodes.old_nodes nodes.free_nodes c.args.n apart planned.1),
+      swapped_lists new info.count c.args.n nodes.old_nodes nodes.free_nodes mine free c.in-Ok-change.taken
+          nodes.old_is nodes.free_is
+          (c.in-Ok-change.ensures.swapped (stays.space.told told) nodes.old_nodes nodes.free_nodes c.args.n apart
+          planned.1),
     )

@@ -1,5 +1,4 @@
-use Rattle.std.proofs.Common.{◌≡◌, ℕ, List, Option, Some, IfSome, subst}
-use Rattle.chain_nodes.specs.declared.node.Node.{Node}
+use Rattle.std.proofs.Common.{Option, IfSome, subst}
 use Rattle.chain_nodes.specs.Table.{table_in}
 use Rattle.alloc_chain.specs.declared.plan.Boundary.{Boundary}
 use Rattle.alloc_chain.specs.Plans.{AreCutBy, IsBoundaryIn}
@@ -13,7 +12,9 @@ returns-in-Ok-clause-taken g c = λ told nodes n free starts cut.
     let old = table_in (g.S.Space.state c.args.base.now).cells info in
     let new = table_in (g.S.Space.state c.take_front.new.base).cells info in
     let here = subst (λ (o : Option Boundary). AreCutBy nodes n o) c.in-Some.is cut in
-    let inside = subst (λ (o : Option Boundary). IfSome o (IsBoundaryIn info.count)) c.in-Some.is c.requires.boundary in
+    let inside = subst (λ (o : Option Boundary). IfSome o (IsBoundaryIn info.count)) c.in-Some.is c.requires.boundary
+    in
     swapped_by nodes n boundary here.1 new info.count c.args.first free.once starts inside.from
-    (c.in-Ok.ensures.taken told here.1.before here.1.after (cut_free nodes n boundary here.1 old info.count free) here.1.next
+    (c.in-Ok.ensures.taken told here.1.before here.1.after (cut_free nodes n boundary here.1 old info.count free)
+    here.1.next
     (cut_starts nodes n boundary here.1 c.args.first starts))

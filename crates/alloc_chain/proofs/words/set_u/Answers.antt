@@ -1,8 +1,8 @@
-use Rattle.std.proofs.Common.{◌≡◌, ℕ, ◌+◌, ◌*◌, [], ◌∷◌, refl, arith}
+use Rattle.std.proofs.Common.{ℕ, ◌+◌, ◌*◌, [], ◌∷◌, arith}
 use Rattle.std.specs.Result.{result_err}
 use Rattle.save_bytes.specs.Writes.{IsWithin}
 use Rattle.save_bytes.proofs.SpaceLemmas.{IfDone-map}
-use Rattle.alloc_chain.specs.Alters.{IsOf, IsWordPut}
+use Rattle.alloc_chain.specs.Alters.{IsOfEntries, IsWordPut}
 use Rattle.alloc_chain.proofs.AlterLemmas.{Alters-wider}
 use Rattle.alloc_chain.proofs.WordLemmas.{of_word, u_put}
 use Rattle.alloc_chain.proofs.words.set_u.Goals as goal
@@ -21,7 +21,8 @@ pub returns-clause-alters : goal.returns-clause-alters
 returns-clause-alters g c =
     let space = g.S.Space in
     let at : ℕ = c.args.info.table_at + 8 * c.from.result in
-    Alters-wider space.state space.keeps space.lands (IsWithin at 4) (IsOf c.args.info (c.args.entry ∷ [])) c.args.base.now
+    Alters-wider space.state space.keeps space.lands (IsWithin at 4) (IsOfEntries c.args.info (c.args.entry ∷ []))
+    c.args.base.now
     c.put_word.new.base (result_err c.put_word.result)
     (of_word c.args.info c.args.entry at (omega (arith, c.from.ensures)) (omega (arith, c.from.ensures)))
     c.put_word.ensures.alters

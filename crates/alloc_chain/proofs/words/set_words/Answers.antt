@@ -1,8 +1,8 @@
-use Rattle.std.proofs.Common.{◌≡◌, ℕ, ◌+◌, ◌*◌, [], ◌∷◌, Some, refl, arith}
+use Rattle.std.proofs.Common.{ℕ, ◌+◌, ◌*◌, [], ◌∷◌, Some, arith}
 use Rattle.std.specs.Result.{result_err}
 use Rattle.save_bytes.specs.Writes.{IsWithin}
 use Rattle.save_bytes.proofs.SpaceLemmas.{IfDone-map}
-use Rattle.alloc_chain.specs.Alters.{IsOf, IsWordPut}
+use Rattle.alloc_chain.specs.Alters.{IsOfEntries, IsWordPut}
 use Rattle.alloc_chain.proofs.AlterLemmas.{Alters-wider, alters_both}
 use Rattle.alloc_chain.proofs.WordLemmas.{of_word, words_put}
 use Rattle.alloc_chain.proofs.words.set_words.Goals as goal
@@ -14,8 +14,10 @@ returns-in-Ok-clause-set g c = λ told.
     let new = g.S.Space.state c.put_word-in-Ok.new.base in
     let at : ℕ = c.args.info.table_at + 8 * c.from.result in
     IfDone-map (result_err c.put_word-in-Ok.result)
-    (λ (put : IsWordPut mid new (at + 4) c.args.v). words_put old mid new c.args.info c.args.entry at c.args.u c.args.v
-    c.requires.table c.in-Ok.ensures.alters.space.shape c.requires.inside (omega (arith, c.from.ensures)) (c.in-Ok.ensures.put told) put)
+    (λ (put : IsWordPut mid new (at + 4) c.args.v). words_put old mid new c.args.info c.args.entry at c.args.u
+    c.args.v
+    c.requires.table c.in-Ok.ensures.alters.space.shape c.requires.inside (omega (arith, c.from.ensures))
+    (c.in-Ok.ensures.put told) put)
     (c.put_word-in-Ok.ensures.put (c.in-Ok.ensures.alters.space.told told))
 
 pub returns-in-Ok-clause-alters : goal.returns-in-Ok-clause-alters
@@ -23,7 +25,7 @@ returns-in-Ok-clause-alters g c =
     let space = g.S.Space in
     let at : ℕ = c.args.info.table_at + 8 * c.from.result in
     alters_both space.state space.keeps space.lands g.met.S.Space.keeps_join (IsWithin at 4) (IsWithin (at + 4) 4)
-    (IsOf c.args.info (c.args.entry ∷ [])) c.args.base.now c.put_word.new.base c.put_word-in-Ok.new.base
+    (IsOfEntries c.args.info (c.args.entry ∷ [])) c.args.base.now c.put_word.new.base c.put_word-in-Ok.new.base
     (result_err c.put_word-in-Ok.result)
     (of_word c.args.info c.args.entry at (omega (arith, c.from.ensures)) (omega (arith, c.from.ensures)))
     (of_word c.args.info c.args.entry (at + 4) (omega (arith, c.from.ensures)) (omega (arith, c.from.ensures)))
@@ -33,7 +35,8 @@ pub returns-in-Err-clause-alters : goal.returns-in-Err-clause-alters
 returns-in-Err-clause-alters g c =
     let space = g.S.Space in
     let at : ℕ = c.args.info.table_at + 8 * c.from.result in
-    Alters-wider space.state space.keeps space.lands (IsWithin at 4) (IsOf c.args.info (c.args.entry ∷ [])) c.args.base.now
+    Alters-wider space.state space.keeps space.lands (IsWithin at 4) (IsOfEntries c.args.info (c.args.entry ∷ []))
+    c.args.base.now
     c.put_word.new.base (Some c.in-Err.bad)
     (of_word c.args.info c.args.entry at (omega (arith, c.from.ensures)) (omega (arith, c.from.ensures)))
     c.in-Err.ensures.alters

@@ -1,4 +1,3 @@
-use Rattle.std.proofs.Common.{ℕ, List, ◌++◌}
 use Rattle.std.specs.Result.{result_err}
 use Rattle.save_bytes.specs.Within.{ChangesWithin}
 use Rattle.save_bytes.proofs.SpaceLemmas.{UnlessDisk-map}
@@ -14,6 +13,7 @@ returns-clause-others g c = λ told mine free can first list chain apart.
     let info = c.args.self.now.info in
     UnlessDisk-map (refusal_of (result_err c.swap_in.result))
     (λ (changes : ChangesWithin s (IsSwapSite info mine free) t.cells).
-    others_kept s t info mine free c.requires.table (g.met.S.Space.no_twins c.args.self.now.base.now c.requires.single) changes
+    others_kept s t info mine free c.requires.table (g.met.S.Space.no_twins c.args.self.now.base.now
+    c.requires.single) changes
     first list apart chain)
     ((c.swap_in.ensures.alters told mine free can).changes told)
