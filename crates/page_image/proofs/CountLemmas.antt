@@ -1,8 +1,8 @@
--- The writes of a sector behind those of the sectors before it.
-use Rattle.std.proofs.Common.{◌≡◌, ◌≢◌, ℕ, ◌+◌, ◌*◌, ◌<◌, ◌≤◌, Bool, true, false, ◌&&◌, eqb, ltb, leb, List, [], ◌++◌, refl, sym, ◌∙◌, ap, subst, arith, ⊎_elim}
+-- The writes of some sectors behind those of others.
+use Rattle.std.proofs.Common.{◌≡◌, ℕ, ◌+◌, ◌*◌, ◌≤◌, Bool, true, false, not, ◌&&◌, List, [], ◌++◌, refl, sym, ◌∙◌, ap, subst, arith, ⊎_elim}
 use Rattle.std.proofs.lemmas.List.{append-nil}
-use Rattle.std.proofs.lemmas.Bool.{false_from_ne_true, cases_lt, cases_eq, cases_Bool, lt-ltb, le-ltb, le-leb, eq-eqb, eqb-true, and_right}
-use Rattle.save_bytes.specs.Spots.{Spot, Place, Frame}
+use Rattle.std.proofs.lemmas.Bool.{cases_Bool}
+use Rattle.save_bytes.specs.Spots.{Place, Frame}
 use Rattle.save_disk.specs.Trace.{Event}
 use Rattle.save_disk.specs.State as disks
 use Rattle.save_disk.specs.State.{GoesOn}
@@ -10,110 +10,117 @@ use Rattle.save_disk.specs.Writes.{OnlyWrites, GrewBy, one_if, writes_to}
 use Rattle.save_disk.proofs.Growth.{OnlyWrites-append, OnlyWrites-map, writes_to-append, GoesOn-then, grew_quiet}
 use Rattle.page_image.specs.declared.state.ImageState.{ImageState}
 use Rattle.page_image.specs.Images.{byte_of, is_changed}
-use Rattle.page_image.specs.Spots.{Leaves}
-use Rattle.page_image.specs.WriteOuts.{IsOwnWrite, WritesEach, WritesSome}
+use Rattle.page_image.specs.Laws.{Leaves-same, Leaves-join}
+use Rattle.page_image.specs.WriteOuts.{IsOwnWrite, WritesEach, WritesSome, GoesOut, IsWrittenOut, IsWrittenInPart, IsClean}
 
-apart-eqb : (a b : ℕ) → a ≢ b → eqb a b ≡ false
-apart-eqb a b apart = false_from_ne_true (eqb a b) (λ is. apart (eqb-true a b is))
+-- a sector is changed at first, and then, and then: each time only if it was before
+counts_each : (first then_ last : Bool) → (then_ ≡ true → first ≡ true) → (last ≡ true → then_ ≡ true)
+    → one_if (not then_ && first) + one_if (not last && then_) ≡ one_if (not last && first)
+counts_each true true true a b = refl
+counts_each true true false a b = refl
+counts_each true false true a b = absurd (let no = b refl in cc)
+counts_each true false false a b = refl
+counts_each false true last a b = absurd (let no = a refl in cc)
+counts_each false false true a b = absurd (let no = b refl in cc)
+counts_each false false false a b = refl
 
--- from the one number up to the other
-abbrev pub is_from_to : ℕ → ℕ → ℕ → Bool
-is_from_to first end m = leb first m && ltb m end
+counts_some : (first then_ : Bool) (n : ℕ) → (then_ ≡ true → first ≡ true) → n ≤ one_if (true && then_)
+    → one_if (not then_ && first) + n ≤ one_if (true && first)
+counts_some true true n a few = omega arith
+counts_some true false n a few = omega arith
+counts_some false true n a few = absurd (let no = a refl in cc)
+counts_some false false n a few = omega arith
 
--- those up to a number and the number itself
-one_more : (first s m : ℕ) (c : Bool) → first ≤ s
-    → one_if (is_from_to first s m && c) + one_if (eqb s m && c) ≡ one_if (is_from_to first (s + 1) m && c)
-one_more first s m c upto =
-    ⊎_elim
-    (λ (below : m < s). rw (lt-ltb m s below, lt-ltb m (s + 1) (omega arith), apart-eqb s m (omega arith)) (omega arith))
-    (λ (from : s ≤ m).
-    ⊎_elim
-    (λ (same : s ≡ m). rw (le-ltb m s from, lt-ltb m (s + 1) (omega arith), eq-eqb s m same, le-leb first m (omega arith)) (omega arith))
-    (λ (apart : s ≢ m). rw (le-ltb m s from, le-ltb m (s + 1) (omega arith), apart-eqb s m apart) (omega arith))
-    (cases_eq s m))
-    (cases_lt m s)
+-- where it is changed as before, it was not written
+counts_none : (first : Bool) → 0 ≡ one_if (not first && first)
+counts_none true = refl
+counts_none false = refl
 
--- a longer range has more
-fewer : (first s end m : ℕ) (c : Bool) → s ≤ end → one_if (is_from_to first s m && c) ≤ one_if (is_from_to first end m && c)
-fewer first s end m c upto =
-    ⊎_elim
-    (λ (below : m < s). rw (lt-ltb m s below, lt-ltb m end (omega arith)) (omega arith))
-    (λ (from : s ≤ m). rw (le-ltb m s from, and_right (leb first m) false refl) (omega arith))
-    (cases_lt m s)
+-- nothing is written
+pub GoesOut-same : (d : disks.State) (i : ImageState) → GoesOut d i d i
+GoesOut-same d i = record {
+  leaves = λ spot. Leaves-same spot d i;
+  frames = record { slots = refl; pages = refl };
+  fewer = λ sector changed. changed;
+}
 
-module _ (d e f : disks.State) (i j : ImageState) (first s : ℕ) (upto : first ≤ s) (leaves : (spot : Spot) → Leaves spot d i e j)
-    (clean : (m : ℕ) → first ≤ m → m < s → is_changed j m ≡ false)
-    (before : (m : ℕ) → m < first → is_changed j m ≡ is_changed i m) (behind : (m : ℕ) → s ≤ m → is_changed j m ≡ is_changed i m) where
-  -- a sector that is changed now was changed at first
-  at_first : (sector : ℕ) → is_changed j sector ≡ true → is_changed j sector ≡ is_changed i sector
-  at_first sector changed =
-      ⊎_elim (before sector)
-      (λ (from : first ≤ sector).
-      ⊎_elim (λ (below : sector < s). let none = clean sector from below in absurd (cc)) (behind sector) (cases_lt sector s))
-      (cases_lt sector first)
+pub out_none : (d : disks.State) (i : ImageState) → IsWrittenOut d i d i
+out_none d i = record {
+  went = GoesOut-same d i;
+  written = grew_quiet (WritesEach d i (λ sector. not (is_changed i sector))) d d refl
+      (record { own = tt; count = λ sector. counts_none (is_changed i sector) });
+  told = refl;
+}
 
-  -- where the sectors before this one were written, a write of a changed sector is one of those that were to be written
+-- a sector that is not changed stays so
+pub clean_still : (d e : disks.State) (i j : ImageState) → GoesOut d i e j → (sector : ℕ) → is_changed i sector ≡ false → is_changed j sector ≡ false
+clean_still d e i j went sector clean =
+    ⊎_elim (λ (changed : is_changed j sector ≡ true). absurd (let was = went.fewer sector changed in cc))
+    (λ (none : is_changed j sector ≡ false). none) (cases_Bool (is_changed j sector))
+
+module _ (d e f : disks.State) (i j k : ImageState) (first : IsWrittenOut d i e j) where
+  -- a write of a sector that is changed still is one of a sector that was changed at first
   own_before : (events : List Event) → OnlyWrites (IsOwnWrite e j) events → OnlyWrites (IsOwnWrite d i) events
   own_before events own =
-      let grain : j.grain ≡ i.grain = (leaves Frame).0.grain in
+      let same = (first.went.leaves Frame).0 in
       OnlyWrites-map (IsOwnWrite e j) (IsOwnWrite d i) events
       (λ sector written is. record {
-        changed = sym (at_first sector is.changed) ∙ is.changed;
+        changed = first.went.fewer sector is.changed;
         bytes = record {
-          long = is.bytes.long ∙ grain;
+          long = is.bytes.long ∙ same.grain;
           each = λ k below inside.
-              (let place : sector * j.grain + k ≡ sector * i.grain + k = ap (λ (g : ℕ). sector * g + k) grain in
-              let len : j.len ≡ i.len = (leaves Frame).0.len in
-              is.bytes.each k (omega arith) (omega arith) ∙ ((leaves (Place (sector * j.grain + k))).1 (omega arith)).0 ∙ ap (byte_of d i) place);
+              (let place : sector * j.grain + k ≡ sector * i.grain + k = ap (λ (g : ℕ). sector * g + k) same.grain in
+              let len : j.len ≡ i.len = same.len in
+              let grain : j.grain ≡ i.grain = same.grain in
+              is.bytes.each k (omega arith) (omega arith)
+              ∙ ((first.went.leaves (Place (sector * j.grain + k))).1 (omega arith)).0 ∙ ap (byte_of d i) place);
         };
       })
       own
 
-  -- the sector itself is as much changed as at first
-  chosen_same : (m : ℕ) → (eqb s m && is_changed j m) ≡ (eqb s m && is_changed i m)
-  chosen_same m =
-      ⊎_elim
-      (λ (here : s ≡ m). ap (λ (b : Bool). eqb s m && b) (behind m (omega arith)))
-      (λ (apart : s ≢ m). rw (apart-eqb s m apart) refl)
-      (cases_eq s m)
-
-  each_more : (xs ys : List Event) → WritesEach d i (is_from_to first s) xs → WritesEach e j (λ m. eqb s m) ys
-      → WritesEach d i (is_from_to first (s + 1)) (xs ++ ys)
-  each_more xs ys before_ step_ = record {
-    own = OnlyWrites-append (IsOwnWrite d i) xs ys before_.own (own_before ys step_.own);
-    count = λ m.
-        (let step : writes_to m ys ≡ one_if (eqb s m && is_changed i m) = step_.count m ∙ ap one_if (chosen_same m) in
-        writes_to-append m xs ys ∙ rw (before_.count m, step) (one_more first s m (is_changed i m) upto));
+  went_on : GoesOut e j f k → GoesOut d i f k
+  went_on next = record {
+    leaves = λ spot. Leaves-join d e f i j k spot (first.went.leaves spot) (next.leaves spot);
+    frames = record { slots = next.frames.slots ∙ first.went.frames.slots; pages = next.frames.pages ∙ first.went.frames.pages };
+    fewer = λ sector changed. first.went.fewer sector (next.fewer sector changed);
   }
 
-  -- each of the sectors up to this one was written
-  pub wrote_each : GoesOn (GrewBy (WritesEach d i (is_from_to first s))) d e → GoesOn (GrewBy (WritesEach e j (λ m. eqb s m))) e f
-      → GoesOn (GrewBy (WritesEach d i (is_from_to first (s + 1)))) d f
-  wrote_each = GoesOn-then (WritesEach d i (is_from_to first s)) (WritesEach e j (λ m. eqb s m)) (WritesEach d i (is_from_to first (s + 1))) each_more d e f
-
-  module _ (end : ℕ) (inside : s < end) where
-    some_more : (xs ys : List Event) → WritesEach d i (is_from_to first s) xs → WritesSome e j (λ m. eqb s m) ys
-        → WritesSome d i (is_from_to first end) (xs ++ ys)
-    some_more xs ys before_ step_ = record {
-      own = OnlyWrites-append (IsOwnWrite d i) xs ys before_.own (own_before ys step_.own);
-      count = λ m.
-          (let marks : one_if (eqb s m && is_changed j m) ≡ one_if (eqb s m && is_changed i m) = ap one_if (chosen_same m) in
-          let counts = writes_to-append m xs ys in
-          omega (
-            arith,
-            counts,
-            before_.count m,
-            marks,
-            step_.count m,
-            one_more first s m (is_changed i m) upto,
-            fewer first (s + 1) end m (is_changed i m) (omega arith),
-          ));
+  module _ (next : IsWrittenOut e j f k) where
+    each_more : (xs ys : List Event) → WritesEach d i (λ sector. not (is_changed j sector)) xs
+        → WritesEach e j (λ sector. not (is_changed k sector)) ys → WritesEach d i (λ sector. not (is_changed k sector)) (xs ++ ys)
+    each_more xs ys before after = record {
+      own = OnlyWrites-append (IsOwnWrite d i) xs ys before.own (own_before ys after.own);
+      count = λ sector.
+          writes_to-append sector xs ys
+          ∙ rw (before.count sector, after.count sector)
+          (counts_each (is_changed i sector) (is_changed j sector) (is_changed k sector) (first.went.fewer sector) (next.went.fewer sector));
     }
 
-    -- this one was written or not
-    pub wrote_some : GoesOn (GrewBy (WritesEach d i (is_from_to first s))) d e → GoesOn (GrewBy (WritesSome e j (λ m. eqb s m))) e f
-        → GoesOn (GrewBy (WritesSome d i (is_from_to first end))) d f
-    wrote_some = GoesOn-then (WritesEach d i (is_from_to first s)) (WritesSome e j (λ m. eqb s m)) (WritesSome d i (is_from_to first end)) some_more d e f
+    -- more sectors are written
+    pub out_more : IsWrittenOut d i f k
+    out_more = record {
+      went = went_on next.went;
+      written = GoesOn-then (WritesEach d i (λ sector. not (is_changed j sector))) (WritesEach e j (λ sector. not (is_changed k sector)))
+          (WritesEach d i (λ sector. not (is_changed k sector))) each_more d e f first.written next.written;
+      told = next.told ∙ first.told;
+    }
+
+  some_more : (xs ys : List Event) → WritesEach d i (λ sector. not (is_changed j sector)) xs → WritesSome e j (λ sector. true) ys
+      → WritesSome d i (λ sector. true) (xs ++ ys)
+  some_more xs ys before after = record {
+    own = OnlyWrites-append (IsOwnWrite d i) xs ys before.own (own_before ys after.own);
+    count = λ sector.
+        (let more = counts_some (is_changed i sector) (is_changed j sector) (writes_to sector ys) (first.went.fewer sector) (after.count sector) in
+        omega (arith, writes_to-append sector xs ys, before.count sector, more));
+  }
+
+  -- and some of them
+  pub part_more : IsWrittenInPart e j f k → IsWrittenInPart d i f k
+  part_more next = record {
+    went = went_on next.went;
+    written = GoesOn-then (WritesEach d i (λ sector. not (is_changed j sector))) (WritesSome e j (λ sector. true)) (WritesSome d i (λ sector. true))
+        some_more d e f first.written next.written;
+  }
 
 -- the same events, of which something else follows
 GoesOn-map : (P Q : List Event → Type 0) → ((events : List Event) → P events → Q events) → (d e : disks.State) → GoesOn (GrewBy P) d e → GoesOn (GrewBy Q) d e
@@ -122,23 +129,9 @@ GoesOn-map P Q f d e h =
     (λ xs ys such none. subst Q (sym (ap (λ (l : List Event). xs ++ l) none ∙ append-nil xs)) (f xs such)) d e e h
     (grew_quiet (λ events. events ≡ []) e e refl refl)
 
--- where the range has each sector that is changed, its writes are those of all
-module _ (d : disks.State) (i : ImageState) (end : ℕ) (all : (m : ℕ) → is_changed i m ≡ true → m < end) where
-  whole_range : (m : ℕ) → (is_from_to 0 end m && is_changed i m) ≡ (true && is_changed i m)
-  whole_range m =
-      ⊎_elim
-      (λ (changed : is_changed i m ≡ true). rw (changed, le-leb 0 m (omega arith), lt-ltb m end (all m changed)) refl)
-      (λ (clean : is_changed i m ≡ false). rw clean (and_right (is_from_to 0 end m) false refl))
-      (cases_Bool (is_changed i m))
-
-  each_of_all : (events : List Event) → WritesEach d i (is_from_to 0 end) events → WritesEach d i (λ m. true) events
-  each_of_all events h = record { own = h.own; count = λ m. h.count m ∙ ap one_if (whole_range m) }
-
-  some_of_all : (events : List Event) → WritesSome d i (is_from_to 0 end) events → WritesSome d i (λ m. true) events
-  some_of_all events h = record { own = h.own; count = λ m. (let same = ap one_if (whole_range m) in omega (arith, h.count m)) }
-
-  pub all_written : (e : disks.State) → GoesOn (GrewBy (WritesEach d i (is_from_to 0 end))) d e → GoesOn (GrewBy (WritesEach d i (λ m. true))) d e
-  all_written e = GoesOn-map (WritesEach d i (is_from_to 0 end)) (WritesEach d i (λ m. true)) each_of_all d e
-
-  pub some_written : (e : disks.State) → GoesOn (GrewBy (WritesSome d i (is_from_to 0 end))) d e → GoesOn (GrewBy (WritesSome d i (λ m. true))) d e
-  some_written e = GoesOn-map (WritesSome d i (is_from_to 0 end)) (WritesSome d i (λ m. true)) some_of_all d e
+-- where no sector is changed any more, each that was changed was written
+pub all_written : (d e : disks.State) (i j : ImageState) → IsWrittenOut d i e j → IsClean j → GoesOn (GrewBy (WritesEach d i (λ sector. true))) d e
+all_written d e i j out clean =
+    GoesOn-map (WritesEach d i (λ sector. not (is_changed j sector))) (WritesEach d i (λ sector. true))
+    (λ events h. record { own = h.own; count = λ sector. h.count sector ∙ ap (λ (b : Bool). one_if (not b && is_changed i sector)) (clean sector) })
+    d e out.written

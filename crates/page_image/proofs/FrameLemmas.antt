@@ -8,8 +8,19 @@ use Rattle.save_disk.specs.State as disks
 use Rattle.save_disk.specs.Tells.{image_told}
 use Rattle.page_image.specs.declared.state.ImageState.{ImageState}
 use Rattle.page_image.specs.Images.{is_page, frame_of, is_held, held_byte, byte_of, mark_of, is_changed_at, is_changed, IsHeldPiece}
+use Rattle.page_image.specs.Frames.{SameFrames}
 use Rattle.page_image.specs.WriteOuts.{IsSectorOf}
 use Rattle.page_image.proofs.SectorLemmas.{sector_page, place_page, place_rest, behind_front}
+
+-- one call behind another
+pub SameFrames-join : (i j k : ImageState) → SameFrames i j → SameFrames j k → SameFrames i k
+SameFrames-join i j k first next = record {
+  len = next.len ∙ first.len;
+  grain = next.grain ∙ first.grain;
+  header = next.header ∙ first.header;
+  frames = next.frames ∙ first.frames;
+  slots = next.slots ∙ first.slots;
+}
 
 -- a frame that has the page
 pub is_page-some : (page : ℕ) (o : Option ℕ) → is_page page o ≡ true → o ≡ Some page

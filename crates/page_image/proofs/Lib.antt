@@ -8,6 +8,7 @@ pub mod ReadLemmas
 pub mod WriteLemmas
 pub mod CountLemmas
 pub mod PutLemmas
+pub mod PageLemmas
 pub mod FrontLemmas
 pub mod FewLemmas
 pub mod QuietLemmas

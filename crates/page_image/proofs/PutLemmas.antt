@@ -15,15 +15,22 @@ use Rattle.page_image.specs.declared.state.ImageState.{ImageState}
 use Rattle.page_image.specs.Images.{is_held, byte_of, is_changed, Mirrors, IsDiskOf}
 use Rattle.page_image.specs.Spots.{SameImage, SameImageSpot, LeavesTold, IsToldFor, ImageLands}
 use Rattle.page_image.specs.Allowed.{HoldsImage, IsOldOrNewSector}
-use Rattle.page_image.specs.Puts.{IsImagePut}
-use Rattle.page_image.specs.PutFronts.{PutsSome, PutsFirst}
+use Rattle.page_image.specs.Frames.{SameFrames}
+use Rattle.page_image.specs.Puts.{Marks, IsImagePut}
+use Rattle.page_image.specs.PutFronts.{PutsSome, HasFirst, PutsFirst}
 use Rattle.page_image.specs.Laws.{sure_start, SameImage-same, SameImageSpot-same, SameImage-join, SameImageSpot-join}
 use Rattle.page_image.proofs.FrameLemmas.{byte_front, byte_held, byte_unheld}
 use Rattle.page_image.proofs.DiskLemmas.{true-disk_of}
 use Rattle.page_image.proofs.SectorLemmas.{place_page}
 
--- a put into a page that is held
-module _ (e : disks.State) (j k : ImageState) (at : ℕ) (piece : List ℕ) (disk_of : IsDiskOf e j) (put : IsImagePut at piece j k) (behind : 512 ≤ at)
+-- a piece was put at a place, and no byte of the image is another besides
+pub record IsPiecePut (disk : disks.State) (at : ℕ) (piece : List ℕ) (old new : ImageState) : Type 0 where
+  pub same : SameFrames old new
+  pub bytes : HasFirst at piece (length piece) disk old disk new
+  pub marks : Marks at (length piece) old new
+
+-- so it is where it was put into a page that is held
+module _ (e : disks.State) (j k : ImageState) (at : ℕ) (piece : List ℕ) (put : IsImagePut at piece j k) (behind : 512 ≤ at)
     (in_page : at % 4096 + length piece ≤ 4096) (there : is_held j (at / 4096) ≡ true) where
   put_byte : (m : ℕ) → m < length piece → byte_of e k (at + m) ≡ get_or piece m 0
   put_byte m below =
@@ -42,6 +49,15 @@ module _ (e : disks.State) (j k : ImageState) (at : ℕ) (piece : List ℕ) (dis
       (cases_Bool (is_held j (x / 4096))))
       (cases_lt x 512)
 
+  pub put_held : IsPiecePut e at piece j k
+  put_held = record {
+    same = put.same;
+    bytes = record { written = put_byte; others = λ x inside. other_byte x };
+    marks = put.marks;
+  }
+
+-- what such a put leaves
+module _ (e : disks.State) (j k : ImageState) (at : ℕ) (piece : List ℕ) (disk_of : IsDiskOf e j) (put : IsPiecePut e at piece j k) where
   -- a sector that is not changed now has no place of the piece
   unmet : (sector : ℕ) → is_changed k sector ≡ false → (m : ℕ) → m < length piece → (at + m) / j.grain ≢ sector
   unmet sector clean m within same =
@@ -56,7 +72,7 @@ module _ (e : disks.State) (j k : ImageState) (at : ℕ) (piece : List ℕ) (dis
       let clean : is_changed k (x / j.grain) ≡ false = subst (λ (g : ℕ). is_changed k (x / g) ≡ false) put.same.grain clean_now in
       let missed = unmet (x / j.grain) clean in
       disk_of.mirrors told is x from inside sure (sym (put.marks.others (x / j.grain) missed) ∙ clean)
-      ∙ sym (other_byte x (λ m within same. missed m within (ap (λ (y : ℕ). y / j.grain) (sym same))))
+      ∙ sym (put.bytes.others x inside (λ m within same. missed m within (ap (λ (y : ℕ). y / j.grain) (sym same))))
 
   put_disk_of : IsDiskOf e k
   put_disk_of = record { size = disk_of.size ∙ sym put.same.len; grain = disk_of.grain ∙ sym put.same.grain; mirrors = mirrors }
@@ -75,7 +91,7 @@ module _ (e : disks.State) (j k : ImageState) (at : ℕ) (piece : List ℕ) (dis
   -- a spot that the put misses is left alone
   put_spot : (spot : Spot) → Misses (ImageLands j.grain) at (length piece) spot → SameImageSpot spot e j e k
   put_spot (Place x) misses = λ inside.
-      (other_byte x (λ m within same. misses m within (sym same)), WritesOnly-quiet (HoldsAt j.grain x (byte_of e j x)) e e refl)
+      (put.bytes.others x inside (λ m within same. misses m within (sym same)), WritesOnly-quiet (HoldsAt j.grain x (byte_of e j x)) e e refl)
   put_spot (Sector number) misses =
       λ clean. (put.marks.others number misses ∙ clean, WritesOnly-quiet (λ sector bytes. sector ≢ number) e e refl, sure_start number e.told)
   put_spot other misses = tt
@@ -100,7 +116,7 @@ holds_image d e i j told leaves =
 
 -- a page is reached, and then put into
 module _ (d e : disks.State) (i j k : ImageState) (at : ℕ) (piece : List ℕ) (leaves : LeavesTold d i e j) (told : tells e ≡ tells d) (disk_of : IsDiskOf e j)
-    (put : IsImagePut at piece j k) (behind : 512 ≤ at) (in_page : at % 4096 + length piece ≤ 4096) (there : is_held j (at / 4096) ≡ true) where
+    (put : IsPiecePut e at piece j k) where
   reached : SameImage d i e j
   reached = (leaves Frame tt).0
 
@@ -110,7 +126,7 @@ module _ (d e : disks.State) (i j k : ImageState) (at : ℕ) (piece : List ℕ) 
   first_spot : IsTrue (tells d) → (spot : Spot) → IsToldFor spot d → Misses (ImageLands i.grain) at (length piece) spot → SameImageSpot spot d i e k
   first_spot is spot asked misses =
       SameImageSpot-join d e e i j k spot reached.len reached.grain (leaves spot asked).1
-      (put_spot e j k at piece disk_of put behind in_page there spot (missed_there spot misses))
+      (put_spot e j k at piece disk_of put spot (missed_there spot misses))
 
   asked : IsTrue (tells d) → (spot : Spot) → IsToldFor spot d
   asked is (Place x) = is
@@ -122,14 +138,14 @@ module _ (d e : disks.State) (i j k : ImageState) (at : ℕ) (piece : List ℕ) 
   pub puts_first : at + length piece ≤ i.len → PutsFirst at piece (length piece) d i e k
   puts_first fits = record {
     some = record {
-      hold = SameImage-join d e e i j k reached (put_image e j k at piece disk_of put behind in_page there);
+      hold = SameImage-join d e e i j k reached (put_image e j k at piece disk_of put);
       spots = λ is spot misses. first_spot is spot (asked is spot) misses;
       old_or_new = λ is.
           WritesOnly-map (HoldsImage d i) (IsOldOrNewSector d i e k) (λ sector bytes h. record { either = inl h }) d e (holds_image d e i j is leaves);
     };
     put = λ is. record {
-      written = put_byte e j k at piece disk_of put behind in_page there;
-      others = λ x inside apart. other_byte e j k at piece disk_of put behind in_page there x apart ∙ place_same is x inside;
+      written = put.bytes.written;
+      others = λ x inside apart. put.bytes.others x (omega (arith, reached.len)) apart ∙ place_same is x inside;
     };
     pending = λ m below clean. absurd (clean_met m below clean);
     told = told;

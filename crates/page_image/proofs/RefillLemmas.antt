@@ -7,11 +7,11 @@ use Rattle.save_disk.specs.State as disks
 use Rattle.page_image.specs.declared.state.ImageState.{ImageState}
 use Rattle.page_image.specs.Images.{is_page, frame_of, is_held, held_byte, mark_of, is_changed_at, is_changed}
 use Rattle.page_image.specs.Frames.{SameFrames, IsTouched, IsEmptied, IsSettled, IsFrameRead, IsByteRead, IsRefilled}
-use Rattle.page_image.proofs.FrameLemmas.{held_from, held_in, changed_unheld, changed_unmarked, changed_alike}
+use Rattle.page_image.proofs.FrameLemmas.{SameFrames-join, held_from, held_in, changed_unheld, changed_unmarked, changed_alike}
 use Rattle.page_image.proofs.SectorLemmas.{sector_page}
 
 -- the sector at a number is as much changed, where the images have one grain
-as_sector : (i j : ImageState) (s : ℕ) → j.grain ≡ i.grain → is_changed_at j (s * i.grain) ≡ is_changed_at i (s * i.grain) → is_changed j s ≡ is_changed i s
+pub as_sector : (i j : ImageState) (s : ℕ) → j.grain ≡ i.grain → is_changed_at j (s * i.grain) ≡ is_changed_at i (s * i.grain) → is_changed j s ≡ is_changed i s
 as_sector i j s grain same = ap (λ (g : ℕ). is_changed_at j (s * g)) grain ∙ same
 
 module _ (i j : ImageState) (slots : j.slots.items ≡ i.slots.items) where
@@ -23,7 +23,7 @@ module _ (i j : ImageState) (slots : j.slots.items ≡ i.slots.items) where
   unfolding held_byte
   same_byte x same = ap (λ (f : ℕ). get_or j.bytes.items (f * 4096 + x % 4096) 0) (same_frame (x / 4096)) ∙ same
 
-  same_bytes : (x : ℕ) → j.bytes.items ≡ i.bytes.items → held_byte j x ≡ held_byte i x
+  pub same_bytes : (x : ℕ) → j.bytes.items ≡ i.bytes.items → held_byte j x ≡ held_byte i x
   same_bytes x same = same_byte x (ap (λ (l : List ℕ). get_or l (frame_of i (x / 4096) * 4096 + x % 4096) 0) same)
 
   same_mark : (x : ℕ) → j.changed.items ≡ i.changed.items → mark_of j x ≡ mark_of i x
@@ -32,17 +32,22 @@ module _ (i j : ImageState) (slots : j.slots.items ≡ i.slots.items) where
       ap (λ (f : ℕ). get_or j.changed.items (f * 8 + x % 4096 / 512) false) (same_frame (x / 4096))
       ∙ ap (λ (l : List Bool). get_or l (frame_of i (x / 4096) * 8 + x % 4096 / 512) false) same
 
-  same_held : (page : ℕ) → get_or j.pages.items (frame_of i page) None ≡ get_or i.pages.items (frame_of i page) None → is_held j page ≡ is_held i page
+  pub same_held : (page : ℕ) → get_or j.pages.items (frame_of i page) None ≡ get_or i.pages.items (frame_of i page) None → is_held j page ≡ is_held i page
   unfolding is_held
   same_held page same = ap (is_page page) (ap (λ (f : ℕ). get_or j.pages.items f None) (same_frame page) ∙ same)
 
 -- a frame that was asked for
+pub touched_changed : (i j : ImageState) → IsTouched i j → (sector : ℕ) → is_changed j sector ≡ is_changed i sector
+touched_changed i j h s =
+    as_sector i j s h.same.grain
+    (changed_alike i j (s * i.grain) h.same.len
+    (same_held i j h.slots (s * i.grain / 4096) (ap (λ (l : List (Option ℕ)). get_or l (frame_of i (s * i.grain / 4096)) None) h.pages))
+    (λ is. same_mark i j h.slots (s * i.grain) h.changed))
+
 pub refilled_touched : (d : disks.State) (i j : ImageState) → IsTouched i j → IsRefilled d i j
 refilled_touched d i j h = record {
   same = h.same;
-  changed = λ s. as_sector i j s h.same.grain
-      (changed_alike i j (s * i.grain) h.same.len (held (s * i.grain / 4096))
-      (λ is. same_mark i j h.slots (s * i.grain) h.changed));
+  changed = touched_changed i j h;
   bytes = λ x below is. inl (sym (held (x / 4096)) ∙ is, same_bytes i j h.slots x h.bytes);
 } where
   held : (page : ℕ) → is_held j page ≡ is_held i page
@@ -101,7 +106,7 @@ module _ (d : disks.State) (frame : ℕ) (i j : ImageState) (below : frame < len
   }
 
 -- a frame that holds no page is read
-module _ (d : disks.State) (frame : ℕ) (i j : ImageState) (h : IsFrameRead frame i j) (empty : get_or i.pages.items frame None ≡ None) where
+module _ (frame : ℕ) (i j : ImageState) (h : IsFrameRead frame i j) (empty : get_or i.pages.items frame None ≡ None) where
   -- a page that is held lies in another frame
   elsewhere : (page : ℕ) → is_held i page ≡ true → frame_of i page ≢ frame
   elsewhere page is here =
@@ -113,8 +118,8 @@ module _ (d : disks.State) (frame : ℕ) (i j : ImageState) (h : IsFrameRead fra
   read_apart f k small apart =
       ⊎_elim (λ (low : f < frame). h.before (f * 4096 + k) (omega arith)) (λ (from : frame ≤ f). h.behind (f * 4096 + k) (omega arith)) (cases_lt f frame)
 
-  pub refilled_read : IsRefilled d i j
-  refilled_read = record {
+  pub refilled_read : (d : disks.State) → IsRefilled d i j
+  refilled_read d = record {
     same = h.same;
     changed = λ s. as_sector i j s h.same.grain
         (changed_alike i j (s * i.grain) h.same.len (held (s * i.grain / 4096))
@@ -128,8 +133,7 @@ module _ (d : disks.State) (frame : ℕ) (i j : ImageState) (h : IsFrameRead fra
 
   -- and then holds a page
   module _ (page : ℕ) (k : ImageState) (settled : IsSettled frame page j k) (below : frame < length i.pages.items) (inside : page < length i.slots.items)
-      (apart : is_held i page ≡ false)
-      (read : (n : ℕ) → n < 4096 → page * 4096 + n < i.len → IsByteRead d i.grain (page * 4096 + n) (get_or j.bytes.items (frame * 4096 + n) 0)) where
+      (apart : is_held i page ≡ false) where
     page_frame : frame_of k page ≡ frame
     page_frame =
         ap (λ (l : List ℕ). get_or l page 0) (settled.slots ∙ ap (λ (l : List ℕ). set l page frame) h.slots)
@@ -149,7 +153,7 @@ module _ (d : disks.State) (frame : ℕ) (i j : ImageState) (h : IsFrameRead fra
         (ap (λ (f : ℕ). get_or k.pages.items f None) page_frame ∙ ap (λ (l : List (Option ℕ)). get_or l frame None) pages_now
         ∙ get_or-set_same i.pages.items frame (Some page) None below)
 
-    other_held : (q : ℕ) → q ≢ page → is_held k q ≡ is_held i q
+    pub other_held : (q : ℕ) → q ≢ page → is_held k q ≡ is_held i q
     unfolding is_held
     other_held q other =
         ⊎_elim
@@ -189,31 +193,17 @@ module _ (d : disks.State) (frame : ℕ) (i j : ImageState) (h : IsFrameRead fra
         ap (λ (f : ℕ). get_or k.bytes.items (f * 4096 + x % 4096) 0) (ap (frame_of k) here ∙ page_frame)
         ∙ ap (λ (l : List ℕ). get_or l (frame * 4096 + x % 4096) 0) settled.bytes
 
-    other_byte : (x : ℕ) → x / 4096 ≢ page → is_held i (x / 4096) ≡ true → held_byte k x ≡ held_byte i x
+    pub other_byte : (x : ℕ) → x / 4096 ≢ page → is_held i (x / 4096) ≡ true → held_byte k x ≡ held_byte i x
     unfolding held_byte
     other_byte x other is =
         ap (λ (f : ℕ). get_or k.bytes.items (f * 4096 + x % 4096) 0) (other_frame (x / 4096) other)
         ∙ ap (λ (l : List ℕ). get_or l (frame_of i (x / 4096) * 4096 + x % 4096) 0) settled.bytes
         ∙ read_apart (frame_of i (x / 4096)) (x % 4096) (omega arith) (elsewhere (x / 4096) is)
 
-    read_at : (x : ℕ) → x < i.len → x / 4096 ≡ page → IsByteRead d i.grain x (held_byte k x)
-    read_at x inside here =
-        let place : page * 4096 + x % 4096 ≡ x = omega arith in
-        let got : IsByteRead d i.grain (page * 4096 + x % 4096) (get_or j.bytes.items (frame * 4096 + x % 4096) 0) =
-        read (x % 4096) (omega arith) (omega arith) in
-        subst (λ (b : ℕ). IsByteRead d i.grain x b) (sym (page_byte x here))
-        (subst (λ (y : ℕ). IsByteRead d i.grain y (get_or j.bytes.items (frame * 4096 + x % 4096) 0)) place got)
+    pub same_settled : SameFrames i k
+    same_settled = SameFrames-join i j k h.same settled.same
 
-    same_settled : SameFrames i k
-    same_settled = record {
-      len = settled.same.len ∙ h.same.len;
-      grain = settled.same.grain ∙ h.same.grain;
-      header = settled.same.header ∙ h.same.header;
-      frames = settled.same.frames ∙ h.same.frames;
-      slots = settled.same.slots ∙ h.same.slots;
-    }
-
-    as_changed : (x : ℕ) → is_changed_at k x ≡ is_changed_at i x
+    pub as_changed : (x : ℕ) → is_changed_at k x ≡ is_changed_at i x
     as_changed x =
         ⊎_elim
         (λ (here : x / 4096 ≡ page).
@@ -221,20 +211,30 @@ module _ (d : disks.State) (frame : ℕ) (i j : ImageState) (h : IsFrameRead fra
         (λ (other : x / 4096 ≢ page). changed_alike i k x same_settled.len (other_held (x / 4096) other) (other_mark x other))
         (cases_eq (x / 4096) page)
 
-    pub refilled_settled : IsRefilled d i k
-    refilled_settled = record {
-      same = same_settled;
-      changed = λ s. as_sector i k s same_settled.grain (as_changed (s * i.grain));
-      bytes = λ x inside is.
-          ⊎_elim
-          (λ (here : x / 4096 ≡ page).
-          inr (
-            ap (λ (g : ℕ). is_changed_at k (x / i.grain * g)) same_settled.grain
-                ∙ changed_unmarked k (x / i.grain * i.grain) (page_mark (x / i.grain * i.grain) (sector_page i.grain i.layout.known x ∙ here)),
-            read_at x inside here,
-          ))
-          (λ (other : x / 4096 ≢ page).
-          let was : is_held i (x / 4096) ≡ true = sym (other_held (x / 4096) other) ∙ is in
-          inl (was, other_byte x other was))
-          (cases_eq (x / 4096) page);
-    }
+    module _ (d : disks.State) (read : (n : ℕ) → n < 4096 → page * 4096 + n < i.len
+        → IsByteRead d i.grain (page * 4096 + n) (get_or j.bytes.items (frame * 4096 + n) 0)) where
+      read_at : (x : ℕ) → x < i.len → x / 4096 ≡ page → IsByteRead d i.grain x (held_byte k x)
+      read_at x inside here =
+          let place : page * 4096 + x % 4096 ≡ x = omega arith in
+          let got : IsByteRead d i.grain (page * 4096 + x % 4096) (get_or j.bytes.items (frame * 4096 + x % 4096) 0) =
+          read (x % 4096) (omega arith) (omega arith) in
+          subst (λ (b : ℕ). IsByteRead d i.grain x b) (sym (page_byte x here))
+          (subst (λ (y : ℕ). IsByteRead d i.grain y (get_or j.bytes.items (frame * 4096 + x % 4096) 0)) place got)
+
+      pub refilled_settled : IsRefilled d i k
+      refilled_settled = record {
+        same = same_settled;
+        changed = λ s. as_sector i k s same_settled.grain (as_changed (s * i.grain));
+        bytes = λ x inside is.
+            ⊎_elim
+            (λ (here : x / 4096 ≡ page).
+            inr (
+              ap (λ (g : ℕ). is_changed_at k (x / i.grain * g)) same_settled.grain
+                  ∙ changed_unmarked k (x / i.grain * i.grain) (page_mark (x / i.grain * i.grain) (sector_page i.grain i.layout.known x ∙ here)),
+              read_at x inside here,
+            ))
+            (λ (other : x / 4096 ≢ page).
+            let was : is_held i (x / 4096) ≡ true = sym (other_held (x / 4096) other) ∙ is in
+            inl (was, other_byte x other was))
+            (cases_eq (x / 4096) page);
+      }

@@ -1,6 +1,6 @@
 -- What a write of a changed sector leaves.
-use Rattle.std.proofs.Common.{◌≡◌, ◌≢◌, ◌⊎◌, ℕ, ◌+◌, ◌-◌, ◌*◌, ◌/◌, ◌%◌, ◌<◌, ◌≤◌, true, false, ◌&&◌, IsTrue, List, [], ◌∷◌, length}
-use Rattle.std.proofs.Common.{get_or, eqb, Result, Ok, Err, OnErr, Option, Some, None, MatchOption, refl, sym, ◌∙◌, ap, subst, arith, inl, inr, ⊎_elim}
+use Rattle.std.proofs.Common.{◌≡◌, ◌≢◌, ◌⊎◌, ℕ, ◌+◌, ◌-◌, ◌*◌, ◌/◌, ◌%◌, ◌<◌, ◌≤◌, Bool, true, false, not, ◌&&◌, IsTrue, List, [], ◌∷◌, length}
+use Rattle.std.proofs.Common.{get_or, Result, Ok, Err, OnOk, OnErr, Option, Some, None, MatchOption, refl, sym, ◌∙◌, ap, subst, arith, inl, inr, ⊎_elim}
 use Rattle.std.specs.Bool.{⊤}
 use Rattle.std.specs.Option.{option_map}
 use Rattle.std.proofs.lemmas.Nat.{div-add-mod', div-mul-add, mod_below}
@@ -8,7 +8,7 @@ use Rattle.std.proofs.lemmas.Bool.{cases_lt, cases_eq, cases_Bool, eq-eqb, ne_eq
 use Rattle.save_bytes.specs.Spots.{Spot, Place, Sector}
 use Rattle.save_disk.specs.Trace.{Event, Write, Told, with_sector, image_now}
 use Rattle.save_disk.specs.State as disks
-use Rattle.save_disk.specs.Tells.{image_of}
+use Rattle.save_disk.specs.Tells.{tells, is_sure, image_of}
 use Rattle.save_disk.specs.Writes.{OnlyWrites, GrewBy, one_if, writes_to, WritesTo}
 use Rattle.save_disk.specs.Keeps.{HoldsAt}
 use Rattle.save_disk.proofs.SectorBytes.{with_sector-before, with_sector-behind, with_sector-inside}
@@ -19,7 +19,7 @@ use Rattle.page_image.specs.Images.{is_held, held_byte, byte_of, is_changed, IsD
 use Rattle.page_image.specs.Spots.{SureAsBefore, SameImageSpot, Leaves}
 use Rattle.page_image.specs.Laws.{SureFrom}
 use Rattle.page_image.specs.Puts.{IsUnmarked}
-use Rattle.page_image.specs.WriteOuts.{IsOwnWrite, WritesEach, WritesSome, IsClean}
+use Rattle.page_image.specs.WriteOuts.{IsOwnWrite, WritesEach, WritesSome, IsWrittenOut, IsWrittenInPart, IsClean}
 use Rattle.page_image.proofs.SectorLemmas.{some_grain, sector_page}
 use Rattle.page_image.proofs.FrameLemmas.{byte_front, byte_held, byte_unheld, changed_parts}
 use Rattle.page_image.proofs.DiskLemmas.{true-disk_of}
@@ -29,9 +29,27 @@ pub on_err : {T E P : Type 0} (r : Result T E) → P → OnErr r P
 on_err (Ok value) p = tt
 on_err (Err e) p = p
 
+-- what two facts make of a call that is done
+pub both_weaker : {T E P Q R : Type 0} (r : Result T E) → (P → Q → R) → OnOk r P → OnOk r Q → OnOk r R
+both_weaker (Ok value) f p q = f p q
+both_weaker (Err e) f p q = tt
+
+-- what follows of a call however it ends
+pub either_way : {T E P Q R : Type 0} (r : Result T E) → (P → R) → (Q → R) → OnOk r P → OnErr r Q → R
+either_way (Ok value) f g p q = f p
+either_way (Err e) f g p q = g q
+
 -- where no sector is changed each byte is on the disk
 pub clean_stored : (d : disks.State) (i : ImageState) → Mirrors d i → IsClean i → IsStored d i
 clean_stored d i mirrors clean told is x behind below sure = mirrors told is x behind below sure (clean (x / i.grain))
+
+-- an event ends nothing that is told of reads
+pub tells_happened : (event : Event) (d e : disks.State) → disks.IsSteady d e → disks.Happens event d e → tells e ≡ tells d
+tells_happened event d e steady happens = ap (λ (n : ℕ). is_sure n e.told) steady.size ∙ ap (is_sure d.size) happens ∙ still d.told
+  where
+    still : (o : Option Told) → is_sure d.size (option_map (disks.then_event event) o) ≡ is_sure d.size o
+    still None = refl
+    still (Some told) = refl
 
 module _ (n : ℕ) (bytes : List ℕ) (sector : ℕ) where
   -- a write that is done changes of no sector what is told of reads
@@ -290,19 +308,50 @@ module _ (d : disks.State) (i : ImageState) (n : ℕ) (bytes : List ℕ) (own : 
       (λ clean. let changed = own.changed in absurd (cc))
       (λ P none such. grew_failed P n bytes d e fails none such)
 
-  -- it is the one write of the sector
-  one_write : (m : ℕ) → writes_to m (Write n bytes ∷ []) ≡ one_if (eqb n m && is_changed i m)
-  one_write m =
-      ⊎_elim
-      (λ (here : n ≡ m). rw (eq-eqb n m here, ap (is_changed i) (sym here) ∙ own.changed) refl)
-      (λ (apart : n ≢ m). rw (ne_eqb n m apart) refl)
-      (cases_eq n m)
+  -- a write that is done
+  pub wrote_this : (e : disks.State) (j : ImageState) → disks.IsSteady d e → IsUnmarked n i j → disks.Happens (Write n bytes) d e → IsWrittenOut d i e j
+  wrote_this e j steady unmarked happens = record {
+    went = record {
+      leaves = leaves_written e j steady (SameBut-unmarked n i j unmarked) happens;
+      frames = unmarked.frames;
+      fewer = fewer;
+    };
+    written = grew_happens (WritesEach d i (λ sector. not (is_changed j sector))) (Write n bytes) d e happens (record { own = (own, tt); count = one_write });
+    told = tells_happened (Write n bytes) d e steady happens;
+  } where
+    fewer : (sector : ℕ) → is_changed j sector ≡ true → is_changed i sector ≡ true
+    fewer sector changed =
+        ⊎_elim (λ (here : sector ≡ n). ap (is_changed i) here ∙ own.changed) (λ (apart : sector ≢ n). sym (unmarked.others sector apart) ∙ changed)
+        (cases_eq sector n)
 
-  pub wrote_this : WritesEach d i (λ m. eqb n m) (Write n bytes ∷ [])
-  wrote_this = record { own = (own, tt); count = one_write }
+    one_write : (m : ℕ) → writes_to m (Write n bytes ∷ []) ≡ one_if (not (is_changed j m) && is_changed i m)
+    one_write m =
+        ⊎_elim
+        (λ (here : n ≡ m).
+        rw (eq-eqb n m here, ap (is_changed i) (sym here) ∙ own.changed, ap (is_changed j) (sym here) ∙ unmarked.clean) refl)
+        (λ (apart : n ≢ m).
+        rw (ne_eqb n m apart, unmarked.others m (λ same. apart (sym same))) (none (is_changed i m)))
+        (cases_eq n m)
+      where
+        none : (b : Bool) → 0 + 0 ≡ one_if (not b && b)
+        none true = refl
+        none false = refl
 
-  pub wrote_this_or_none : (e : disks.State) → disks.GoesOn (disks.WriteFails n bytes) d e → disks.GoesOn (GrewBy (WritesSome d i (λ m. eqb n m))) d e
-  wrote_this_or_none e fails =
-      grew_failed (WritesSome d i (λ m. eqb n m)) n bytes d e fails
-      (record { own = tt; count = λ m. omega arith })
-      (record { own = (own, tt); count = λ m. (let one = one_write m in omega arith) })
+  -- and one that failed
+  pub wrote_this_or_none : (e : disks.State) → disks.IsSteady d e → disks.GoesOn (disks.WriteFails n bytes) d e → IsWrittenInPart d i e i
+  wrote_this_or_none e steady fails = record {
+    went = record {
+      leaves = leaves_failed e steady fails;
+      frames = record { slots = refl; pages = refl };
+      fewer = λ sector changed. changed;
+    };
+    written = grew_failed (WritesSome d i (λ sector. true)) n bytes d e fails
+        (record { own = tt; count = λ m. omega arith })
+        (record { own = (own, tt); count = one_at_most });
+  } where
+    one_at_most : (m : ℕ) → writes_to m (Write n bytes ∷ []) ≤ one_if (true && is_changed i m)
+    one_at_most m =
+        ⊎_elim
+        (λ (here : n ≡ m). rw (eq-eqb n m here, ap (is_changed i) (sym here) ∙ own.changed) (omega arith))
+        (λ (apart : n ≢ m). rw (ne_eqb n m apart) (omega arith))
+        (cases_eq n m)

@@ -56,7 +56,11 @@ pub(crate) fn reach<D: Disk>(
 }
 
 // Empties a frame. The changed sectors of the page that it holds are written first.
-fn give_up<D: Disk>(disk: &mut D, image: &mut ImageState, frame: usize) -> Result<(), Failed>
+pub(crate) fn give_up<D: Disk>(
+    disk: &mut D,
+    image: &mut ImageState,
+    frame: usize,
+) -> Result<(), Failed>
     requires disk_of { IsDiskOf (D.state disk.old) image.old }
     requires frame { frame < length image.old.pages.items }
     ensures leaves { LeavesTold (D.state disk.old) image.old (D.state disk.new) image.new }

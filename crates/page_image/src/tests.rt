@@ -561,3 +561,56 @@ fn the_first_bytes_are_written_alone(rt: HostRuntime) -> Result<(), Fail> {
     }
     Ok(())
 }
+
+/// How many reads were made with a put into a new image, and four bytes of the disk behind a flush: the one before the
+/// bytes, the first and the last of them, and the one behind.
+fn reads_of_put(
+    alloc: Global,
+    is_wide: bool,
+    at: u64,
+    bytes: &[u8],
+) -> Result<(usize, [u8; 4]), Fail>
+    requires first { 512 ≤ at }
+    requires some { 1 ≤ length bytes.now }
+    requires inside { at + length bytes.now ≤ 9000 }
+{
+    let mut desk = desk_with(alloc, 9000, is_wide)?;
+    let mut state = ImageState::open(alloc, &mut desk, 9000)?;
+    put(&mut desk, &mut state, at, bytes)?;
+    let reads = count(&desk, Call::Read);
+    flush(&mut desk, &mut state)?;
+    let end = at + bytes.len() as u64;
+    let image = desk.image();
+    let around = [
+        byte_at(image, at - 1),
+        byte_at(image, at),
+        byte_at(image, end - 1),
+        byte_at(image, end),
+    ];
+    Ok((reads, around))
+}
+
+#[test]
+fn a_page_that_is_put_whole_is_not_read(rt: HostRuntime) -> Result<(), Fail> {
+    let long = [7; 5000];
+    for (at, len, narrow, wide, before, behind) in [
+        (4096u64, 4096usize, 1usize, 1usize, 79u8, 160u8),
+        (8192, 808, 1, 1, 159, 0),
+        (4096, 4904, 1, 1, 79, 0),
+        (4096, 4095, 9, 2, 79, 159),
+        (4097, 4095, 9, 2, 80, 160),
+        (8192, 807, 3, 2, 159, 214),
+        (512, 3584, 9, 2, 9, 80),
+    ] {
+        assert!(rt; 512 <= at && 1 <= len && len <= 5000);
+        assert!(rt; at + len as u64 <= 9000);
+        for (is_wide, reads) in [(false, narrow), (true, wide)] {
+            assert_eq!(rt;
+                reads_of_put(rt.alloc(), is_wide, at, &long[..len])?,
+                (reads, [before, 7, 7, behind]),
+                "at {at}"
+            );
+        }
+    }
+    Ok(())
+}

@@ -1,30 +1,26 @@
 //! Writing an image's changed sectors to its disk.
 
-ghost use Rattle.std.specs.Prelude.{◌≡◌, ◌≢◌, ◌==◌, ◌&&◌, nat_lt, nat_le, ℕ, ◌+◌, ◌*◌, ◌/◌, ◌<◌, ◌≤◌, true, false, Some, length, OnOk, OnErr};
-ghost use Rattle.save_bytes.specs.Spots.{Spot};
-ghost use Rattle.save_disk.specs.State.{GoesOn, HasCause};
-ghost use Rattle.save_disk.specs.Tells.{tells};
-ghost use Rattle.save_disk.specs.Writes.{GrewBy};
+ghost use Rattle.std.specs.Prelude.{◌≡◌, ◌≢◌, ℕ, ◌*◌, ◌/◌, ◌<◌, ◌≤◌, false, Some, length, OnOk, OnErr};
+ghost use Rattle.save_disk.specs.State.{HasCause};
 ghost use Rattle.page_image.specs.Images.{is_changed, IsDiskOf};
-ghost use Rattle.page_image.specs.Frames.{KeepsFrames};
-ghost use Rattle.page_image.specs.Spots.{Leaves};
-ghost use Rattle.page_image.specs.WriteOuts.{WritesEach, WritesSome, IsClean};
+ghost use Rattle.page_image.specs.WriteOuts.{IsWrittenOut, IsWrittenInPart, IsClean};
 
 use crate::state::{ImageState, PAGE};
 use save_disk::{Disk, Failed};
 
-// Writes each changed sector, which then is not changed.
+// Writes each changed sector, which then is not changed, frame by frame.
 pub(crate) fn write_out<D: Disk>(disk: &mut D, image: &mut ImageState) -> Result<(), Failed>
     requires { IsDiskOf (D.state disk.old) image.old }
-    ensures leaves { (spot : Spot) → Leaves spot (D.state disk.old) image.old (D.state disk.new) image.new }
     ensures clean { OnOk result (IsClean image.new) }
-    ensures written { OnOk result (GoesOn (GrewBy (WritesEach (D.state disk.old) image.old (λ sector. true))) (D.state disk.old) (D.state disk.new)) }
-    ensures failed { OnErr result (GoesOn (GrewBy (WritesSome (D.state disk.old) image.old (λ sector. true))) (D.state disk.old) (D.state disk.new)) }
-    ensures told { OnOk result (tells (D.state disk.new) ≡ tells (D.state disk.old)) }
+    ensures done { OnOk result (IsWrittenOut (D.state disk.old) image.old (D.state disk.new) image.new) }
+    ensures failed { OnErr result (IsWrittenInPart (D.state disk.old) image.old (D.state disk.new) image.new) }
     ensures cause { HasCause (D.state disk.old).counts.disk (D.state disk.new).counts.disk result }
 {
-    let end = image.sectors();
-    write_sectors(disk, image, 0, end)
+    for frame in 0..image.frames() {
+        let held = image.page_in(frame);
+        write_held(disk, image, held)?;
+    }
+    Ok(())
 }
 
 // Writes each changed sector of a page, if there is one.
@@ -34,10 +30,10 @@ pub(crate) fn write_held<D: Disk>(
     held: Option<u32>,
 ) -> Result<(), Failed>
     requires { IsDiskOf (D.state disk.old) image.old }
-    ensures leaves { (spot : Spot) → Leaves spot (D.state disk.old) image.old (D.state disk.new) image.new }
-    ensures clean { OnOk result ((page sector : ℕ) → held ≡ Some page → sector * image.old.grain / 4096 ≡ page → is_changed image.new sector ≡ false) }
-    ensures frames { KeepsFrames image.old image.new }
-    ensures told { OnOk result (tells (D.state disk.new) ≡ tells (D.state disk.old)) }
+    ensures clean { OnOk result ((page sector : ℕ) → held ≡ Some page → sector * image.old.grain / 4096 ≡ page
+        → is_changed image.new sector ≡ false) }
+    ensures done { OnOk result (IsWrittenOut (D.state disk.old) image.old (D.state disk.new) image.new) }
+    ensures failed { OnErr result (IsWrittenInPart (D.state disk.old) image.old (D.state disk.new) image.new) }
     ensures cause { HasCause (D.state disk.old).counts.disk (D.state disk.new).counts.disk result }
 {
     match held {
@@ -49,10 +45,10 @@ pub(crate) fn write_held<D: Disk>(
 // Writes each changed sector of a page.
 fn write_page<D: Disk>(disk: &mut D, image: &mut ImageState, page: u32) -> Result<(), Failed>
     requires { IsDiskOf (D.state disk.old) image.old }
-    ensures leaves { (spot : Spot) → Leaves spot (D.state disk.old) image.old (D.state disk.new) image.new }
-    ensures clean { OnOk result ((sector : ℕ) → sector * image.old.grain / 4096 ≡ page → is_changed image.new sector ≡ false) }
-    ensures frames { KeepsFrames image.old image.new }
-    ensures told { OnOk result (tells (D.state disk.new) ≡ tells (D.state disk.old)) }
+    ensures clean { OnOk result ((sector : ℕ) → sector * image.old.grain / 4096 ≡ page
+        → is_changed image.new sector ≡ false) }
+    ensures done { OnOk result (IsWrittenOut (D.state disk.old) image.old (D.state disk.new) image.new) }
+    ensures failed { OnErr result (IsWrittenInPart (D.state disk.old) image.old (D.state disk.new) image.new) }
     ensures cause { HasCause (D.state disk.old).counts.disk (D.state disk.new).counts.disk result }
 {
     let count = PAGE / image.grain() as usize;
@@ -71,14 +67,9 @@ fn write_sectors<D: Disk>(
     requires disk_of { IsDiskOf (D.state disk.old) image.old }
     requires ordered { first ≤ end }
     requires inside { (sector : ℕ) → first ≤ sector → sector < end → sector * image.old.grain < image.old.len }
-    ensures leaves { (spot : Spot) → Leaves spot (D.state disk.old) image.old (D.state disk.new) image.new }
     ensures clean { OnOk result ((sector : ℕ) → first ≤ sector → sector < end → is_changed image.new sector ≡ false) }
-    ensures frames { KeepsFrames image.old image.new }
-    ensures written { OnOk result (GoesOn (GrewBy (WritesEach (D.state disk.old) image.old (λ sector. nat_le first sector && nat_lt sector end)))
-        (D.state disk.old) (D.state disk.new)) }
-    ensures failed { OnErr result (GoesOn (GrewBy (WritesSome (D.state disk.old) image.old (λ sector. nat_le first sector && nat_lt sector end)))
-        (D.state disk.old) (D.state disk.new)) }
-    ensures told { OnOk result (tells (D.state disk.new) ≡ tells (D.state disk.old)) }
+    ensures done { OnOk result (IsWrittenOut (D.state disk.old) image.old (D.state disk.new) image.new) }
+    ensures failed { OnErr result (IsWrittenInPart (D.state disk.old) image.old (D.state disk.new) image.new) }
     ensures cause { HasCause (D.state disk.old).counts.disk (D.state disk.new).counts.disk result }
 {
     for sector in first..end {
@@ -91,13 +82,9 @@ fn write_sectors<D: Disk>(
 fn write_changed<D: Disk>(disk: &mut D, image: &mut ImageState, sector: usize) -> Result<(), Failed>
     requires disk_of { IsDiskOf (D.state disk.old) image.old }
     requires inside { sector * image.old.grain < image.old.len }
-    ensures leaves { (spot : Spot) → Leaves spot (D.state disk.old) image.old (D.state disk.new) image.new }
     ensures clean { OnOk result (is_changed image.new sector ≡ false) }
-    ensures others { (other : ℕ) → other ≢ sector → is_changed image.new other ≡ is_changed image.old other }
-    ensures frames { KeepsFrames image.old image.new }
-    ensures written { OnOk result (GoesOn (GrewBy (WritesEach (D.state disk.old) image.old (λ other. sector == other))) (D.state disk.old) (D.state disk.new)) }
-    ensures failed { OnErr result (GoesOn (GrewBy (WritesSome (D.state disk.old) image.old (λ other. sector == other))) (D.state disk.old) (D.state disk.new)) }
-    ensures told { OnOk result (tells (D.state disk.new) ≡ tells (D.state disk.old)) }
+    ensures done { OnOk result (IsWrittenOut (D.state disk.old) image.old (D.state disk.new) image.new) }
+    ensures failed { OnErr result (IsWrittenInPart (D.state disk.old) image.old (D.state disk.new) image.new) }
     ensures cause { HasCause (D.state disk.old).counts.disk (D.state disk.new).counts.disk result }
 {
     if !image.is_changed(sector) {

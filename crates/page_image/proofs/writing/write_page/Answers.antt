@@ -1,11 +1,11 @@
 use Rattle.std.proofs.Common.{◌≡◌, ◌≤◌, ◌<◌, ◌*◌, ◌/◌, ◌+◌, ℕ, min, max, false, ◌∙◌, ap, arith, ⊎_elim}
 use Rattle.std.proofs.lemmas.Bool.{cases_lt}
-use Rattle.std.proofs.lemmas.Result.{IfOk-weaker}
 use Rattle.save_bytes.specs.Spots.{Frame}
 use Rattle.page_image.specs.declared.state.ImageState.{ImageState}
 use Rattle.page_image.specs.Images.{is_changed, is_changed_at}
 use Rattle.page_image.proofs.FrameLemmas.{changed_outside}
 use Rattle.page_image.proofs.SectorLemmas.{page_sectors}
+use Rattle.page_image.proofs.WriteLemmas.{both_weaker}
 use Rattle.page_image.proofs.writing.write_page.Goals as goal
 
 -- where the sectors of a page that begin inside are not changed, none of the page's is
@@ -26,10 +26,9 @@ pub returns-clause-clean : goal.returns-clause-clean
 returns-clause-clean g c =
     let i = c.args.image.now in
     let j = c.write_sectors.new.image in
-    let same = (c.write_sectors.ensures.leaves Frame).0 in
     let first : ℕ = c.args.page * (4096 / c.grain.result) in
-    IfOk-weaker c.write_sectors.result (λ done. (s : ℕ) → first ≤ s → s < c.max-end.result → is_changed j s ≡ false)
-    (λ done. (s : ℕ) → s * i.grain / 4096 ≡ c.args.page → is_changed j s ≡ false)
-    (λ done. page_clean i j (4096 / c.grain.result) c.args.page c.sectors.result c.max-end.result (ap (λ (n : ℕ). 4096 / n) c.grain.ensures)
-    (c.max-end.ensures ∙ ap (λ (n : ℕ). max n first) c.min.ensures) c.sectors.ensures.covers same.len same.grain)
-    c.write_sectors.ensures.clean
+    both_weaker c.write_sectors.result (λ same clean.
+    page_clean i j (4096 / c.grain.result) c.args.page c.sectors.result c.max-end.result (ap (λ (n : ℕ). 4096 / n) c.grain.ensures)
+    (c.max-end.ensures ∙ ap (λ (n : ℕ). max n first) c.min.ensures) c.sectors.ensures.covers (same.went.leaves Frame).0.len
+    (same.went.leaves Frame).0.grain clean)
+    c.write_sectors.ensures.done c.write_sectors.ensures.clean

@@ -1,10 +1,11 @@
 use Rattle.std.proofs.Common.{ℕ, refl, ◌∙◌, ap, subst}
-use Rattle.std.proofs.lemmas.Result.{on_ok_weaker}
+use Rattle.std.proofs.lemmas.Result.{on_ok_weaker, on_err_weaker}
 use Rattle.save_bytes.specs.Cells.{Byte}
 use Rattle.save_bytes.specs.Spots.{Place, Frame}
 use Rattle.page_image.specs.Images.{DiffersWithin}
+use Rattle.page_image.proofs.CountLemmas.{all_written}
 use Rattle.page_image.proofs.DiskLemmas.{disk_of-true, kept_disk}
-use Rattle.page_image.proofs.WriteLemmas.{clean_stored}
+use Rattle.page_image.proofs.WriteLemmas.{clean_stored, both_weaker, either_way}
 use Rattle.page_image.proofs.FewLemmas.{few_pages}
 use Rattle.page_image.proofs.image.Image.flush.Goals as goal
 
@@ -12,27 +13,47 @@ pub write_out-requires : goal.write_out-requires
 write_out-requires g c = disk_of-true _ _ c.requires
 
 pub returns-clause-frame : goal.returns-clause-frame
-returns-clause-frame g c = (record { same_image = refl; same_disk = refl }, c.write_out.ensures.leaves Frame)
+returns-clause-frame g c =
+    either_way c.write_out.result (λ out. (record { same_image = refl; same_disk = refl }, out.went.leaves Frame))
+    (λ part. (record { same_image = refl; same_disk = refl }, part.went.leaves Frame)) c.write_out.ensures.done c.write_out.ensures.failed
 
 pub returns-clause-spots : goal.returns-clause-spots
-returns-clause-spots g c = λ spot. (record { same_image = refl; same_disk = refl }, c.write_out.ensures.leaves spot)
+returns-clause-spots g c = λ spot.
+    either_way c.write_out.result (λ out. (record { same_image = refl; same_disk = refl }, out.went.leaves spot))
+    (λ part. (record { same_image = refl; same_disk = refl }, part.went.leaves spot)) c.write_out.ensures.done c.write_out.ensures.failed
 
 pub returns-clause-cells : goal.returns-clause-cells
-returns-clause-cells g c = λ x below. ap Byte ((c.write_out.ensures.leaves (Place x)).1 below).0
+returns-clause-cells g c = λ x below.
+    either_way c.write_out.result (λ out. ap Byte ((out.went.leaves (Place x)).1 below).0)
+    (λ part. ap Byte ((part.went.leaves (Place x)).1 below).0) c.write_out.ensures.done c.write_out.ensures.failed
+
+pub returns-clause-written : goal.returns-clause-written
+returns-clause-written g c =
+    both_weaker c.write_out.result
+    (all_written (g.D.Disk.state c.args.self.now.disk.now) (g.D.Disk.state c.write_out.new.disk) c.args.self.now.image.now c.write_out.new.image)
+    c.write_out.ensures.done c.write_out.ensures.clean
+
+pub returns-clause-failed : goal.returns-clause-failed
+returns-clause-failed g c = on_err_weaker c.write_out.result (λ part. part.written) c.write_out.ensures.failed
 
 pub returns-clause-stored : goal.returns-clause-stored
 returns-clause-stored g c =
     let e = g.D.Disk.state c.write_out.new.disk in
     let j = c.write_out.new.image in
-    let disk_of = kept_disk _ e _ j (c.write_out.ensures.leaves Frame).0 (disk_of-true _ _ c.requires) in
-    on_ok_weaker c.write_out.result (clean_stored e j disk_of.mirrors) c.write_out.ensures.clean
+    both_weaker c.write_out.result
+    (λ out. clean_stored e j (kept_disk _ e _ j (out.went.leaves Frame).0 (disk_of-true _ _ c.requires)).mirrors)
+    c.write_out.ensures.done c.write_out.ensures.clean
 
 pub returns-clause-few : goal.returns-clause-few
 returns-clause-few g c = λ told.
     let e = g.D.Disk.state c.write_out.new.disk in
     let j = c.write_out.new.image in
-    let same = (c.write_out.ensures.leaves Frame).0 in
-    let disk_of = kept_disk _ e _ j same (disk_of-true _ _ c.requires) in
     on_ok_weaker c.write_out.result
-    (λ still. subst (λ (n : ℕ). DiffersWithin n e j) same.frames (few_pages e j (g.met.D.Disk.sound c.write_out.new.disk) disk_of (still ∙ told)))
-    c.write_out.ensures.told
+    (λ out.
+    subst (λ (n : ℕ). DiffersWithin n e j) (out.went.leaves Frame).0.frames
+    (few_pages e j (g.met.D.Disk.sound c.write_out.new.disk) (kept_disk _ e _ j (out.went.leaves Frame).0 (disk_of-true _ _ c.requires))
+    (out.told ∙ told)))
+    c.write_out.ensures.done
+
+pub returns-clause-told : goal.returns-clause-told
+returns-clause-told g c = on_ok_weaker c.write_out.result (λ out. out.told) c.write_out.ensures.done
