@@ -119,6 +119,7 @@ opened d i sound size grain none read = record {
       (λ (front : x < 512). byte_front d i x front ∙ read_told d i x sound now sure below (get_or i.header x 0) (read x front))
       (λ (behind : 512 ≤ x). byte_unheld d i x behind (none (x / 4096)))
       (cases_lt x 512);
+  front = λ sure x front. sym (read_told d i x sound now sure (omega (arith, i.layout.least)) (get_or i.header x 0) (read x front));
   clean = λ sector. changed_unheld i (sector * i.grain) (none (sector * i.grain / 4096));
 } where
   now : IsDiskOf d i

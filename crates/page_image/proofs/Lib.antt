@@ -7,6 +7,7 @@ pub mod LeaveLemmas
 pub mod ReadLemmas
 pub mod WriteLemmas
 pub mod CountLemmas
+pub mod StoredLemmas
 pub mod PutLemmas
 pub mod PageLemmas
 pub mod FrontLemmas

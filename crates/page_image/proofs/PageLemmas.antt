@@ -4,7 +4,7 @@ use Rattle.std.proofs.lemmas.Bool.{cases_lt, cases_Bool}
 use Rattle.save_disk.specs.State as disks
 use Rattle.page_image.specs.declared.state.ImageState.{ImageState}
 use Rattle.page_image.specs.Images.{frame_of, is_held, held_byte, byte_of, is_changed}
-use Rattle.page_image.specs.Frames.{SameFrames, IsTouched, IsFrameRead, IsSettled}
+use Rattle.page_image.specs.Frames.{SameFrames, IsTouched, IsFrameRead, TakesPage}
 use Rattle.page_image.specs.Puts.{IsImagePut}
 use Rattle.page_image.proofs.FrameLemmas.{SameFrames-join, byte_front, byte_held, byte_unheld}
 use Rattle.page_image.proofs.PutLemmas.{IsPiecePut}
@@ -19,7 +19,7 @@ pub record IsClaimed (page : ℕ) (old new : ImageState) : Type 0 where
   pub changed : (sector : ℕ) → is_changed new sector ≡ is_changed old sector
 
 -- an empty frame that was given the page
-module _ (frame page : ℕ) (i j : ImageState) (settled : IsSettled frame page i j)
+module _ (frame page : ℕ) (i j : ImageState) (settled : TakesPage frame page i j)
     (empty : get_or i.pages.items frame None ≡ None) (below : frame < length i.pages.items) (inside : page < length i.slots.items)
     (apart : is_held i page ≡ false) where
   unread : IsFrameRead frame i i

@@ -6,7 +6,7 @@ use Rattle.std.proofs.lemmas.Bool.{cases_lt, cases_eq, cases_Bool, ne_eqb}
 use Rattle.save_disk.specs.State as disks
 use Rattle.page_image.specs.declared.state.ImageState.{ImageState}
 use Rattle.page_image.specs.Images.{is_page, frame_of, is_held, held_byte, mark_of, is_changed_at, is_changed}
-use Rattle.page_image.specs.Frames.{SameFrames, IsTouched, IsEmptied, IsSettled, IsFrameRead, IsByteRead, IsRefilled}
+use Rattle.page_image.specs.Frames.{SameFrames, IsTouched, IsEmptied, TakesPage, IsFrameRead, IsByteRead, IsRefilled}
 use Rattle.page_image.proofs.FrameLemmas.{SameFrames-join, held_from, held_in, changed_unheld, changed_unmarked, changed_alike}
 use Rattle.page_image.proofs.SectorLemmas.{sector_page}
 
@@ -132,7 +132,7 @@ module _ (frame : ℕ) (i j : ImageState) (h : IsFrameRead frame i j) (empty : g
     held page = same_held i j h.slots page (ap (λ (l : List (Option ℕ)). get_or l (frame_of i page) None) h.pages)
 
   -- and then holds a page
-  module _ (page : ℕ) (k : ImageState) (settled : IsSettled frame page j k) (below : frame < length i.pages.items) (inside : page < length i.slots.items)
+  module _ (page : ℕ) (k : ImageState) (settled : TakesPage frame page j k) (below : frame < length i.pages.items) (inside : page < length i.slots.items)
       (apart : is_held i page ≡ false) where
     page_frame : frame_of k page ≡ frame
     page_frame =

@@ -35,7 +35,7 @@ pub record IsEmptied (frame : ℕ) (old new : ImageState) : Type 0 where
   pub changed : new.changed.items ≡ old.changed.items
 
 -- the frame holds the page, with no mark
-pub record IsSettled (frame page : ℕ) (old new : ImageState) : Type 0 where
+pub record TakesPage (frame page : ℕ) (old new : ImageState) : Type 0 where
   pub same : SameFrames old new
   pub slots : new.slots.items ≡ set old.slots.items page frame
   pub pages : new.pages.items ≡ set old.pages.items frame (Some page)

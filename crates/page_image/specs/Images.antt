@@ -104,14 +104,19 @@ abbrev pub IsStored : disks.State → ImageState → Type 0
 IsStored disk image = (told : Told) → disk.told ≡ Some told → (x : ℕ) → 512 ≤ x → x < image.len → IsTrue (told.sure (x / image.grain))
     → slice_index (image_now told) x ≡ byte_of disk image x
 
+-- the first 512 bytes are on the disk as the image has them
+abbrev pub IsFrontStored : disks.State → ImageState → Type 0
+IsFrontStored disk image = (x : ℕ) → x < 512 → slice_index (image_told disk) x ≡ slice_index image.header x
+
 -- an image just opened: its bytes are the disk's, and none is changed
 pub record IsOpened (disk : disks.State) (image : ImageState) : Type 0 where
   pub disk_of : IsDiskOf disk image
   pub bytes : IsTrue (tells disk) → (x : ℕ) → x < image.len → byte_of disk image x ≡ slice_index (image_told disk) x
+  pub front : IsTrue (tells disk) → IsFrontStored disk image
   pub clean : (sector : ℕ) → is_changed image sector ≡ false
 
--- the bytes of an image behind the first 512 that are not those of the disk lie in so many pages
-abbrev pub DiffersWithin : ℕ → disks.State → ImageState → Type 0
-DiffersWithin most disk image = (pages : List ℕ) × (length pages ≤ most)
-    × ((x : ℕ) → 512 ≤ x → x < image.len → byte_of disk image x ≢ slice_index (image_told disk) x
+-- the bytes of an image from a place on that are not those of the disk lie in so many pages
+abbrev pub DiffersWithin : ℕ → ℕ → disks.State → ImageState → Type 0
+DiffersWithin first most disk image = (pages : List ℕ) × (length pages ≤ most)
+    × ((x : ℕ) → first ≤ x → x < image.len → byte_of disk image x ≢ slice_index (image_told disk) x
     → (i : ℕ) × (i < length pages) × (slice_index pages i ≡ x / 4096))

@@ -1,11 +1,11 @@
 //! Writing an image's first 512 bytes.
 
-ghost use Rattle.std.specs.Prelude.{◌≡◌, ℕ, ◌<◌, List, length, false, OnOk, OnErr};
+ghost use Rattle.std.specs.Prelude.{◌≡◌, ℕ, ◌<◌, List, length, false, IsTrue, OnOk, OnErr};
 ghost use Rattle.save_disk.specs.Trace.{Write};
 ghost use Rattle.save_disk.specs.State.{IsQuiet, IsSteady, Happens, HasCause};
 ghost use Rattle.save_disk.specs.Tells.{tells};
-ghost use Rattle.page_image.specs.Images.{is_changed, IsDiskOf};
-ghost use Rattle.page_image.specs.Fronts.{IsFront, FailsFront, LeavesBehind, IsSector0};
+ghost use Rattle.page_image.specs.Images.{is_changed, IsDiskOf, IsFrontStored};
+ghost use Rattle.page_image.specs.Fronts.{HasFront, FailsFront, LeavesBehind, IsSector0};
 
 use crate::state::{ImageState, PAGE, put_front};
 use save_disk::{Disk, Failed};
@@ -18,10 +18,11 @@ pub(crate) fn write_front<D: Disk>(
 ) -> Result<(), Failed>
     requires { IsDiskOf (D.state disk.old) image.old }
     ensures leaves { LeavesBehind (D.state disk.old) image.old (D.state disk.new) image.new }
-    ensures written { OnOk result ((bytes : List ℕ) × IsFront (D.state disk.old) image.old header.now bytes
+    ensures written { OnOk result ((bytes : List ℕ) × HasFront (D.state disk.old) image.old header.now bytes
         × Happens (Write 0 bytes) (D.state disk.old) (D.state disk.new)) }
     ensures failed { OnErr result (FailsFront (D.state disk.old) image.old header.now (D.state disk.new)) }
     ensures header { OnOk result (image.new.header ≡ header.now) }
+    ensures front { IsTrue (tells (D.state disk.old)) → OnOk result (IsFrontStored (D.state disk.new) image.new) }
     ensures clean { OnOk result (is_changed image.new 0 ≡ false) }
     ensures kept { OnErr result (image.new.header ≡ image.old.header) }
     ensures told { OnOk result (tells (D.state disk.new) ≡ tells (D.state disk.old)) }

@@ -14,9 +14,9 @@ ghost use Rattle.save_disk.specs.Trace.{Sync, Write};
 ghost use Rattle.save_disk.specs.State.{GoesOn, Happens, IsQuiet, IsSteady, HasCause};
 ghost use Rattle.save_disk.specs.Tells.{tells};
 ghost use Rattle.save_disk.specs.Writes.{GrewBy, WritesOnly};
-ghost use Rattle.page_image.specs.Images.{is_held, is_changed, IsDiskOf, IsStored, DiffersWithin};
+ghost use Rattle.page_image.specs.Images.{is_held, is_changed, IsDiskOf, IsStored, IsFrontStored, DiffersWithin};
 ghost use Rattle.page_image.specs.Spots.{ImageLands, LeavesTold};
-ghost use Rattle.page_image.specs.Fronts.{IsFront, FailsFront, LeavesBehind};
+ghost use Rattle.page_image.specs.Fronts.{HasFront, FailsFront, LeavesBehind};
 ghost use Rattle.page_image.specs.Held.{shown, IsImageViewOf, SameImageView, ImageKeeps};
 ghost use Rattle.page_image.specs.Puts.{IsPending};
 ghost use Rattle.page_image.specs.Allowed.{IsOldOrNewSector};
@@ -75,7 +75,11 @@ impl<D: Disk> Image<'_, D> {
             (GoesOn (GrewBy (WritesSome (D.state self.old.disk.now) self.old.image.now (λ sector. true))) (D.state self.old.disk.now) (D.state self.new.disk.now)) }
         ensures stored { OnOk result (IsStored (D.state self.new.disk.now) self.new.image.now) }
         ensures few { IsTrue (tells (D.state self.old.disk.now))
-            → OnOk result (DiffersWithin (length self.old.image.now.pages.items) (D.state self.new.disk.now) self.new.image.now) }
+            → OnOk result (DiffersWithin 512 (length self.old.image.now.pages.items) (D.state self.new.disk.now) self.new.image.now) }
+        ensures few_in_all { IsTrue (tells (D.state self.old.disk.now)) → IsFrontStored (D.state self.old.disk.now) self.old.image.now
+            → OnOk result (DiffersWithin 0 (length self.old.image.now.pages.items) (D.state self.new.disk.now) self.new.image.now) }
+        ensures front { IsTrue (tells (D.state self.old.disk.now)) → IsFrontStored (D.state self.old.disk.now) self.old.image.now
+            → IsFrontStored (D.state self.new.disk.now) self.new.image.now }
         ensures told { OnOk result ((shown D.state self.new).told ≡ (shown D.state self.old).told) }
         ensures cause { HasCause (D.state self.old.disk.now).counts.disk (D.state self.new.disk.now).counts.disk result }
     {
@@ -92,10 +96,12 @@ impl<D: Disk> Image<'_, D> {
         requires { IsTrue (shown D.state self.old).shape.sound }
         ensures view { SameImageView self.old self.new }
         ensures leaves { LeavesBehind (D.state self.old.disk.now) self.old.image.now (D.state self.new.disk.now) self.new.image.now }
-        ensures written { OnOk result ((bytes : List ℕ) × IsFront (D.state self.old.disk.now) self.old.image.now header.now bytes
+        ensures written { OnOk result ((bytes : List ℕ) × HasFront (D.state self.old.disk.now) self.old.image.now header.now bytes
             × Happens (Write 0 bytes) (D.state self.old.disk.now) (D.state self.new.disk.now)) }
         ensures failed { OnErr result (FailsFront (D.state self.old.disk.now) self.old.image.now header.now (D.state self.new.disk.now)) }
         ensures header { OnOk result (AreBytesAt (shown D.state self.new).cells 0 header.now) }
+        ensures front { IsTrue (tells (D.state self.old.disk.now))
+            → OnOk result (IsFrontStored (D.state self.new.disk.now) self.new.image.now) }
         ensures clean { OnOk result (is_changed self.new.image.now 0 ≡ false) }
         ensures kept { OnErr result (self.new.image.now.header ≡ self.old.image.now.header) }
         ensures told { OnOk result ((shown D.state self.new).told ≡ (shown D.state self.old).told) }
@@ -131,6 +137,8 @@ impl<D: Disk> Image<'_, D> {
         ensures cause { HasCause (D.state self.old.disk.now).counts.disk (D.state self.new.disk.now).counts.disk result }
         ensures same { SameImageView self.old self.new }
         ensures image { self.new.image.now ≡ self.old.image.now }
+        ensures front { IsFrontStored (D.state self.old.disk.now) self.old.image.now
+            → IsFrontStored (D.state self.new.disk.now) self.new.image.now }
     {
         self.disk.sync()
     }
@@ -193,7 +201,11 @@ impl<D: Disk> Space for Image<'_, D> {
             (IsOldOrNewSector (D.state self.old.disk.now) self.old.image.now (D.state self.new.disk.now) self.new.image.now)
             (D.state self.old.disk.now) (D.state self.new.disk.now) }
         ensures few { IsTrue (tells (D.state self.old.disk.now))
-            → OnOk result (DiffersWithin (length self.old.image.now.pages.items) (D.state self.new.disk.now) self.new.image.now) }
+            → OnOk result (DiffersWithin 512 (length self.old.image.now.pages.items) (D.state self.new.disk.now) self.new.image.now) }
+        ensures few_in_all { IsTrue (tells (D.state self.old.disk.now)) → IsFrontStored (D.state self.old.disk.now) self.old.image.now
+            → OnOk result (DiffersWithin 0 (length self.old.image.now.pages.items) (D.state self.new.disk.now) self.new.image.now) }
+        ensures front { IsTrue (tells (D.state self.old.disk.now)) → IsFrontStored (D.state self.old.disk.now) self.old.image.now
+            → IsFrontStored (D.state self.new.disk.now) self.new.image.now }
     {
         let disk = &mut *self.disk;
         match put_all(disk, &mut *self.image, at, bytes) {

@@ -1,12 +1,12 @@
 //! What the calls on an image write, as laws over the spots that they leave alone.
 
-ghost use Rattle.std.specs.Prelude.{ℕ, length, IsTrue};
-ghost use Rattle.save_bytes.specs.Spots.{Sector};
+ghost use Rattle.std.specs.Prelude.{ℕ, ◌<◌, length, IsTrue};
+ghost use Rattle.save_bytes.specs.Spots.{Place, Sector};
 ghost use Rattle.save_disk.specs.State.{State, IsSound, IsQuiet};
 ghost use Rattle.save_disk.specs.Tells.{tells};
 ghost use Rattle.save_disk.specs.Writes.{WritesOnly};
 ghost use Rattle.page_image.specs.declared.state.ImageState.{ImageState};
-ghost use Rattle.page_image.specs.Images.{IsDiskOf, DiffersWithin};
+ghost use Rattle.page_image.specs.Images.{IsDiskOf, IsFrontStored, DiffersWithin};
 ghost use Rattle.page_image.specs.Spots.{Leaves};
 ghost use Rattle.page_image.specs.WriteOuts.{IsClean};
 ghost use Rattle.page_image.specs.Allowed.{IsAllowedWrite, LeavesMissed};
@@ -31,8 +31,18 @@ pub fn quiet_calls()
 {}
 
 /// The bytes of an image behind the first 512 that are not those of its disk lie in at most as many pages as there are
-/// frames, at each moment between two calls.
+/// frames, at each moment between two calls. Where the first 512 are on the disk, it is so of all its bytes.
 pub fn few_pages_differ()
-    ensures { (disk : State) (image : ImageState) → IsSound disk → IsDiskOf disk image → IsTrue (tells disk)
-        → DiffersWithin (length image.pages.items) disk image }
+    ensures behind { (disk : State) (image : ImageState) → IsSound disk → IsDiskOf disk image → IsTrue (tells disk)
+        → DiffersWithin 512 (length image.pages.items) disk image }
+    ensures in_all { (disk : State) (image : ImageState) → IsSound disk → IsDiskOf disk image → IsTrue (tells disk)
+        → IsFrontStored disk image → DiffersWithin 0 (length image.pages.items) disk image }
+{}
+
+/// The first 512 bytes stay on the disk as the image has them, where a call leaves alone each of their places: any call
+/// but `write_header`.
+pub fn front_stays_stored()
+    ensures { (disk disk_new : State) (image image_new : ImageState) → IsSound disk → IsSound disk_new → IsDiskOf disk image
+        → IsTrue (tells disk) → ((x : ℕ) → x < 512 → Leaves (Place x) disk image disk_new image_new)
+        → IsFrontStored disk image → IsFrontStored disk_new image_new }
 {}

@@ -11,7 +11,7 @@ mod state;
 mod writing;
 
 pub use image::Image;
-pub use laws::{few_pages_differ, quiet_calls, writes_of_calls};
+pub use laws::{few_pages_differ, front_stays_stored, quiet_calls, writes_of_calls};
 pub use state::{ImageFault, ImageState};
 
 #[cfg(test)]

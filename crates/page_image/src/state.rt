@@ -46,7 +46,7 @@ pub struct ImageState {
 impl ImageState {
     ghost use Rattle.save_disk.specs.State.{State};
     ghost use Rattle.page_image.specs.Images.{frame_of, is_held, is_changed, IsHeldPiece};
-    ghost use Rattle.page_image.specs.Frames.{IsTouched, IsEmptied, IsSettled};
+    ghost use Rattle.page_image.specs.Frames.{IsTouched, IsEmptied, TakesPage};
     ghost use Rattle.page_image.specs.Puts.{IsImagePut, IsUnmarked, IsFirstMarked, IsHeaded};
     ghost use Rattle.page_image.specs.WriteOuts.{IsSectorOf};
 
@@ -174,7 +174,7 @@ impl ImageState {
     pub(crate) fn settle(&mut self, frame: usize, page: usize)
         requires frame { frame < length self.old.pages.items }
         requires page { page < length self.old.slots.items }
-        ensures { IsSettled frame page self.old self.new }
+        ensures { TakesPage frame page self.old self.new }
     {
         self.slots[page] = frame as u8;
         self.pages[frame] = Some(page as u32);

@@ -1,12 +1,16 @@
-use Rattle.std.proofs.Common.{ℕ, refl, ◌∙◌, ap, subst}
+use Rattle.std.proofs.Common.{ℕ, IsTrue, refl, ◌∙◌, ap, subst}
 use Rattle.std.proofs.lemmas.Result.{on_ok_weaker, on_err_weaker}
 use Rattle.save_bytes.specs.Cells.{Byte}
 use Rattle.save_bytes.specs.Spots.{Place, Frame}
-use Rattle.page_image.specs.Images.{DiffersWithin}
+use Rattle.save_disk.specs.Tells.{tells}
+use Rattle.page_image.specs.Images.{IsFrontStored, DiffersWithin}
 use Rattle.page_image.proofs.CountLemmas.{all_written}
 use Rattle.page_image.proofs.DiskLemmas.{disk_of-true, kept_disk}
 use Rattle.page_image.proofs.WriteLemmas.{clean_stored, both_weaker, either_way}
-use Rattle.page_image.proofs.FewLemmas.{few_pages}
+use Rattle.page_image.proofs.FewLemmas.{few_pages, few_in_all}
+use Rattle.page_image.proofs.StoredLemmas.{front_stays}
+use Rattle.page_image.proofs.image.Image.flush.Given.{Over}
+use Rattle.page_image.proofs.image.Image.flush.Goals.{After-write_out}
 use Rattle.page_image.proofs.image.Image.flush.Goals as goal
 
 pub write_out-requires : goal.write_out-requires
@@ -50,9 +54,33 @@ returns-clause-few g c = λ told.
     let j = c.write_out.new.image in
     on_ok_weaker c.write_out.result
     (λ out.
-    subst (λ (n : ℕ). DiffersWithin n e j) (out.went.leaves Frame).0.frames
+    subst (λ (n : ℕ). DiffersWithin 512 n e j) (out.went.leaves Frame).0.frames
     (few_pages e j (g.met.D.Disk.sound c.write_out.new.disk) (kept_disk _ e _ j (out.went.leaves Frame).0 (disk_of-true _ _ c.requires))
     (out.told ∙ told)))
+    c.write_out.ensures.done
+
+-- however it ends, the first 512 bytes stay on the disk
+front : (g : Over) (c : After-write_out g) → IsTrue (tells (g.D.Disk.state c.args.self.now.disk.now))
+    → IsFrontStored (g.D.Disk.state c.args.self.now.disk.now) c.args.self.now.image.now
+    → IsFrontStored (g.D.Disk.state c.write_out.new.disk) c.write_out.new.image
+front g c told =
+    front_stays (g.D.Disk.state c.args.self.now.disk.now) (g.D.Disk.state c.write_out.new.disk) c.args.self.now.image.now c.write_out.new.image
+    (g.met.D.Disk.sound c.args.self.now.disk.now) (g.met.D.Disk.sound c.write_out.new.disk) (disk_of-true _ _ c.requires) told
+    (λ x below. either_way c.write_out.result (λ out. (out.went.leaves (Place x)).1) (λ part. (part.went.leaves (Place x)).1)
+    c.write_out.ensures.done c.write_out.ensures.failed)
+
+pub returns-clause-front : goal.returns-clause-front
+returns-clause-front g c = front g (goal.at.returns-clause-front g c).After-write_out
+
+pub returns-clause-few_in_all : goal.returns-clause-few_in_all
+returns-clause-few_in_all g c = λ told stored.
+    let e = g.D.Disk.state c.write_out.new.disk in
+    let j = c.write_out.new.image in
+    on_ok_weaker c.write_out.result
+    (λ out.
+    subst (λ (n : ℕ). DiffersWithin 0 n e j) (out.went.leaves Frame).0.frames
+    (few_in_all e j (g.met.D.Disk.sound c.write_out.new.disk) (kept_disk _ e _ j (out.went.leaves Frame).0 (disk_of-true _ _ c.requires))
+    (out.told ∙ told) (front g (goal.at.returns-clause-few_in_all g c).After-write_out told stored)))
     c.write_out.ensures.done
 
 pub returns-clause-told : goal.returns-clause-told
