@@ -1,5 +1,6 @@
 -- The writes of some sectors behind those of others.
-use Rattle.std.proofs.Common.{◌≡◌, ℕ, ◌+◌, ◌*◌, ◌≤◌, Bool, true, false, not, ◌&&◌, List, [], ◌++◌, refl, sym, ◌∙◌, ap, subst, arith, ⊎_elim}
+use Rattle.std.proofs.Common.{◌≡◌, ℕ, ◌+◌, ◌*◌, ◌≤◌, Bool, true, false, not, ◌&&◌, List, [], ◌++◌, refl, sym, ◌∙◌, ap}
+use Rattle.std.proofs.Common.{subst, arith, ⊎_elim}
 use Rattle.std.proofs.lemmas.List.{append-nil}
 use Rattle.std.proofs.lemmas.Bool.{cases_Bool}
 use Rattle.save_bytes.specs.Spots.{Place, Frame}
@@ -11,7 +12,8 @@ use Rattle.save_disk.proofs.Growth.{OnlyWrites-append, OnlyWrites-map, writes_to
 use Rattle.page_image.specs.declared.state.ImageState.{ImageState}
 use Rattle.page_image.specs.Images.{byte_of, is_changed}
 use Rattle.page_image.specs.Laws.{Leaves-same, Leaves-join}
-use Rattle.page_image.specs.WriteOuts.{IsOwnWrite, WritesEach, WritesSome, GoesOut, IsWrittenOut, IsWrittenInPart, IsClean}
+use Rattle.page_image.specs.WriteOuts.{IsOwnWrite, WritesEach, WritesSome, GoesOut, IsWrittenOut, IsWrittenInPart}
+use Rattle.page_image.specs.WriteOuts.{IsClean}
 
 -- a sector is changed at first, and then, and then: each time only if it was before
 counts_each : (first then_ last : Bool) → (then_ ≡ true → first ≡ true) → (last ≡ true → then_ ≡ true)
@@ -53,7 +55,8 @@ out_none d i = record {
 }
 
 -- a sector that is not changed stays so
-pub clean_still : (d e : disks.State) (i j : ImageState) → GoesOut d i e j → (sector : ℕ) → is_changed i sector ≡ false → is_changed j sector ≡ false
+pub clean_still : (d e : disks.State) (i j : ImageState) → GoesOut d i e j → (sector : ℕ) → is_changed i sector ≡ false
+    → is_changed j sector ≡ false
 clean_still d e i j went sector clean =
     ⊎_elim (λ (changed : is_changed j sector ≡ true). absurd (let was = went.fewer sector changed in cc))
     (λ (none : is_changed j sector ≡ false). none) (cases_Bool (is_changed j sector))
@@ -81,36 +84,45 @@ module _ (d e f : disks.State) (i j k : ImageState) (first : IsWrittenOut d i e 
   went_on : GoesOut e j f k → GoesOut d i f k
   went_on next = record {
     leaves = λ spot. Leaves-join d e f i j k spot (first.went.leaves spot) (next.leaves spot);
-    frames = record { slots = next.frames.slots ∙ first.went.frames.slots; pages = next.frames.pages ∙ first.went.frames.pages };
+    frames = record {
+      slots = next.frames.slots ∙ first.went.frames.slots;
+      pages = next.frames.pages
+          ∙ first.went.frames.pages;
+    };
     fewer = λ sector changed. first.went.fewer sector (next.fewer sector changed);
   }
 
   module _ (next : IsWrittenOut e j f k) where
     each_more : (xs ys : List Event) → WritesEach d i (λ sector. not (is_changed j sector)) xs
-        → WritesEach e j (λ sector. not (is_changed k sector)) ys → WritesEach d i (λ sector. not (is_changed k sector)) (xs ++ ys)
+        → WritesEach e j (λ sector. not (is_changed k sector)) ys
+        → WritesEach d i (λ sector. not (is_changed k sector)) (xs ++ ys)
     each_more xs ys before after = record {
       own = OnlyWrites-append (IsOwnWrite d i) xs ys before.own (own_before ys after.own);
       count = λ sector.
           writes_to-append sector xs ys
           ∙ rw (before.count sector, after.count sector)
-          (counts_each (is_changed i sector) (is_changed j sector) (is_changed k sector) (first.went.fewer sector) (next.went.fewer sector));
+          (counts_each (is_changed i sector) (is_changed j sector) (is_changed k sector) (first.went.fewer sector)
+          (next.went.fewer sector));
     }
 
     -- more sectors are written
     pub out_more : IsWrittenOut d i f k
     out_more = record {
       went = went_on next.went;
-      written = GoesOn-then (WritesEach d i (λ sector. not (is_changed j sector))) (WritesEach e j (λ sector. not (is_changed k sector)))
+      written = GoesOn-then (WritesEach d i (λ sector. not (is_changed j sector)))
+          (WritesEach e j (λ sector. not (is_changed k sector)))
           (WritesEach d i (λ sector. not (is_changed k sector))) each_more d e f first.written next.written;
       told = next.told ∙ first.told;
     }
 
-  some_more : (xs ys : List Event) → WritesEach d i (λ sector. not (is_changed j sector)) xs → WritesSome e j (λ sector. true) ys
+  some_more : (xs ys : List Event) → WritesEach d i (λ sector. not (is_changed j sector)) xs
+      → WritesSome e j (λ sector. true) ys
       → WritesSome d i (λ sector. true) (xs ++ ys)
   some_more xs ys before after = record {
     own = OnlyWrites-append (IsOwnWrite d i) xs ys before.own (own_before ys after.own);
     count = λ sector.
-        (let more = counts_some (is_changed i sector) (is_changed j sector) (writes_to sector ys) (first.went.fewer sector) (after.count sector) in
+        (let more = counts_some (is_changed i sector) (is_changed j sector) (writes_to sector ys)
+        (first.went.fewer sector) (after.count sector) in
         omega (arith, writes_to-append sector xs ys, before.count sector, more));
   }
 
@@ -118,20 +130,27 @@ module _ (d e f : disks.State) (i j k : ImageState) (first : IsWrittenOut d i e 
   pub part_more : IsWrittenInPart e j f k → IsWrittenInPart d i f k
   part_more next = record {
     went = went_on next.went;
-    written = GoesOn-then (WritesEach d i (λ sector. not (is_changed j sector))) (WritesSome e j (λ sector. true)) (WritesSome d i (λ sector. true))
+    written = GoesOn-then (WritesEach d i (λ sector. not (is_changed j sector))) (WritesSome e j (λ sector. true))
+        (WritesSome d i (λ sector. true))
         some_more d e f first.written next.written;
   }
 
 -- the same events, of which something else follows
-GoesOn-map : (P Q : List Event → Type 0) → ((events : List Event) → P events → Q events) → (d e : disks.State) → GoesOn (GrewBy P) d e → GoesOn (GrewBy Q) d e
+GoesOn-map : (P Q : List Event → Type 0) → ((events : List Event) → P events → Q events) → (d e : disks.State)
+    → GoesOn (GrewBy P) d e → GoesOn (GrewBy Q) d e
 GoesOn-map P Q f d e h =
     GoesOn-then P (λ events. events ≡ []) Q
     (λ xs ys such none. subst Q (sym (ap (λ (l : List Event). xs ++ l) none ∙ append-nil xs)) (f xs such)) d e e h
     (grew_quiet (λ events. events ≡ []) e e refl refl)
 
 -- where no sector is changed any more, each that was changed was written
-pub all_written : (d e : disks.State) (i j : ImageState) → IsWrittenOut d i e j → IsClean j → GoesOn (GrewBy (WritesEach d i (λ sector. true))) d e
+pub all_written : (d e : disks.State) (i j : ImageState) → IsWrittenOut d i e j → IsClean j
+    → GoesOn (GrewBy (WritesEach d i (λ sector. true))) d e
 all_written d e i j out clean =
     GoesOn-map (WritesEach d i (λ sector. not (is_changed j sector))) (WritesEach d i (λ sector. true))
-    (λ events h. record { own = h.own; count = λ sector. h.count sector ∙ ap (λ (b : Bool). one_if (not b && is_changed i sector)) (clean sector) })
+    (λ events h. record {
+      own = h.own;
+      count = λ sector. h.count sector
+          ∙ ap (λ (b : Bool). one_if (not b && is_changed i sector)) (clean sector);
+    })
     d e out.written

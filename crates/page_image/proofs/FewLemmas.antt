@@ -1,5 +1,6 @@
 -- In how many pages an image differs from its disk.
-use Rattle.std.proofs.Common.{◌≡◌, ℕ, ◌<◌, ◌≤◌, ◌/◌, true, false, List, length, get_or, map, Option, Some, None, sym, ◌∙◌, ap, arith, ⊎_elim}
+use Rattle.std.proofs.Common.{◌≡◌, ℕ, ◌<◌, ◌≤◌, ◌/◌, true, false, List, length, get_or, map, Option, Some, None, sym}
+use Rattle.std.proofs.Common.{◌∙◌, ap, arith, ⊎_elim}
 use Rattle.std.proofs.lemmas.List.{length-map, get_or-map}
 use Rattle.std.proofs.lemmas.Bool.{cases_Bool, cases_lt}
 use Rattle.save_disk.specs.State as disks
@@ -14,10 +15,12 @@ abbrev number : Option ℕ → ℕ
 number None = 0
 number (Some page) = page
 
-number-at : (pages : List (Option ℕ)) (frame page : ℕ) → frame < length pages → get_or pages frame None ≡ Some page → get_or (map number pages) frame 0 ≡ page
+number-at : (pages : List (Option ℕ)) (frame page : ℕ) → frame < length pages → get_or pages frame None ≡ Some page
+    → get_or (map number pages) frame 0 ≡ page
 number-at pages frame page below is = get_or-map number pages frame None 0 below ∙ ap number is
 
-pub few_pages : (d : disks.State) (i : ImageState) → disks.IsSound d → IsDiskOf d i → tells d ≡ true → DiffersWithin 512 (length i.pages.items) d i
+pub few_pages : (d : disks.State) (i : ImageState) → disks.IsSound d → IsDiskOf d i → tells d ≡ true
+    → DiffersWithin 512 (length i.pages.items) d i
 few_pages d i sound disk_of told = (
   map number i.pages.items,
   omega (arith, length-map i.pages.items number),
@@ -29,12 +32,14 @@ few_pages d i sound disk_of told = (
         omega (arith, length-map i.pages.items number),
         number-at i.pages.items (frame_of i (x / 4096)) (x / 4096) below (held_in i (x / 4096) held),
       ))
-      (λ (none : is_held i (x / 4096) ≡ false). absurd (differs (clean_told d i x sound disk_of told behind inside (clean_unheld i x none))))
+      (λ (none : is_held i (x / 4096) ≡ false).
+      absurd (differs (clean_told d i x sound disk_of told behind inside (clean_unheld i x none))))
       (cases_Bool (is_held i (x / 4096))),
 )
 
 -- where the first 512 bytes are on the disk, it is so of all bytes
-pub few_in_all : (d : disks.State) (i : ImageState) → disks.IsSound d → IsDiskOf d i → tells d ≡ true → IsFrontStored d i
+pub few_in_all : (d : disks.State) (i : ImageState) → disks.IsSound d → IsDiskOf d i → tells d ≡ true
+    → IsFrontStored d i
     → DiffersWithin 0 (length i.pages.items) d i
 few_in_all d i sound disk_of told front =
     let few = few_pages d i sound disk_of told in (

@@ -7,7 +7,8 @@ use Rattle.std.proofs.lemmas.Bool.{cases_lt, and_parts, and_left, and_right, ltb
 use Rattle.save_disk.specs.State as disks
 use Rattle.save_disk.specs.Tells.{image_told}
 use Rattle.page_image.specs.declared.state.ImageState.{ImageState}
-use Rattle.page_image.specs.Images.{is_page, frame_of, is_held, held_byte, byte_of, mark_of, is_changed_at, is_changed, IsHeldPiece}
+use Rattle.page_image.specs.Images.{is_page, frame_of, is_held, held_byte, byte_of, mark_of, is_changed_at, is_changed}
+use Rattle.page_image.specs.Images.{IsHeldPiece}
 use Rattle.page_image.specs.Frames.{SameFrames}
 use Rattle.page_image.specs.WriteOuts.{IsSectorOf}
 use Rattle.page_image.proofs.SectorLemmas.{sector_page, place_page, place_rest, behind_front}
@@ -33,7 +34,8 @@ module _ (i : ImageState) (page : ℕ) where
   held_from is = ap (is_page page) is ∙ eq-eqb page page refl
 
   -- it is so where the frame has the page
-  pub held_as : (frame : ℕ) (o : Option ℕ) → frame ≡ frame_of i page → o ≡ get_or i.pages.items frame None → is_page page o ≡ is_held i page
+  pub held_as : (frame : ℕ) (o : Option ℕ) → frame ≡ frame_of i page → o ≡ get_or i.pages.items frame None
+      → is_page page o ≡ is_held i page
   unfolding is_held
   held_as frame o same is = ap (is_page page) (is ∙ ap (λ (f : ℕ). get_or i.pages.items f None) same)
 
@@ -122,7 +124,8 @@ module _ (i : ImageState) (x f : ℕ) (held : is_held i (x / 4096) ≡ true) (sa
   mark_fits = let below = held_frame i (x / 4096) held in let layout = i.layout in omega arith
 
 -- the mark of a sector, where it was found
-pub changed_here : (i : ImageState) (x at : ℕ) → x < i.len → is_held i (x / 4096) ≡ true → at ≡ frame_of i (x / 4096) * 8 + x % 4096 / 512
+pub changed_here : (i : ImageState) (x at : ℕ) → x < i.len → is_held i (x / 4096) ≡ true
+    → at ≡ frame_of i (x / 4096) * 8 + x % 4096 / 512
     → get_or i.changed.items at false ≡ is_changed_at i x
 unfolding mark_of
 changed_here i x at below held same =
@@ -131,7 +134,8 @@ changed_here i x at below held same =
 -- the bytes of a sector whose page is held, as they were found
 module _ (d : disks.State) (i : ImageState) (s start : ℕ) (out : List ℕ) (held : is_held i (s * i.grain / 4096) ≡ true)
     (is : start ≡ frame_of i (s * i.grain / 4096) * 4096 + s * i.grain % 4096) (long : length out ≡ i.grain) where
-  sector_byte : (k : ℕ) → k < i.grain → 512 ≤ s * i.grain + k → get_or i.bytes.items (start + k) 0 ≡ byte_of d i (s * i.grain + k)
+  sector_byte : (k : ℕ) → k < i.grain → 512 ≤ s * i.grain + k
+      → get_or i.bytes.items (start + k) 0 ≡ byte_of d i (s * i.grain + k)
   unfolding held_byte
   sector_byte k below behind =
       let page = place_page i.grain i.layout.known s k below in
@@ -139,12 +143,15 @@ module _ (d : disks.State) (i : ImageState) (s start : ℕ) (out : List ℕ) (he
       let index : start + k ≡ frame_of i ((s * i.grain + k) / 4096) * 4096 + (s * i.grain + k) % 4096 =
       (let there : start + k ≡ frame_of i (s * i.grain / 4096) * 4096 + (s * i.grain + k) % 4096 = omega arith in there)
       ∙ ap (λ (p : ℕ). frame_of i p * 4096 + (s * i.grain + k) % 4096) (sym page) in
-      ap (λ (n : ℕ). get_or i.bytes.items n 0) index ∙ sym (byte_held d i (s * i.grain + k) behind (ap (is_held i) page ∙ held))
+      ap (λ (n : ℕ). get_or i.bytes.items n 0) index
+      ∙ sym (byte_held d i (s * i.grain + k) behind (ap (is_held i) page ∙ held))
 
-  pub sector_of_later : (s ≡ 0 → ⊥) → ((k : ℕ) → k < i.grain → get_or out k 0 ≡ get_or i.bytes.items (start + k) 0) → IsSectorOf d i s out
+  pub sector_of_later : (s ≡ 0 → ⊥) → ((k : ℕ) → k < i.grain → get_or out k 0 ≡ get_or i.bytes.items (start + k) 0)
+      → IsSectorOf d i s out
   sector_of_later later bytes = record {
     long = long;
-    each = λ k below inside. bytes k below ∙ sector_byte k below (behind_front i.grain i.layout.known s k (omega arith));
+    each = λ k below inside. bytes k below
+        ∙ sector_byte k below (behind_front i.grain i.layout.known s k (omega arith));
   }
 
   pub sector_of_first : s ≡ 0 → ((k : ℕ) → k < 512 → get_or out k 0 ≡ get_or i.header k 0)
@@ -152,7 +159,9 @@ module _ (d : disks.State) (i : ImageState) (s start : ℕ) (out : List ℕ) (he
   sector_of_first first front bytes = record {
     long = long;
     each = λ k below inside.
-        (let place : s * i.grain + k ≡ k = (let none : s * i.grain ≡ 0 * i.grain = ap (λ (n : ℕ). n * i.grain) first in omega (arith, zero-mul i.grain)) in
+        (let place : s * i.grain + k ≡ k =
+        (let none : s * i.grain ≡ 0 * i.grain = ap (λ (n : ℕ). n * i.grain) first in
+        omega (arith, zero-mul i.grain)) in
         ⊎_elim
         (λ (low : k < 512). front k low ∙ sym (byte_front d i k low) ∙ ap (byte_of d i) (sym place))
         (λ (high : 512 ≤ k). bytes k below high ∙ sector_byte k below (omega arith))
@@ -160,9 +169,11 @@ module _ (d : disks.State) (i : ImageState) (s start : ℕ) (out : List ℕ) (he
   }
 
 -- a piece that is lent from the first 512 bytes, or from a page that is held
-module _ (d : disks.State) (i : ImageState) (at most n : ℕ) (piece : List ℕ) (long : length piece ≡ n) (some : 1 ≤ n) (few : n ≤ most)
+module _ (d : disks.State) (i : ImageState) (at most n : ℕ) (piece : List ℕ) (long : length piece ≡ n) (some : 1 ≤ n)
+    (few : n ≤ most)
     (inside : at + n ≤ i.len) where
-  pub lent_front : at + n ≤ 512 → ((k : ℕ) → k < n → get_or piece k 0 ≡ get_or i.header (at + k) 0) → IsHeldPiece d i at most piece
+  pub lent_front : at + n ≤ 512 → ((k : ℕ) → k < n → get_or piece k 0 ≡ get_or i.header (at + k) 0)
+      → IsHeldPiece d i at most piece
   lent_front fits bytes = record {
     some = omega arith;
     bounded = omega arith;
@@ -170,7 +181,8 @@ module _ (d : disks.State) (i : ImageState) (at most n : ℕ) (piece : List ℕ)
     bytes = λ k below. bytes k (omega arith) ∙ sym (byte_front d i (at + k) (omega arith));
   }
 
-  pub lent_held : (start : ℕ) → 512 ≤ at → at % 4096 + n ≤ 4096 → is_held i (at / 4096) ≡ true → start ≡ frame_of i (at / 4096) * 4096 + at % 4096
+  pub lent_held : (start : ℕ) → 512 ≤ at → at % 4096 + n ≤ 4096 → is_held i (at / 4096) ≡ true
+      → start ≡ frame_of i (at / 4096) * 4096 + at % 4096
       → ((k : ℕ) → k < n → get_or piece k 0 ≡ get_or i.bytes.items (start + k) 0) → IsHeldPiece d i at most piece
   unfolding held_byte
   lent_held start behind fits held is bytes = record {
@@ -187,6 +199,7 @@ module _ (d : disks.State) (i : ImageState) (at most n : ℕ) (piece : List ℕ)
   }
 
 -- frames of which none has a page hold none
-pub none_held : (i : ImageState) → ((frame : ℕ) → get_or i.pages.items frame None ≡ None) → (page : ℕ) → is_held i page ≡ false
+pub none_held : (i : ImageState) → ((frame : ℕ) → get_or i.pages.items frame None ≡ None) → (page : ℕ)
+    → is_held i page ≡ false
 unfolding is_held
 none_held i none page = ap (is_page page) (none (frame_of i page))

@@ -1,5 +1,6 @@
 -- What a write of the first 512 bytes leaves.
-use Rattle.std.proofs.Common.{◌≡◌, ◌≢◌, ◌⊎◌, ℕ, ◌+◌, ◌-◌, ◌*◌, ◌/◌, ◌<◌, ◌≤◌, true, false, IsTrue, List, [], ◌∷◌, length, get_or, Option, Some}
+use Rattle.std.proofs.Common.{◌≡◌, ◌≢◌, ◌⊎◌, ℕ, ◌+◌, ◌-◌, ◌*◌, ◌/◌, ◌<◌, ◌≤◌, true, false, IsTrue, List, [], ◌∷◌}
+use Rattle.std.proofs.Common.{length, get_or, Option, Some}
 use Rattle.std.proofs.Common.{refl, sym, ◌∙◌, ap, subst, arith, inl, inr, ⊎_elim}
 use Rattle.std.specs.Bool.{⊤}
 use Rattle.std.proofs.Math.Nat.{zero-mul}
@@ -23,7 +24,8 @@ use Rattle.page_image.specs.Frames.{IsByteRead}
 use Rattle.page_image.specs.WriteOuts.{IsSectorOf}
 use Rattle.page_image.proofs.ReadLemmas.{own_read}
 use Rattle.page_image.proofs.DiskLemmas.{true-disk_of, read_told}
-use Rattle.page_image.proofs.WriteLemmas.{in_sector, IsThis, IsThisOrNone, stays_apart, stays_own, told_apart, sure_back, sure_written, sure_failed, grew_as}
+use Rattle.page_image.proofs.WriteLemmas.{in_sector, IsThis, IsThisOrNone, stays_apart, stays_own, told_apart}
+use Rattle.page_image.proofs.WriteLemmas.{sure_back, sure_written, sure_failed, grew_as}
 use Rattle.save_disk.proofs.Growth.{image_unchanged}
 
 -- the same frames and marks, but for the mark of sector 0
@@ -36,13 +38,22 @@ pub record SameFront (i j : ImageState) : Type 0 where
   pub others : (sector : ℕ) → sector ≢ 0 → is_changed j sector ≡ is_changed i sector
 
 pub SameFront-headed : (front : List ℕ) (i j : ImageState) → IsHeaded front i j → SameFront i j
-SameFront-headed front i j h = record { len = h.len; grain = h.grain; frames = h.frames; held = h.held; bytes = h.bytes; others = h.others }
+SameFront-headed front i j h =
+    record { len = h.len; grain = h.grain; frames = h.frames; held = h.held; bytes = h.bytes; others = h.others }
 
 pub SameFront-marked : (i j : ImageState) → IsFirstMarked i j → SameFront i j
 SameFront-marked i j h =
-    record { len = h.same.len; grain = h.same.grain; frames = h.same.frames; held = h.held; bytes = h.bytes; others = h.others }
+    record {
+      len = h.same.len;
+      grain = h.same.grain;
+      frames = h.same.frames;
+      held = h.held;
+      bytes = h.bytes;
+      others = h.others;
+    }
 
-module _ (d : disks.State) (i : ImageState) (w : List ℕ) (sound : disks.IsSound d) (disk_of : IsDiskOf d i) (long : length w ≡ i.grain)
+module _ (d : disks.State) (i : ImageState) (w : List ℕ) (sound : disks.IsSound d) (disk_of : IsDiskOf d i)
+    (long : length w ≡ i.grain)
     (rest : IsSector0 d i w) where
   begins : 0 * i.grain < i.len
   begins = let layout = i.layout in omega (arith, zero-mul i.grain)
@@ -62,7 +73,8 @@ module _ (d : disks.State) (i : ImageState) (w : List ℕ) (sound : disks.IsSoun
       let within = in_sector x 0 i.grain (some_grain i.grain i.layout.known) here in
       omega (arith, zero-mul i.grain, within.1)
 
-  own : (x : ℕ) → 512 ≤ x → x < i.len → x / i.grain ≡ 0 → IsTrue (tells d) ⊎ (is_held i 0 ≡ true) → get_or w (x - 0 * i.grain) 0 ≡ byte_of d i x
+  own : (x : ℕ) → 512 ≤ x → x < i.len → x / i.grain ≡ 0 → IsTrue (tells d) ⊎ (is_held i 0 ≡ true)
+      → get_or w (x - 0 * i.grain) 0 ≡ byte_of d i x
   own x behind inside here known =
       ap (λ (n : ℕ). get_or w n 0) (omega (arith, zero-mul i.grain)) ∙ rest known x behind (in_grain x here) inside
 
@@ -79,15 +91,19 @@ module _ (d : disks.State) (i : ImageState) (w : List ℕ) (sound : disks.IsSoun
         let went = rw told.1 at grew in
         ap (λ (o : Option Told). get_or (image_of o) x 0) went.1
         ∙ ⊎_elim
-        (λ nothing. ap (λ (l : List ℕ). get_or l x 0) (image_unchanged told.0 went.0 (grew_as told.0 went.0 went.2 nothing)))
+        (λ nothing. ap (λ (l : List ℕ). get_or l x 0)
+        (image_unchanged told.0 went.0 (grew_as told.0 went.0 went.2 nothing)))
         (λ this.
-        stays_own 0 w i.grain long told.0 went.0 fits.0 (omega arith) (grew_as told.0 went.0 went.2 this) x (omega arith)
+        stays_own 0 w i.grain long told.0 went.0 fits.0 (omega arith) (grew_as told.0 went.0 went.2 this) x
+        (omega arith)
         (some_grain i.grain i.layout.known) here
-        ∙ own x behind inside here (inl is) ∙ byte_unheld d i x behind none ∙ ap (λ (o : Option Told). get_or (image_of o) x 0) told.1)
+        ∙ own x behind inside here (inl is) ∙ byte_unheld d i x behind none
+        ∙ ap (λ (o : Option Told). get_or (image_of o) x 0) told.1)
         went.2.such
         ∙ sym (ap (λ (o : Option Told). get_or (image_of o) x 0) told.1)
 
-    behind_kept : (x : ℕ) → 512 ≤ x → x < i.len → (x / i.grain ≢ 0) ⊎ (IsTrue (tells d) ⊎ (is_held i 0 ≡ true)) → byte_of e j x ≡ byte_of d i x
+    behind_kept : (x : ℕ) → 512 ≤ x → x < i.len → (x / i.grain ≢ 0) ⊎ (IsTrue (tells d) ⊎ (is_held i 0 ≡ true))
+        → byte_of e j x ≡ byte_of d i x
     behind_kept x behind inside known =
         ⊎_elim
         (λ (held : is_held i (x / 4096) ≡ true).
@@ -102,7 +118,8 @@ module _ (d : disks.State) (i : ImageState) (w : List ℕ) (sound : disks.IsSoun
         (λ (here : x / i.grain ≡ 0).
         ⊎_elim (λ away. absurd (away here))
         (λ more. ⊎_elim (λ is. told_own is x behind inside here none)
-        (λ held. let gone : is_held i 0 ≡ false = ap (is_held i) (sym (first_page x here)) ∙ none in absurd (cc)) more) known)
+        (λ held. let gone : is_held i 0 ≡ false = ap (is_held i) (sym (first_page x here)) ∙ none in absurd (cc)) more)
+        known)
         (cases_neq (x / i.grain))
         ∙ sym (byte_unheld d i x behind none))
         (cases_Bool (is_held i (x / 4096)))
@@ -113,8 +130,10 @@ module _ (d : disks.State) (i : ImageState) (w : List ℕ) (sound : disks.IsSoun
     mirrors : (is_changed j 0 ≡ false → is_held i 0 ≡ true → disks.GoesOn (GrewBy (IsThis 0 w)) d e) → Mirrors e j
     mirrors this next is x behind below_now sure_now clean_now =
         let inside : x < i.len = subst (λ (m : ℕ). x < m) same.len below_now in
-        let clean : is_changed j (x / i.grain) ≡ false = subst (λ (g : ℕ). is_changed j (x / g) ≡ false) same.grain clean_now in
-        let told_sure : IsTrue (next.sure (x / i.grain)) = subst (λ (g : ℕ). IsTrue (next.sure (x / g))) same.grain sure_now in
+        let clean : is_changed j (x / i.grain) ≡ false =
+        subst (λ (g : ℕ). is_changed j (x / g) ≡ false) same.grain clean_now in
+        let told_sure : IsTrue (next.sure (x / i.grain)) =
+        subst (λ (g : ℕ). IsTrue (next.sure (x / g))) same.grain sure_now in
         let start = begins in
         let some = some_grain i.grain i.layout.known in
         ⊎_elim
@@ -127,7 +146,8 @@ module _ (d : disks.State) (i : ImageState) (w : List ℕ) (sound : disks.IsSoun
         stays_own 0 w i.grain long from.0 next fits.0 (omega arith) from.2 x (omega arith) some here
         ∙ own x behind inside here (inr first) ∙ sym (behind_kept x behind inside (inr (inr first))))
         (λ (none : is_held i (x / 4096) ≡ false).
-        sym (byte_unheld e j x behind (same.held (x / 4096) ∙ none) ∙ ap (λ (o : Option Told). get_or (image_of o) x 0) is))
+        sym (byte_unheld e j x behind (same.held (x / 4096) ∙ none)
+        ∙ ap (λ (o : Option Told). get_or (image_of o) x 0) is))
         (cases_Bool (is_held i (x / 4096))))
         (λ (apart : x / i.grain ≢ 0).
         let from = came_from (GrewBy (IsThisOrNone 0 w)) d e next grew is in
@@ -154,7 +174,8 @@ module _ (d : disks.State) (i : ImageState) (w : List ℕ) (sound : disks.IsSoun
       still sector changed clean =
           ⊎_elim
           (λ (here : sector ≡ 0).
-          subst (λ (s : ℕ). WritesTo s d e) (sym here) (pending (ap (is_changed i) (sym here) ∙ changed) (ap (is_changed j) (sym here) ∙ clean)))
+          subst (λ (s : ℕ). WritesTo s d e) (sym here)
+          (pending (ap (is_changed i) (sym here) ∙ changed) (ap (is_changed j) (sym here) ∙ clean)))
           (λ (apart : sector ≢ 0). let marks = same.others sector apart in absurd (cc))
           (cases_eq sector 0)
 
@@ -171,13 +192,15 @@ module _ (d : disks.State) (i : ImageState) (w : List ℕ) (sound : disks.IsSoun
 
       holds : IsTrue (tells d) → (x : ℕ) → 512 ≤ x → x < i.len → HoldsAt i.grain x (byte_of d i x) 0 w
       holds is x behind inside from below =
-          ap (λ (n : ℕ). get_or w n 0) (omega (arith, zero-mul i.grain)) ∙ rest (inl is) x behind (omega (arith, zero-mul i.grain)) inside
+          ap (λ (n : ℕ). get_or w n 0) (omega (arith, zero-mul i.grain))
+          ∙ rest (inl is) x behind (omega (arith, zero-mul i.grain)) inside
 
       pub leaves_behind : LeavesBehind d i e j
       leaves_behind (Place x) misses told = (
         same_image,
         λ inside.
-            (let behind : 512 ≤ x = ⊎_elim (λ (front : x < 512). absurd (misses x front (omega arith))) (λ h. h) (cases_lt x 512) in (
+            (let behind : 512 ≤ x = ⊎_elim (λ (front : x < 512). absurd (misses x front (omega arith))) (λ h. h)
+            (cases_lt x 512) in (
               behind_kept x behind inside (inr (inl told)),
               grow (OnlyWrites (HoldsAt i.grain x (byte_of d i x))) tt (holds told x behind inside, tt),
             )),
@@ -185,7 +208,8 @@ module _ (d : disks.State) (i : ImageState) (w : List ℕ) (sound : disks.IsSoun
       leaves_behind (Sector number) misses told = (
         same_image,
         λ clean.
-            (let apart : number ≢ 0 = λ here. misses 0 (omega arith) (front_sector i.grain i.layout.known (0 + 0) (omega arith) ∙ sym here) in (
+            (let apart : number ≢ 0 = λ here.
+            misses 0 (omega arith) (front_sector i.grain i.layout.known (0 + 0) (omega arith) ∙ sym here) in (
               same.others number apart ∙ clean,
               grow (OnlyWrites (λ sector written. sector ≢ number)) tt (λ is. apart (sym is), tt),
               sure number apart,
@@ -194,8 +218,10 @@ module _ (d : disks.State) (i : ImageState) (w : List ℕ) (sound : disks.IsSoun
       leaves_behind other misses told = (same_image, tt)
 
 -- sector 0 was written
-pub leaves_front : (d : disks.State) (i : ImageState) (w front : List ℕ) → disks.IsSound d → IsDiskOf d i → length w ≡ i.grain → IsSector0 d i w
-    → (e : disks.State) (j : ImageState) → disks.IsSteady d e → IsHeaded front i j → disks.Happens (Write 0 w) d e → LeavesBehind d i e j
+pub leaves_front : (d : disks.State) (i : ImageState) (w front : List ℕ) → disks.IsSound d → IsDiskOf d i
+    → length w ≡ i.grain → IsSector0 d i w
+    → (e : disks.State) (j : ImageState) → disks.IsSteady d e → IsHeaded front i j → disks.Happens (Write 0 w) d e
+    → LeavesBehind d i e j
 leaves_front d i w front sound disk_of long rest e j steady headed happens =
     leaves_behind d i w sound disk_of long rest e j steady (SameFront-headed front i j headed)
     (grew_happens (IsThisOrNone 0 w) (Write 0 w) d e happens (inr refl))
@@ -205,8 +231,10 @@ leaves_front d i w front sound disk_of long rest e j steady headed happens =
     (λ P none such. grew_happens P (Write 0 w) d e happens such)
 
 -- its write failed, and it is changed, if its page is held
-pub leaves_front_failed : (d : disks.State) (i : ImageState) (w : List ℕ) → disks.IsSound d → IsDiskOf d i → length w ≡ i.grain → IsSector0 d i w
-    → (e : disks.State) (j : ImageState) → disks.IsSteady d e → IsFirstMarked i j → disks.GoesOn (disks.WriteFails 0 w) d e → LeavesBehind d i e j
+pub leaves_front_failed : (d : disks.State) (i : ImageState) (w : List ℕ) → disks.IsSound d → IsDiskOf d i
+    → length w ≡ i.grain → IsSector0 d i w
+    → (e : disks.State) (j : ImageState) → disks.IsSteady d e → IsFirstMarked i j
+    → disks.GoesOn (disks.WriteFails 0 w) d e → LeavesBehind d i e j
 leaves_front_failed d i w sound disk_of long rest e j steady marked fails =
     leaves_behind d i w sound disk_of long rest e j steady (SameFront-marked i j marked)
     (grew_failed (IsThisOrNone 0 w) 0 w d e fails (inl refl) (inr refl))
@@ -227,7 +255,8 @@ sector0_held d i out sector known k behind below inside =
     let place : 0 * i.grain + k ≡ k = omega (arith, zero-mul i.grain) in
     sector.each k below (omega arith) ∙ ap (byte_of d i) place
 
-pub sector0_read : (d : disks.State) (i : ImageState) (out : List ℕ) → disks.IsSound d → IsDiskOf d i → is_held i 0 ≡ false → disks.IsRead d 0 out
+pub sector0_read : (d : disks.State) (i : ImageState) (out : List ℕ) → disks.IsSound d → IsDiskOf d i
+    → is_held i 0 ≡ false → disks.IsRead d 0 out
     → IsSector0 d i out
 sector0_read d i out sound disk_of none read (inr held) k behind below inside = absurd (cc)
 sector0_read d i out sound disk_of none read (inl told) k behind below inside =
@@ -235,6 +264,7 @@ sector0_read d i out sound disk_of none read (inl told) k behind below inside =
     let known = by_grain i.grain i.layout.known (λ (g : ℕ). g ≤ 4096) (omega arith) (omega arith) in
     let page : k / 4096 ≡ 0 = omega arith in
     let byte : IsByteRead d i.grain k (get_or out k 0) =
-    subst (λ (x : ℕ). IsByteRead d i.grain x (get_or out k 0)) place (own_read d i.grain 0 out sound (sym disk_of.grain) read k below) in
+    subst (λ (x : ℕ). IsByteRead d i.grain x (get_or out k 0)) place
+    (own_read d i.grain 0 out sound (sym disk_of.grain) read k below) in
     read_told d i k sound disk_of told inside (get_or out k 0) byte
     ∙ sym (byte_unheld d i k behind (ap (is_held i) page ∙ none))

@@ -1,5 +1,6 @@
 -- A page that is filled without being read.
-use Rattle.std.proofs.Common.{◌≡◌, ◌≢◌, ℕ, ◌+◌, ◌-◌, ◌*◌, ◌/◌, ◌%◌, ◌<◌, ◌≤◌, true, false, List, length, get_or, Option, None, min, refl, sym, ◌∙◌, ap, subst, arith, ⊎_elim}
+use Rattle.std.proofs.Common.{◌≡◌, ◌≢◌, ℕ, ◌+◌, ◌-◌, ◌*◌, ◌/◌, ◌%◌, ◌<◌, ◌≤◌, true, false, List, length, get_or, Option}
+use Rattle.std.proofs.Common.{None, min, refl, sym, ◌∙◌, ap, subst, arith, ⊎_elim}
 use Rattle.std.proofs.lemmas.Bool.{cases_lt, cases_Bool}
 use Rattle.save_disk.specs.State as disks
 use Rattle.page_image.specs.declared.state.ImageState.{ImageState}
@@ -8,7 +9,8 @@ use Rattle.page_image.specs.Frames.{SameFrames, IsTouched, IsFrameRead, TakesPag
 use Rattle.page_image.specs.Puts.{IsImagePut}
 use Rattle.page_image.proofs.FrameLemmas.{SameFrames-join, byte_front, byte_held, byte_unheld}
 use Rattle.page_image.proofs.PutLemmas.{IsPiecePut}
-use Rattle.page_image.proofs.RefillLemmas.{as_sector, same_held, same_bytes, touched_changed, touched_held, settled_held, other_held, other_byte, same_settled, as_changed}
+use Rattle.page_image.proofs.RefillLemmas.{as_sector, same_held, same_bytes, touched_changed, touched_held}
+use Rattle.page_image.proofs.RefillLemmas.{settled_held, other_held, other_byte, same_settled, as_changed}
 
 -- a page is held, whatever its frame has; of each other page all is as before, and no other sector is changed
 pub record IsClaimed (page : ℕ) (old new : ImageState) : Type 0 where
@@ -20,7 +22,8 @@ pub record IsClaimed (page : ℕ) (old new : ImageState) : Type 0 where
 
 -- an empty frame that was given the page
 module _ (frame page : ℕ) (i j : ImageState) (settled : TakesPage frame page i j)
-    (empty : get_or i.pages.items frame None ≡ None) (below : frame < length i.pages.items) (inside : page < length i.slots.items)
+    (empty : get_or i.pages.items frame None ≡ None) (below : frame < length i.pages.items)
+    (inside : page < length i.slots.items)
     (apart : is_held i page ≡ false) where
   unread : IsFrameRead frame i i
   unread = record {
@@ -41,7 +44,8 @@ module _ (frame page : ℕ) (i j : ImageState) (settled : TakesPage frame page i
         others = other_held frame i i unread empty page j settled below inside apart;
         bytes = other_byte frame i i unread empty page j settled below inside apart;
         changed = λ sector.
-            as_sector i j sector same.grain (as_changed frame i i unread empty page j settled below inside apart (sector * i.grain));
+            as_sector i j sector same.grain
+            (as_changed frame i i unread empty page j settled below inside apart (sector * i.grain));
       }
 
 -- and then is asked for
@@ -54,15 +58,18 @@ claim_touched page i j k claim touched = record {
   changed = λ sector. touched_changed j k touched sector ∙ claim.changed sector;
 } where
   alike : (other : ℕ) → is_held k other ≡ is_held j other
-  alike other = same_held j k touched.slots other (ap (λ (l : List (Option ℕ)). get_or l (frame_of j other) None) touched.pages)
+  alike other = same_held j k touched.slots other
+      (ap (λ (l : List (Option ℕ)). get_or l (frame_of j other) None) touched.pages)
 
 -- all bytes of the page that lie in the image are put into it
-module _ (e : disks.State) (j t k : ImageState) (at : ℕ) (piece : List ℕ) (claim : IsClaimed (at / 4096) j t) (put : IsImagePut at piece t k)
+module _ (e : disks.State) (j t k : ImageState) (at : ℕ) (piece : List ℕ) (claim : IsClaimed (at / 4096) j t)
+    (put : IsImagePut at piece t k)
     (behind : 512 ≤ at) (begins : at % 4096 ≡ 0) (fills : length piece ≡ min 4096 (j.len - at)) where
   put_byte : (m : ℕ) → m < length piece → byte_of e k (at + m) ≡ get_or piece m 0
   put_byte m below =
       let page : (at + m) / 4096 ≡ at / 4096 = omega arith in
-      byte_held e k (at + m) (omega arith) (put.held ((at + m) / 4096) ∙ ap (is_held t) page ∙ claim.held) ∙ put.written m below
+      byte_held e k (at + m) (omega arith) (put.held ((at + m) / 4096) ∙ ap (is_held t) page ∙ claim.held)
+      ∙ put.written m below
 
   -- a place that was not put lies in another page
   other_page : (x : ℕ) → x < j.len → ((m : ℕ) → m < length piece → x ≢ at + m) → x / 4096 ≢ at / 4096
@@ -74,13 +81,16 @@ module _ (e : disks.State) (j t k : ImageState) (at : ℕ) (piece : List ℕ) (c
       let alike : is_held k (x / 4096) ≡ is_held j (x / 4096) = put.held (x / 4096) ∙ claim.others (x / 4096) away in
       ⊎_elim
       (λ (front : x < 512).
-      byte_front e k x front ∙ ap (λ (l : List ℕ). get_or l x 0) (put.same.header ∙ claim.same.header) ∙ sym (byte_front e j x front))
+      byte_front e k x front ∙ ap (λ (l : List ℕ). get_or l x 0) (put.same.header ∙ claim.same.header)
+      ∙ sym (byte_front e j x front))
       (λ (from : 512 ≤ x).
       ⊎_elim
       (λ (held : is_held j (x / 4096) ≡ true).
-      byte_held e k x from (alike ∙ held) ∙ put.others x (claim.others (x / 4096) away ∙ held) apart ∙ claim.bytes x away held
+      byte_held e k x from (alike ∙ held) ∙ put.others x (claim.others (x / 4096) away ∙ held) apart
+      ∙ claim.bytes x away held
       ∙ sym (byte_held e j x from held))
-      (λ (none : is_held j (x / 4096) ≡ false). byte_unheld e k x from (alike ∙ none) ∙ sym (byte_unheld e j x from none))
+      (λ (none : is_held j (x / 4096) ≡ false). byte_unheld e k x from (alike ∙ none)
+      ∙ sym (byte_unheld e j x from none))
       (cases_Bool (is_held j (x / 4096))))
       (cases_lt x 512)
 
@@ -89,9 +99,11 @@ module _ (e : disks.State) (j t k : ImageState) (at : ℕ) (piece : List ℕ) (c
     same = SameFrames-join j t k claim.same put.same;
     bytes = record { written = put_byte; others = unput_byte };
     marks = record {
-      met = subst (λ (g : ℕ). (m : ℕ) → m < length piece → is_changed k ((at + m) / g) ≡ true) claim.same.grain put.marks.met;
+      met = subst (λ (g : ℕ). (m : ℕ) → m < length piece → is_changed k ((at + m) / g) ≡ true) claim.same.grain
+          put.marks.met;
       others = λ sector missed.
-          put.marks.others sector (λ m below here. missed m below (ap (λ (g : ℕ). (at + m) / g) (sym claim.same.grain) ∙ here))
+          put.marks.others sector (λ m below here.
+          missed m below (ap (λ (g : ℕ). (at + m) / g) (sym claim.same.grain) ∙ here))
           ∙ claim.changed sector;
     };
   }

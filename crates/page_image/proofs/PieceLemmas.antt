@@ -18,7 +18,8 @@ use Rattle.page_image.specs.Held.{shown, SameImageView, ImageKeeps}
 use Rattle.page_image.specs.Laws.{SameImage-shape}
 
 -- held bytes are a piece of the space
-pub image_piece : (d : disks.State) (i : ImageState) (at most : ℕ) (piece : Bor (List ℕ)) → IsHeldPiece d i at most piece.now
+pub image_piece : (d : disks.State) (i : ImageState) (at most : ℕ) (piece : Bor (List ℕ))
+    → IsHeldPiece d i at most piece.now
     → IsPiece (image_state d i) at most (Ok piece)
 image_piece d i at most piece held = record {
   some = held.some;
@@ -30,14 +31,16 @@ image_piece d i at most piece held = record {
 }
 
 -- and a piece of the space before the page was brought
-pub brought_piece : (d e : disks.State) (i j : ImageState) (at most : ℕ) (piece : Bor (List ℕ)) → LeavesTold d i e j → IsHeldPiece e j at most piece.now
+pub brought_piece : (d e : disks.State) (i j : ImageState) (at most : ℕ) (piece : Bor (List ℕ)) → LeavesTold d i e j
+    → IsHeldPiece e j at most piece.now
     → IsPiece (image_state d i) at most (Ok piece)
 brought_piece d e i j at most piece leaves held = record {
   some = held.some;
   bounded = held.bounded;
   inside = omega (arith, held.inside, (leaves Frame tt).0.len);
   bytes = λ told k within.
-      ap Byte (sym (held.bytes k within ∙ ((leaves (Place (at + k)) told).1 (omega (arith, held.inside, (leaves Frame tt).0.len))).0));
+      ap Byte (sym (held.bytes k within
+      ∙ ((leaves (Place (at + k)) told).1 (omega (arith, held.inside, (leaves Frame tt).0.len))).0));
   damaged = λ told. tt;
   plain = λ plain. tt;
 }

@@ -1,5 +1,6 @@
 -- What a put leaves, page by page.
-use Rattle.std.proofs.Common.{◌≡◌, ◌≢◌, ◌⊎◌, ℕ, ◌+◌, ◌-◌, ◌*◌, ◌/◌, ◌%◌, ◌<◌, ◌≤◌, true, false, IsTrue, List, length, get_or, take, drop}
+use Rattle.std.proofs.Common.{◌≡◌, ◌≢◌, ◌⊎◌, ℕ, ◌+◌, ◌-◌, ◌*◌, ◌/◌, ◌%◌, ◌<◌, ◌≤◌, true, false, IsTrue, List, length}
+use Rattle.std.proofs.Common.{get_or, take, drop}
 use Rattle.std.proofs.Common.{refl, sym, ◌∙◌, ap, subst, arith, inl, inr, ⊎_elim}
 use Rattle.std.specs.Bool.{⊤}
 use Rattle.std.proofs.lemmas.List.{get_or-take, get_or-drop, length-drop, length-take-le}
@@ -9,7 +10,8 @@ use Rattle.save_disk.specs.State as disks
 use Rattle.save_disk.specs.Tells.{tells}
 use Rattle.save_disk.specs.Writes.{WritesOnly, WritesTo}
 use Rattle.save_disk.specs.Keeps.{HoldsAt}
-use Rattle.save_disk.proofs.Growth.{WritesOnly-quiet, WritesOnly-join, WritesOnly-map, WritesOnly-all, WritesTo-first, WritesTo-later}
+use Rattle.save_disk.proofs.Growth.{WritesOnly-quiet, WritesOnly-join, WritesOnly-map, WritesOnly-all, WritesTo-first}
+use Rattle.save_disk.proofs.Growth.{WritesTo-later}
 use Rattle.save_disk.proofs.Telling.{steady_start}
 use Rattle.page_image.specs.declared.state.ImageState.{ImageState}
 use Rattle.page_image.specs.Images.{is_held, byte_of, is_changed, Mirrors, IsDiskOf}
@@ -30,22 +32,26 @@ pub record IsPiecePut (disk : disks.State) (at : ℕ) (piece : List ℕ) (old ne
   pub marks : Marks at (length piece) old new
 
 -- so it is where it was put into a page that is held
-module _ (e : disks.State) (j k : ImageState) (at : ℕ) (piece : List ℕ) (put : IsImagePut at piece j k) (behind : 512 ≤ at)
+module _ (e : disks.State) (j k : ImageState) (at : ℕ) (piece : List ℕ) (put : IsImagePut at piece j k)
+    (behind : 512 ≤ at)
     (in_page : at % 4096 + length piece ≤ 4096) (there : is_held j (at / 4096) ≡ true) where
   put_byte : (m : ℕ) → m < length piece → byte_of e k (at + m) ≡ get_or piece m 0
   put_byte m below =
       let page : (at + m) / 4096 ≡ at / 4096 = omega arith in
-      byte_held e k (at + m) (omega arith) (put.held ((at + m) / 4096) ∙ ap (is_held j) page ∙ there) ∙ put.written m below
+      byte_held e k (at + m) (omega arith) (put.held ((at + m) / 4096) ∙ ap (is_held j) page ∙ there)
+      ∙ put.written m below
 
   other_byte : (x : ℕ) → ((m : ℕ) → m < length piece → x ≢ at + m) → byte_of e k x ≡ byte_of e j x
   other_byte x apart =
       ⊎_elim
-      (λ (front : x < 512). byte_front e k x front ∙ ap (λ (l : List ℕ). get_or l x 0) put.same.header ∙ sym (byte_front e j x front))
+      (λ (front : x < 512). byte_front e k x front ∙ ap (λ (l : List ℕ). get_or l x 0) put.same.header
+      ∙ sym (byte_front e j x front))
       (λ (from : 512 ≤ x).
       ⊎_elim
       (λ (held : is_held j (x / 4096) ≡ true).
       byte_held e k x from (put.held (x / 4096) ∙ held) ∙ put.others x held apart ∙ sym (byte_held e j x from held))
-      (λ (none : is_held j (x / 4096) ≡ false). byte_unheld e k x from (put.held (x / 4096) ∙ none) ∙ sym (byte_unheld e j x from none))
+      (λ (none : is_held j (x / 4096) ≡ false). byte_unheld e k x from (put.held (x / 4096) ∙ none)
+      ∙ sym (byte_unheld e j x from none))
       (cases_Bool (is_held j (x / 4096))))
       (cases_lt x 512)
 
@@ -57,7 +63,8 @@ module _ (e : disks.State) (j k : ImageState) (at : ℕ) (piece : List ℕ) (put
   }
 
 -- what such a put leaves
-module _ (e : disks.State) (j k : ImageState) (at : ℕ) (piece : List ℕ) (disk_of : IsDiskOf e j) (put : IsPiecePut e at piece j k) where
+module _ (e : disks.State) (j k : ImageState) (at : ℕ) (piece : List ℕ) (disk_of : IsDiskOf e j)
+    (put : IsPiecePut e at piece j k) where
   -- a sector that is not changed now has no place of the piece
   unmet : (sector : ℕ) → is_changed k sector ≡ false → (m : ℕ) → m < length piece → (at + m) / j.grain ≢ sector
   unmet sector clean m within same =
@@ -68,14 +75,20 @@ module _ (e : disks.State) (j k : ImageState) (at : ℕ) (piece : List ℕ) (dis
   mirrors : Mirrors e k
   mirrors told is x from below_now sure_now clean_now =
       let inside : x < j.len = subst (λ (n : ℕ). x < n) put.same.len below_now in
-      let sure : IsTrue (told.sure (x / j.grain)) = subst (λ (g : ℕ). IsTrue (told.sure (x / g))) put.same.grain sure_now in
-      let clean : is_changed k (x / j.grain) ≡ false = subst (λ (g : ℕ). is_changed k (x / g) ≡ false) put.same.grain clean_now in
+      let sure : IsTrue (told.sure (x / j.grain)) =
+      subst (λ (g : ℕ). IsTrue (told.sure (x / g))) put.same.grain sure_now in
+      let clean : is_changed k (x / j.grain) ≡ false =
+      subst (λ (g : ℕ). is_changed k (x / g) ≡ false) put.same.grain clean_now in
       let missed = unmet (x / j.grain) clean in
       disk_of.mirrors told is x from inside sure (sym (put.marks.others (x / j.grain) missed) ∙ clean)
       ∙ sym (put.bytes.others x inside (λ m within same. missed m within (ap (λ (y : ℕ). y / j.grain) (sym same))))
 
   put_disk_of : IsDiskOf e k
-  put_disk_of = record { size = disk_of.size ∙ sym put.same.len; grain = disk_of.grain ∙ sym put.same.grain; mirrors = mirrors }
+  put_disk_of = record {
+    size = disk_of.size ∙ sym put.same.len;
+    grain = disk_of.grain ∙ sym put.same.grain;
+    mirrors = mirrors;
+  }
 
   put_image : SameImage e j e k
   put_image = record {
@@ -90,24 +103,35 @@ module _ (e : disks.State) (j k : ImageState) (at : ℕ) (piece : List ℕ) (dis
 
   -- a spot that the put misses is left alone
   put_spot : (spot : Spot) → Misses (ImageLands j.grain) at (length piece) spot → SameImageSpot spot e j e k
-  put_spot (Place x) misses = λ inside.
-      (put.bytes.others x inside (λ m within same. misses m within (sym same)), WritesOnly-quiet (HoldsAt j.grain x (byte_of e j x)) e e refl)
+  put_spot (Place x) misses = λ inside. (
+    put.bytes.others x inside (λ m within same. misses m within (sym same)),
+    WritesOnly-quiet (HoldsAt j.grain x (byte_of e j x)) e e refl,
+  )
   put_spot (Sector number) misses =
-      λ clean. (put.marks.others number misses ∙ clean, WritesOnly-quiet (λ sector bytes. sector ≢ number) e e refl, sure_start number e.told)
+      λ clean. (
+        put.marks.others number misses ∙ clean,
+        WritesOnly-quiet (λ sector bytes. sector ≢ number) e e refl,
+        sure_start number e.told,
+      )
   put_spot other misses = tt
 
 -- each write of a call that leaves each place alone holds the image
-pub holds_image : (d e : disks.State) (i j : ImageState) → tells d ≡ true → LeavesTold d i e j → WritesOnly (HoldsImage d i) d e
+pub holds_image : (d e : disks.State) (i j : ImageState) → tells d ≡ true → LeavesTold d i e j
+    → WritesOnly (HoldsImage d i) d e
 holds_image d e i j told leaves =
-    WritesOnly-map (λ sector bytes. (x : ℕ) → x < i.len → HoldsAt i.grain x (byte_of d i x) sector bytes) (HoldsImage d i) (λ sector bytes h. h) d e
-    (WritesOnly-all (λ (x sector : ℕ) (bytes : List ℕ). x < i.len → HoldsAt i.grain x (byte_of d i x) sector bytes) (λ sector bytes. ⊤) d e
+    WritesOnly-map (λ sector bytes. (x : ℕ) → x < i.len → HoldsAt i.grain x (byte_of d i x) sector bytes)
+    (HoldsImage d i) (λ sector bytes h. h) d e
+    (WritesOnly-all (λ (x sector : ℕ) (bytes : List ℕ). x < i.len → HoldsAt i.grain x (byte_of d i x) sector bytes)
+    (λ sector bytes. ⊤) d e
     (leaves Frame tt).0.writes each)
   where
-    each : (x : ℕ) → WritesOnly (λ (sector : ℕ) (bytes : List ℕ). x < i.len → HoldsAt i.grain x (byte_of d i x) sector bytes) d e
+    each : (x : ℕ) → WritesOnly (λ (sector : ℕ) (bytes : List ℕ). x < i.len
+        → HoldsAt i.grain x (byte_of d i x) sector bytes) d e
     each x =
         ⊎_elim
         (λ (inside : x < i.len).
-        WritesOnly-map (HoldsAt i.grain x (byte_of d i x)) (λ sector bytes. x < i.len → HoldsAt i.grain x (byte_of d i x) sector bytes)
+        WritesOnly-map (HoldsAt i.grain x (byte_of d i x))
+        (λ sector bytes. x < i.len → HoldsAt i.grain x (byte_of d i x) sector bytes)
         (λ sector bytes h below. h) d e (((leaves (Place x) told).1 inside).1))
         (λ (past : i.len ≤ x).
         WritesOnly-map (λ sector bytes. ⊤) (λ sector bytes. x < i.len → HoldsAt i.grain x (byte_of d i x) sector bytes)
@@ -115,15 +139,19 @@ holds_image d e i j told leaves =
         (cases_lt x i.len)
 
 -- a page is reached, and then put into
-module _ (d e : disks.State) (i j k : ImageState) (at : ℕ) (piece : List ℕ) (leaves : LeavesTold d i e j) (told : tells e ≡ tells d) (disk_of : IsDiskOf e j)
+module _ (d e : disks.State) (i j k : ImageState) (at : ℕ) (piece : List ℕ) (leaves : LeavesTold d i e j)
+    (told : tells e ≡ tells d) (disk_of : IsDiskOf e j)
     (put : IsPiecePut e at piece j k) where
   reached : SameImage d i e j
   reached = (leaves Frame tt).0
 
-  missed_there : (spot : Spot) → Misses (ImageLands i.grain) at (length piece) spot → Misses (ImageLands j.grain) at (length piece) spot
-  missed_there spot misses = λ m below lands. misses m below (subst (λ (g : ℕ). ImageLands g (at + m) spot) reached.grain lands)
+  missed_there : (spot : Spot) → Misses (ImageLands i.grain) at (length piece) spot
+      → Misses (ImageLands j.grain) at (length piece) spot
+  missed_there spot misses = λ m below lands.
+      misses m below (subst (λ (g : ℕ). ImageLands g (at + m) spot) reached.grain lands)
 
-  first_spot : IsTrue (tells d) → (spot : Spot) → IsToldFor spot d → Misses (ImageLands i.grain) at (length piece) spot → SameImageSpot spot d i e k
+  first_spot : IsTrue (tells d) → (spot : Spot) → IsToldFor spot d → Misses (ImageLands i.grain) at (length piece) spot
+      → SameImageSpot spot d i e k
   first_spot is spot asked misses =
       SameImageSpot-join d e e i j k spot reached.len reached.grain (leaves spot asked).1
       (put_spot e j k at piece disk_of put spot (missed_there spot misses))
@@ -141,7 +169,8 @@ module _ (d e : disks.State) (i j k : ImageState) (at : ℕ) (piece : List ℕ) 
       hold = SameImage-join d e e i j k reached (put_image e j k at piece disk_of put);
       spots = λ is spot misses. first_spot is spot (asked is spot) misses;
       old_or_new = λ is.
-          WritesOnly-map (HoldsImage d i) (IsOldOrNewSector d i e k) (λ sector bytes h. record { either = inl h }) d e (holds_image d e i j is leaves);
+          WritesOnly-map (HoldsImage d i) (IsOldOrNewSector d i e k) (λ sector bytes h. record { either = inl h }) d e
+          (holds_image d e i j is leaves);
     };
     put = λ is. record {
       written = put.bytes.written;
@@ -153,7 +182,8 @@ module _ (d e : disks.State) (i j k : ImageState) (at : ℕ) (piece : List ℕ) 
     clean_met : (m : ℕ) → m < length piece → is_changed k ((at + m) / k.grain) ≡ false → ⊥
     clean_met m below clean =
         let met = put.marks.met m below in
-        let same : is_changed k ((at + m) / k.grain) ≡ is_changed k ((at + m) / j.grain) = ap (λ (g : ℕ). is_changed k ((at + m) / g)) put.same.grain in
+        let same : is_changed k ((at + m) / k.grain) ≡ is_changed k ((at + m) / j.grain) =
+        ap (λ (g : ℕ). is_changed k ((at + m) / g)) put.same.grain in
         cc
 
 -- nothing was put yet
@@ -177,8 +207,10 @@ other_image d e i j sector written len grain same holds x inside from below =
     let start : sector * j.grain ≡ sector * i.grain = ap (λ (g : ℕ). sector * g) grain in
     let m : ℕ = x - sector * i.grain in
     let place : sector * i.grain + m ≡ x = omega arith in
-    let page : x / 4096 ≡ sector * i.grain / 4096 = ap (λ (y : ℕ). y / 4096) (sym place) ∙ place_page i.grain i.layout.known sector m (omega arith) in
-    ap (λ (n : ℕ). get_or written (x - n) 0) (sym start) ∙ holds x (omega arith) (omega arith) (omega arith) ∙ same x inside page
+    let page : x / 4096 ≡ sector * i.grain / 4096 = ap (λ (y : ℕ). y / 4096) (sym place)
+    ∙ place_page i.grain i.layout.known sector m (omega arith) in
+    ap (λ (n : ℕ). get_or written (x - n) 0) (sym start) ∙ holds x (omega arith) (omega arith) (omega arith)
+    ∙ same x inside page
 
 -- behind the first bytes of a put
 module _ (at : ℕ) (bytes : List ℕ) (done : ℕ) (d e f : disks.State) (i j k : ImageState)
@@ -190,18 +222,23 @@ module _ (at : ℕ) (bytes : List ℕ) (done : ℕ) (d e f : disks.State) (i j k
   told_now is = first.told ∙ is
 
   -- a spot that the whole put misses is left alone, where the call that comes next leaves it alone
-  later_spot : IsTrue (tells d) → (spot : Spot) → Misses (ImageLands i.grain) at (length bytes) spot → SameImageSpot spot e j f k → SameImageSpot spot d i f k
-  later_spot is spot misses next = SameImageSpot-join d e f i j k spot same.len same.grain (first.some.spots is spot misses) next
+  later_spot : IsTrue (tells d) → (spot : Spot) → Misses (ImageLands i.grain) at (length bytes) spot
+      → SameImageSpot spot e j f k → SameImageSpot spot d i f k
+  later_spot is spot misses next =
+      SameImageSpot-join d e f i j k spot same.len same.grain (first.some.spots is spot misses) next
 
   -- a call comes next that leaves each byte as it is
   module _ (leaves : LeavesTold e j f k) where
-    still : IsTrue (tells d) → (sector : ℕ) (written : List ℕ) → HoldsImage e j sector written → HoldsImage f k sector written
+    still : IsTrue (tells d) → (sector : ℕ) (written : List ℕ) → HoldsImage e j sector written
+        → HoldsImage f k sector written
     still is sector written =
         other_image f e k j sector written (sym hold.len) (sym hold.grain)
         (λ x inside page. sym ((leaves (Place x) (told_now is)).1 (omega (arith, hold.len))).0)
 
-    old_or_still : IsTrue (tells d) → (sector : ℕ) (written : List ℕ) → IsOldOrNewSector d i e j sector written → IsOldOrNewSector d i f k sector written
-    old_or_still is sector written h = record { either = ⊎_elim (λ old. inl old) (λ new. inr (still is sector written new)) h.either }
+    old_or_still : IsTrue (tells d) → (sector : ℕ) (written : List ℕ) → IsOldOrNewSector d i e j sector written
+        → IsOldOrNewSector d i f k sector written
+    old_or_still is sector written h =
+        record { either = ⊎_elim (λ old. inl old) (λ new. inr (still is sector written new)) h.either }
 
     asks : IsTrue (tells e) → (spot : Spot) → IsToldFor spot e
     asks is (Place x) = is
@@ -213,8 +250,10 @@ module _ (at : ℕ) (bytes : List ℕ) (done : ℕ) (d e f : disks.State) (i j k
       spots = λ is spot misses. later_spot is spot misses (leaves spot (asks (told_now is) spot)).1;
       old_or_new = λ is.
           WritesOnly-join (IsOldOrNewSector d i f k) d e f
-          (WritesOnly-map (IsOldOrNewSector d i e j) (IsOldOrNewSector d i f k) (old_or_still is) d e (first.some.old_or_new is))
-          (WritesOnly-map (HoldsImage e j) (IsOldOrNewSector d i f k) (λ sector written h. record { either = inr (still is sector written h) }) e f
+          (WritesOnly-map (IsOldOrNewSector d i e j) (IsOldOrNewSector d i f k) (old_or_still is) d e
+          (first.some.old_or_new is))
+          (WritesOnly-map (HoldsImage e j) (IsOldOrNewSector d i f k)
+          (λ sector written h. record { either = inr (still is sector written h) }) e f
           (holds_image e f j k (told_now is) leaves));
     }
 
@@ -231,61 +270,74 @@ module _ (at : ℕ) (bytes : List ℕ) (done : ℕ) (d e f : disks.State) (i j k
     -- a page with one of the next bytes had none of those that were put
     not_before : IsTrue (tells d) → (x : ℕ) → x < i.len → x / 4096 ≡ (at + done) / 4096 → byte_of e j x ≡ byte_of d i x
     not_before is x inside page =
-        (first.put is).others x inside (λ m below here. ⊎_elim (λ none. absurd (omega arith)) (λ starts. absurd (omega arith)) fresh)
+        (first.put is).others x inside
+        (λ m below here. ⊎_elim (λ none. absurd (omega arith)) (λ starts. absurd (omega arith)) fresh)
 
     -- and another page has none of the next ones
     not_now : IsTrue (tells d) → (x : ℕ) → x < j.len → x / 4096 ≢ (at + done) / 4096 → byte_of f k x ≡ byte_of e j x
     not_now is x inside page = (next.put (told_now is)).others x inside (λ m below here. page (omega arith))
 
-    turned : IsTrue (tells d) → (sector : ℕ) (written : List ℕ) → HoldsImage e j sector written → IsOldOrNewSector d i f k sector written
+    turned : IsTrue (tells d) → (sector : ℕ) (written : List ℕ) → HoldsImage e j sector written
+        → IsOldOrNewSector d i f k sector written
     turned is sector written holds = record {
       either = ⊎_elim
           (λ (here : sector * i.grain / 4096 ≡ (at + done) / 4096).
-          inl (other_image d e i j sector written same.len same.grain (λ x inside page. not_before is x inside (page ∙ here)) holds))
+          inl (other_image d e i j sector written same.len same.grain
+          (λ x inside page. not_before is x inside (page ∙ here)) holds))
           (λ (away : sector * i.grain / 4096 ≢ (at + done) / 4096).
           inr
           (other_image f e k j sector written (sym hold.len) (sym hold.grain)
           (λ x inside page.
-          (let grain : sector * k.grain / 4096 ≡ sector * i.grain / 4096 = ap (λ (g : ℕ). sector * g / 4096) (hold.grain ∙ same.grain) in
+          (let grain : sector * k.grain / 4096 ≡ sector * i.grain / 4096 =
+          ap (λ (g : ℕ). sector * g / 4096) (hold.grain ∙ same.grain) in
           sym (not_now is x (omega (arith, hold.len)) (λ is_there. away (sym grain ∙ sym page ∙ is_there)))))
           holds))
           (cases_eq (sector * i.grain / 4096) ((at + done) / 4096));
     }
 
-    old_or_turned : IsTrue (tells d) → (sector : ℕ) (written : List ℕ) → IsOldOrNewSector d i e j sector written → IsOldOrNewSector d i f k sector written
+    old_or_turned : IsTrue (tells d) → (sector : ℕ) (written : List ℕ) → IsOldOrNewSector d i e j sector written
+        → IsOldOrNewSector d i f k sector written
     old_or_turned is sector written h = ⊎_elim (λ old. record { either = inl old }) (turned is sector written) h.either
 
-    turned_or_new : IsTrue (tells d) → (sector : ℕ) (written : List ℕ) → IsOldOrNewSector e j f k sector written → IsOldOrNewSector d i f k sector written
+    turned_or_new : IsTrue (tells d) → (sector : ℕ) (written : List ℕ) → IsOldOrNewSector e j f k sector written
+        → IsOldOrNewSector d i f k sector written
     turned_or_new is sector written h = ⊎_elim (turned is sector written) (λ new. record { either = inr new }) h.either
 
-    misses_next : (spot : Spot) → Misses (ImageLands i.grain) at (length bytes) spot → Misses (ImageLands j.grain) (at + done) (length part) spot
+    misses_next : (spot : Spot) → Misses (ImageLands i.grain) at (length bytes) spot
+        → Misses (ImageLands j.grain) (at + done) (length part) spot
     misses_next spot misses m below lands =
         let place : at + (done + m) ≡ at + done + m = omega arith in
         misses (done + m) (omega (arith, long))
-        (subst (λ (x : ℕ). ImageLands i.grain x spot) (sym place) (subst (λ (g : ℕ). ImageLands g (at + done + m) spot) same.grain lands))
+        (subst (λ (x : ℕ). ImageLands i.grain x spot) (sym place)
+        (subst (λ (g : ℕ). ImageLands g (at + done + m) spot) same.grain lands))
 
     next_byte : (m : ℕ) → done ≤ m → m < done + n → get_or part (m - done) 0 ≡ get_or bytes m 0
     next_byte m from below =
         get_or-take n (drop done bytes) (m - done) 0 (omega arith) ∙ get_or-drop done bytes (m - done) 0
         ∙ ap (λ (x : ℕ). get_or bytes x 0) (omega arith)
 
-    written_more : IsTrue (tells d) → at + done + n ≤ i.len → (m : ℕ) → m < done + n → byte_of f k (at + m) ≡ get_or bytes m 0
+    written_more : IsTrue (tells d) → at + done + n ≤ i.len → (m : ℕ) → m < done + n
+        → byte_of f k (at + m) ≡ get_or bytes m 0
     written_more is inside m below =
         ⊎_elim
         (λ (low : m < done).
-        (next.put (told_now is)).others (at + m) (omega (arith, same.len)) (λ l small here. omega arith) ∙ (first.put is).written m low)
+        (next.put (told_now is)).others (at + m) (omega (arith, same.len)) (λ l small here. omega arith)
+        ∙ (first.put is).written m low)
         (λ (from : done ≤ m).
-        ap (byte_of f k) (omega arith) ∙ (next.put (told_now is)).written (m - done) (omega arith) ∙ next_byte m from below)
+        ap (byte_of f k) (omega arith) ∙ (next.put (told_now is)).written (m - done) (omega arith)
+        ∙ next_byte m from below)
         (cases_lt m done)
 
-    pending_more : (m : ℕ) → m < done + n → is_changed k ((at + m) / k.grain) ≡ false → WritesTo ((at + m) / k.grain) d f
+    pending_more : (m : ℕ) → m < done + n → is_changed k ((at + m) / k.grain) ≡ false
+        → WritesTo ((at + m) / k.grain) d f
     pending_more m below clean =
         ⊎_elim
         (λ (low : m < done).
         let there : (at + m) / j.grain ≡ (at + m) / k.grain = ap (λ (g : ℕ). (at + m) / g) (sym hold.grain) in
         ⊎_elim
         (λ (still_changed : is_changed j ((at + m) / k.grain) ≡ true).
-        WritesTo-later ((at + m) / k.grain) (λ sector written. ⊤) d e f same.writes (hold.pending ((at + m) / k.grain) still_changed clean))
+        WritesTo-later ((at + m) / k.grain) (λ sector written. ⊤) d e f same.writes
+        (hold.pending ((at + m) / k.grain) still_changed clean))
         (λ (was : is_changed j ((at + m) / k.grain) ≡ false).
         WritesTo-first ((at + m) / k.grain) (λ sector written. ⊤) d e f
         (subst (λ (s : ℕ). WritesTo s d e) there (first.pending m low (ap (is_changed j) there ∙ was))) hold.writes)
@@ -294,23 +346,28 @@ module _ (at : ℕ) (bytes : List ℕ) (done : ℕ) (d e f : disks.State) (i j k
         let place : at + done + (m - done) ≡ at + m = omega arith in
         let there : (at + done + (m - done)) / k.grain ≡ (at + m) / k.grain = ap (λ (x : ℕ). x / k.grain) place in
         WritesTo-later ((at + m) / k.grain) (λ sector written. ⊤) d e f same.writes
-        (subst (λ (s : ℕ). WritesTo s e f) there (next.pending (m - done) (omega arith) (ap (is_changed k) there ∙ clean))))
+        (subst (λ (s : ℕ). WritesTo s e f) there
+        (next.pending (m - done) (omega arith) (ap (is_changed k) there ∙ clean))))
         (cases_lt m done)
 
     pub puts_more : at + length bytes ≤ i.len → PutsFirst at bytes (done + n) d i f k
     puts_more inside = record {
       some = record {
         hold = SameImage-join d e f i j k same hold;
-        spots = λ is spot misses. later_spot is spot misses (next.some.spots (told_now is) spot (misses_next spot misses));
+        spots = λ is spot misses. later_spot is spot misses
+            (next.some.spots (told_now is) spot (misses_next spot misses));
         old_or_new = λ is.
             WritesOnly-join (IsOldOrNewSector d i f k) d e f
-            (WritesOnly-map (IsOldOrNewSector d i e j) (IsOldOrNewSector d i f k) (old_or_turned is) d e (first.some.old_or_new is))
-            (WritesOnly-map (IsOldOrNewSector e j f k) (IsOldOrNewSector d i f k) (turned_or_new is) e f (next.some.old_or_new (told_now is)));
+            (WritesOnly-map (IsOldOrNewSector d i e j) (IsOldOrNewSector d i f k) (old_or_turned is) d e
+            (first.some.old_or_new is))
+            (WritesOnly-map (IsOldOrNewSector e j f k) (IsOldOrNewSector d i f k) (turned_or_new is) e f
+            (next.some.old_or_new (told_now is)));
       };
       put = λ is. record {
         written = written_more is (omega arith);
         others = λ x below apart.
-            (next.put (told_now is)).others x (omega (arith, same.len)) (λ m small here. apart (done + m) (omega arith) (omega arith))
+            (next.put (told_now is)).others x (omega (arith, same.len))
+            (λ m small here. apart (done + m) (omega arith) (omega arith))
             ∙ (first.put is).others x below (λ m small. apart m (omega arith));
       };
       pending = pending_more;

@@ -1,5 +1,6 @@
 -- What calls write, by the spots that they leave alone.
-use Rattle.std.proofs.Common.{◌≡◌, ◌≢◌, ℕ, ◌<◌, false, List, [], ◌∷◌, ◌++◌, Option, Some, None, MatchOption, refl, sym, ◌∙◌, ap, subst}
+use Rattle.std.proofs.Common.{◌≡◌, ◌≢◌, ℕ, ◌<◌, false, List, [], ◌∷◌, ◌++◌, Option, Some, None, MatchOption, refl, sym}
+use Rattle.std.proofs.Common.{◌∙◌, ap, subst}
 use Rattle.std.specs.Bool.{⊤}
 use Rattle.std.proofs.Math.Path.{fun_ext}
 use Rattle.std.proofs.lemmas.List.{append-nil}
@@ -34,8 +35,15 @@ no_writes (Said bytes ∷ events) none = absurd none
 -- a trace to which nothing was added, and of which each read is told as before
 same_told : (a b : Told) → GrewBy (OnlyWrites OfNone) a b → ((number : ℕ) → b.sure number ≡ a.sure number) → b ≡ a
 same_told a b grew sure =
-    let events : b.events ≡ a.events = grew.events ∙ ap (λ (more : List Event). a.events ++ more) (no_writes grew.added grew.such) ∙ append-nil a.events in
-    λ t. record { start = grew.start t; grain = grew.grain t; events = events t; left = grew.left t; sure = fun_ext sure t }
+    let events : b.events ≡ a.events = grew.events
+    ∙ ap (λ (more : List Event). a.events ++ more) (no_writes grew.added grew.such) ∙ append-nil a.events in
+    λ t. record {
+      start = grew.start t;
+      grain = grew.grain t;
+      events = events t;
+      left = grew.left t;
+      sure = fun_ext sure t;
+    }
 
 -- the same of what a disk tells of its trace
 went_same : (o p : Option Told)
@@ -53,7 +61,8 @@ went_same (Some told) p (next, is, grew) sure =
     some_same : (x y : Told) → Some x ≡ Some y → x ≡ y
     some_same x y same = cc
 
-module _ (disk : disks.State) (image : ImageState) (disk_new : disks.State) (image_new : ImageState) (clean : IsClean image)
+module _ (disk : disks.State) (image : ImageState) (disk_new : disks.State) (image_new : ImageState)
+    (clean : IsClean image)
     (leaves : (number : ℕ) → Leaves (Sector number) disk image disk_new image_new) where
   -- a call that leaves alone each sector of an image of which nothing is changed leaves the disk's trace as it is
   pub quiet_where_clean : disks.IsQuiet disk disk_new
@@ -67,16 +76,19 @@ module _ (disk : disks.State) (image : ImageState) (disk_new : disks.State) (ima
   pub clean_where_clean : IsClean image_new
   clean_where_clean = λ number. ((leaves number).1 (clean number)).0
 
-module _ {D : Type 0} (states : D → disks.State) (lands : Image D → ℕ → Spot → Type 0) (s t : Image D) (refusal : Option Bad)
+module _ {D : Type 0} (states : D → disks.State) (lands : Image D → ℕ → Spot → Type 0) (s t : Image D)
+    (refusal : Option Bad)
     (reads : Reads (shown states) (ImageKeeps states) lands s t refusal) (clean : IsClean s.image.now) where
   -- so does a call that reads, on every disk
   pub quiet_reads : disks.IsQuiet (states s.disk.now) (states t.disk.now)
   quiet_reads =
-      quiet_where_clean (states s.disk.now) s.image.now (states t.disk.now) t.image.now clean (λ number. (reads.sectors number).1)
+      quiet_where_clean (states s.disk.now) s.image.now (states t.disk.now) t.image.now clean
+      (λ number. (reads.sectors number).1)
 
   pub clean_reads : IsClean t.image.now
   clean_reads =
-      clean_where_clean (states s.disk.now) s.image.now (states t.disk.now) t.image.now clean (λ number. (reads.sectors number).1)
+      clean_where_clean (states s.disk.now) s.image.now (states t.disk.now) t.image.now clean
+      (λ number. (reads.sectors number).1)
 
 -- a place that is missed, or a sector that is missed and not changed
 data Left (i : ImageState) (at n : ℕ) : Type 0 where

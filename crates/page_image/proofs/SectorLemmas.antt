@@ -1,5 +1,6 @@
 -- The sectors that a range meets.
-use Rattle.std.proofs.Common.{◌≡◌, ℕ, ◌+◌, ◌-◌, ◌*◌, ◌/◌, ◌%◌, ◌<◌, ◌≤◌, IsTrue, refl, sym, ◌∙◌, ap, subst, arith, ⊎_elim}
+use Rattle.std.proofs.Common.{◌≡◌, ℕ, ◌+◌, ◌-◌, ◌*◌, ◌/◌, ◌%◌, ◌<◌, ◌≤◌, IsTrue, refl, sym, ◌∙◌, ap, subst, arith}
+use Rattle.std.proofs.Common.{⊎_elim}
 use Rattle.std.proofs.Math.Nat.{mul-le-mul_left, mul-div_cancel, div-mul-le_self}
 use Rattle.std.proofs.lemmas.Nat.{div-add-mod', mod_below, le-div}
 use Rattle.std.proofs.lemmas.Bool.{cases_lt}
@@ -8,12 +9,14 @@ use Rattle.page_image.specs.Layout.{IsEndOf}
 
 -- a sector has bytes
 pub some_grain : (grain : ℕ) → IsTrue (is_grain grain) → 1 ≤ grain
-some_grain grain known = ⊎_elim (λ (is : grain ≡ 512). omega arith) (λ (is : grain ≡ 4096). omega arith) (known_grain grain known)
+some_grain grain known = ⊎_elim (λ (is : grain ≡ 512). omega arith) (λ (is : grain ≡ 4096). omega arith)
+    (known_grain grain known)
 
 -- what holds of both grains holds of each
 pub by_grain : (grain : ℕ) → IsTrue (is_grain grain) → (P : ℕ → Type 0) → P 512 → P 4096 → P grain
 by_grain grain known P narrow wide =
-    ⊎_elim (λ (is : grain ≡ 512). subst P (sym is) narrow) (λ (is : grain ≡ 4096). subst P (sym is) wide) (known_grain grain known)
+    ⊎_elim (λ (is : grain ≡ 512). subst P (sym is) narrow) (λ (is : grain ≡ 4096). subst P (sym is) wide)
+    (known_grain grain known)
 
 module _ (grain : ℕ) (known : IsTrue (is_grain grain)) where
   -- a place lies in the page in which its sector begins
@@ -26,28 +29,34 @@ module _ (grain : ℕ) (known : IsTrue (is_grain grain)) where
 
   pub place_page : (s k : ℕ) → k < grain → (s * grain + k) / 4096 ≡ s * grain / 4096
   place_page s k =
-      by_grain grain known (λ (g : ℕ). k < g → (s * g + k) / 4096 ≡ s * g / 4096) (λ below. omega arith) (λ below. omega arith)
+      by_grain grain known (λ (g : ℕ). k < g → (s * g + k) / 4096 ≡ s * g / 4096) (λ below. omega arith)
+      (λ below. omega arith)
 
   pub place_rest : (s k : ℕ) → k < grain → (s * grain + k) % 4096 ≡ s * grain % 4096 + k
   place_rest s k =
-      by_grain grain known (λ (g : ℕ). k < g → (s * g + k) % 4096 ≡ s * g % 4096 + k) (λ below. omega arith) (λ below. omega arith)
+      by_grain grain known (λ (g : ℕ). k < g → (s * g + k) % 4096 ≡ s * g % 4096 + k) (λ below. omega arith)
+      (λ below. omega arith)
 
   -- two sectors of a page have two marks
-  pub own_mark : (s t : ℕ) → s * grain / 4096 ≡ t * grain / 4096 → s * grain % 4096 / 512 ≡ t * grain % 4096 / 512 → s ≡ t
+  pub own_mark : (s t : ℕ) → s * grain / 4096 ≡ t * grain / 4096 → s * grain % 4096 / 512 ≡ t * grain % 4096 / 512
+      → s ≡ t
   own_mark s t =
       by_grain grain known (λ (g : ℕ). s * g / 4096 ≡ t * g / 4096 → s * g % 4096 / 512 ≡ t * g % 4096 / 512 → s ≡ t)
       (λ page mark. omega arith) (λ page mark. omega arith)
 
   -- from one sector of a page to another the marks go on as the sectors do
-  pub marks_rise : (s t : ℕ) → s * grain / 4096 ≡ t * grain / 4096 → s * grain % 4096 / 512 + t ≡ t * grain % 4096 / 512 + s
+  pub marks_rise : (s t : ℕ) → s * grain / 4096 ≡ t * grain / 4096
+      → s * grain % 4096 / 512 + t ≡ t * grain % 4096 / 512 + s
   marks_rise s t =
       by_grain grain known (λ (g : ℕ). s * g / 4096 ≡ t * g / 4096 → s * g % 4096 / 512 + t ≡ t * g % 4096 / 512 + s)
       (λ page. omega arith) (λ page. omega arith)
 
   -- the sectors that begin in a page
-  pub page_sectors : (s page : ℕ) → s * grain / 4096 ≡ page → (page * (4096 / grain) ≤ s) × (s < page * (4096 / grain) + 4096 / grain)
+  pub page_sectors : (s page : ℕ) → s * grain / 4096 ≡ page → (page * (4096 / grain) ≤ s)
+      × (s < page * (4096 / grain) + 4096 / grain)
   page_sectors s page =
-      by_grain grain known (λ (g : ℕ). s * g / 4096 ≡ page → (page * (4096 / g) ≤ s) × (s < page * (4096 / g) + 4096 / g))
+      by_grain grain known (λ (g : ℕ). s * g / 4096 ≡ page → (page * (4096 / g) ≤ s)
+      × (s < page * (4096 / g) + 4096 / g))
       (λ is. (omega arith, omega arith)) (λ is. (omega arith, omega arith))
 
   -- and the place at which the first of them does
@@ -64,7 +73,8 @@ module _ (grain : ℕ) (known : IsTrue (is_grain grain)) where
 
   -- and a later sector has none of them
   pub behind_front : (s k : ℕ) → 1 ≤ s → 512 ≤ s * grain + k
-  behind_front s k = by_grain grain known (λ (g : ℕ). 1 ≤ s → 512 ≤ s * g + k) (λ some. omega arith) (λ some. omega arith)
+  behind_front s k = by_grain grain known (λ (g : ℕ). 1 ≤ s → 512 ≤ s * g + k) (λ some. omega arith)
+      (λ some. omega arith)
 
 -- a later place lies in no earlier sector
 pub rising : (a b grain : ℕ) → 1 ≤ grain → a ≤ b → a / grain ≤ b / grain
@@ -91,7 +101,8 @@ sectors_up_to at n grain some places =
     let last : at ≤ at + n - 1 = omega arith in
     record {
       ordered = omega (arith, rising at (at + n - 1) grain some last);
-      met = λ k below. (let upto : at + k ≤ at + n - 1 = omega arith in omega (arith, rising (at + k) (at + n - 1) grain some upto));
+      met = λ k below. (let upto : at + k ≤ at + n - 1 = omega arith in
+          omega (arith, rising (at + k) (at + n - 1) grain some upto));
       tight = λ sector from below. (let met = meets at (at + n - 1) grain sector some last from (omega arith) in
           (met.0 - at, omega (arith, met.1, met.2), ap (λ (y : ℕ). y / grain) (omega (arith, met.1)) ∙ met.3));
     }

@@ -1,5 +1,6 @@
 -- What a put and a write of a sector make of the frames.
-use Rattle.std.proofs.Common.{◌≡◌, ◌≢◌, ℕ, ◌+◌, ◌-◌, ◌*◌, ◌/◌, ◌%◌, ◌<◌, ◌≤◌, Bool, true, false, List, length, get_or, set}
+use Rattle.std.proofs.Common.{◌≡◌, ◌≢◌, ℕ, ◌+◌, ◌-◌, ◌*◌, ◌/◌, ◌%◌, ◌<◌, ◌≤◌, Bool, true, false, List, length, get_or}
+use Rattle.std.proofs.Common.{set}
 use Rattle.std.proofs.Common.{Option, Some, None, refl, sym, ◌∙◌, ap, subst, arith, ⊎_elim}
 use Rattle.std.proofs.Math.Nat.{zero-mul, div-mul-le_self}
 use Rattle.std.proofs.lemmas.List.{get_or-set_same, get_or-set_other}
@@ -16,7 +17,8 @@ some_same : (x y : ℕ) → Some x ≡ Some y → x ≡ y
 some_same x y same = cc
 
 -- pages that are held in one frame are one page
-pub one_page : (i : ImageState) (p q : ℕ) → is_held i p ≡ true → is_held i q ≡ true → frame_of i p ≡ frame_of i q → p ≡ q
+pub one_page : (i : ImageState) (p q : ℕ) → is_held i p ≡ true → is_held i q ≡ true → frame_of i p ≡ frame_of i q
+    → p ≡ q
 one_page i p q first second same =
     some_same p q (sym (held_in i p first) ∙ ap (λ (f : ℕ). get_or i.pages.items f None) same ∙ held_in i q second)
 
@@ -29,7 +31,8 @@ module _ (i j : ImageState) (len : j.len ≡ i.len) (grain : j.grain ≡ i.grain
   pub held_alike : (page : ℕ) → is_held j page ≡ is_held i page
   unfolding is_held
   held_alike page =
-      ap (is_page page) (ap (λ (f : ℕ). get_or j.pages.items f None) (frame_alike page) ∙ ap (λ (l : List (Option ℕ)). get_or l (frame_of i page) None) pages)
+      ap (is_page page) (ap (λ (f : ℕ). get_or j.pages.items f None) (frame_alike page)
+      ∙ ap (λ (l : List (Option ℕ)). get_or l (frame_of i page) None) pages)
 
   pub byte_alike : (x : ℕ) → held_byte j x ≡ get_or j.bytes.items (frame_of i (x / 4096) * 4096 + x % 4096) 0
   unfolding held_byte
@@ -48,10 +51,12 @@ module _ (i j : ImageState) (len : j.len ≡ i.len) (grain : j.grain ≡ i.grain
       (bytes : j.bytes.items ≡ i.bytes.items) (changed : j.changed.items ≡ set i.changed.items at mark) where
     taken : mark_of j (s * i.grain) ≡ mark
     taken =
-        mark_alike (s * i.grain) ∙ ap (λ (k : ℕ). get_or j.changed.items k false) (sym is) ∙ ap (λ (l : List Bool). get_or l at false) changed
+        mark_alike (s * i.grain) ∙ ap (λ (k : ℕ). get_or j.changed.items k false) (sym is)
+        ∙ ap (λ (l : List Bool). get_or l at false) changed
         ∙ get_or-set_same i.changed.items at mark false fits
 
-    left_alone : (other : ℕ) → other ≢ s → is_held i (other * i.grain / 4096) ≡ true → mark_of j (other * i.grain) ≡ mark_of i (other * i.grain)
+    left_alone : (other : ℕ) → other ≢ s → is_held i (other * i.grain / 4096) ≡ true
+        → mark_of j (other * i.grain) ≡ mark_of i (other * i.grain)
     unfolding mark_of
     left_alone other apart held =
         let k : ℕ = frame_of i (other * i.grain / 4096) * 8 + other * i.grain % 4096 / 512 in
@@ -59,7 +64,8 @@ module _ (i j : ImageState) (len : j.len ≡ i.len) (grain : j.grain ≡ i.grain
         (let frames : frame_of i (other * i.grain / 4096) ≡ frame_of i (s * i.grain / 4096) = omega arith in
         let page = one_page i (other * i.grain / 4096) (s * i.grain / 4096) held there frames in
         apart (own_mark i.grain i.layout.known other s page (omega arith))) in
-        mark_alike (other * i.grain) ∙ ap (λ (l : List Bool). get_or l k false) changed ∙ get_or-set_other i.changed.items at k mark false away
+        mark_alike (other * i.grain) ∙ ap (λ (l : List Bool). get_or l k false) changed
+        ∙ get_or-set_other i.changed.items at k mark false away
 
     byte_kept : (x : ℕ) → held_byte j x ≡ held_byte i x
     unfolding held_byte
@@ -67,7 +73,8 @@ module _ (i j : ImageState) (len : j.len ≡ i.len) (grain : j.grain ≡ i.grain
 
     others_kept : (other : ℕ) → other ≢ s → is_changed j other ≡ is_changed i other
     others_kept other apart =
-        as_changed other (changed_alike i j (other * i.grain) len (held_alike (other * i.grain / 4096)) (left_alone other apart))
+        as_changed other (changed_alike i j (other * i.grain) len (held_alike (other * i.grain / 4096))
+        (left_alone other apart))
 
     pub marked : SameFrames i j → s ≡ 0 → mark ≡ true → IsFirstMarked i j
     marked same first set = record {
@@ -94,7 +101,8 @@ module _ (i j : ImageState) (len : j.len ≡ i.len) (grain : j.grain ≡ i.grain
     }
 
   -- a piece is put into one page
-  module _ (at : ℕ) (piece : List ℕ) (some : 1 ≤ length piece) (inside : at + length piece ≤ i.len) (in_page : at % 4096 + length piece ≤ 4096)
+  module _ (at : ℕ) (piece : List ℕ) (some : 1 ≤ length piece) (inside : at + length piece ≤ i.len)
+      (in_page : at % 4096 + length piece ≤ 4096)
       (there : is_held i (at / 4096) ≡ true) (start : ℕ) (is : start ≡ frame_of i (at / 4096) * 4096 + at % 4096) where
     at_page : (k : ℕ) → k < length piece → (at + k) / 4096 ≡ at / 4096
     at_page k below = omega arith
@@ -110,7 +118,8 @@ module _ (i j : ImageState) (len : j.len ≡ i.len) (grain : j.grain ≡ i.grain
 
     module _ (before : (x : ℕ) → x < start → get_or j.bytes.items x 0 ≡ get_or i.bytes.items x 0)
         (behind : (x : ℕ) → start + length piece ≤ x → get_or j.bytes.items x 0 ≡ get_or i.bytes.items x 0) where
-      put_others : (x : ℕ) → is_held i (x / 4096) ≡ true → ((k : ℕ) → k < length piece → x ≢ at + k) → held_byte j x ≡ held_byte i x
+      put_others : (x : ℕ) → is_held i (x / 4096) ≡ true → ((k : ℕ) → k < length piece → x ≢ at + k)
+          → held_byte j x ≡ held_byte i x
       unfolding held_byte
       put_others x held apart =
           let k : ℕ = frame_of i (x / 4096) * 4096 + x % 4096 in
@@ -157,9 +166,11 @@ module _ (i j : ImageState) (len : j.len ≡ i.len) (grain : j.grain ≡ i.grain
           → first + (end - at / i.grain) ≤ length i.changed.items
       marks_fit whole below = let frame = in_frame in let is_first = first_mark in omega arith
 
-      module _ (set_within : (k : ℕ) → first ≤ k → k < first + (end - at / i.grain) → get_or j.changed.items k false ≡ true)
+      module _ (set_within : (k : ℕ) → first ≤ k → k < first + (end - at / i.grain)
+          → get_or j.changed.items k false ≡ true)
           (set_before : (k : ℕ) → k < first → get_or j.changed.items k false ≡ get_or i.changed.items k false)
-          (set_behind : (k : ℕ) → first + (end - at / i.grain) ≤ k → get_or j.changed.items k false ≡ get_or i.changed.items k false) where
+          (set_behind : (k : ℕ) → first + (end - at / i.grain) ≤ k
+          → get_or j.changed.items k false ≡ get_or i.changed.items k false) where
         put_met : (k : ℕ) → k < length piece → is_changed j ((at + k) / i.grain) ≡ true
         put_met k below =
             let s : ℕ = (at + k) / i.grain in
@@ -168,16 +179,19 @@ module _ (i j : ImageState) (len : j.len ≡ i.len) (grain : j.grain ≡ i.grain
             let upto : s < end = is_end.met k below in
             let rise = marks_rise i.grain i.layout.known s (at / i.grain) (page ∙ sym first_page) in
             let is_first = first_mark in
-            let index : frame_of i (s * i.grain / 4096) * 8 + s * i.grain % 4096 / 512 ≡ frame_of i (at / 4096) * 8 + s * i.grain % 4096 / 512 =
+            let index : frame_of i (s * i.grain / 4096) * 8 + s * i.grain % 4096 / 512 ≡ frame_of i
+            (at / 4096) * 8 + s * i.grain % 4096 / 512 =
             ap (λ (p : ℕ). frame_of i p * 8 + s * i.grain % 4096 / 512) page in
             let low : s * i.grain < j.len = (let starts = div-mul-le_self (at + k) i.grain in omega arith) in
-            let held : is_held j (s * i.grain / 4096) ≡ true = held_alike (s * i.grain / 4096) ∙ ap (is_held i) page ∙ there in
+            let held : is_held j (s * i.grain / 4096) ≡ true = held_alike (s * i.grain / 4096) ∙ ap (is_held i) page
+            ∙ there in
             ap (λ (g : ℕ). is_changed_at j (s * g)) grain
             ∙ changed_from j (s * i.grain) low held
             ∙ mark_alike (s * i.grain)
             ∙ set_within (frame_of i (s * i.grain / 4096) * 8 + s * i.grain % 4096 / 512) (omega arith) (omega arith)
 
-        put_missed : (s : ℕ) → ((k : ℕ) → k < length piece → (at + k) / i.grain ≢ s) → is_held i (s * i.grain / 4096) ≡ true
+        put_missed : (s : ℕ) → ((k : ℕ) → k < length piece → (at + k) / i.grain ≢ s)
+            → is_held i (s * i.grain / 4096) ≡ true
             → mark_of j (s * i.grain) ≡ mark_of i (s * i.grain)
         unfolding mark_of
         put_missed s apart held =
@@ -200,10 +214,12 @@ module _ (i j : ImageState) (len : j.len ≡ i.len) (grain : j.grain ≡ i.grain
         pub put_marks : Marks at (length piece) i j
         put_marks = record {
           met = put_met;
-          others = λ s apart. as_changed s (changed_alike i j (s * i.grain) len (held_alike (s * i.grain / 4096)) (put_missed s apart));
+          others = λ s apart. as_changed s
+              (changed_alike i j (s * i.grain) len (held_alike (s * i.grain / 4096)) (put_missed s apart));
         }
 
-        pub image_put : SameFrames i j → ((k : ℕ) → k < length piece → get_or j.bytes.items (start + k) 0 ≡ get_or piece k 0)
+        pub image_put : SameFrames i j
+            → ((k : ℕ) → k < length piece → get_or j.bytes.items (start + k) 0 ≡ get_or piece k 0)
             → ((x : ℕ) → x < start → get_or j.bytes.items x 0 ≡ get_or i.bytes.items x 0)
             → ((x : ℕ) → start + length piece ≤ x → get_or j.bytes.items x 0 ≡ get_or i.bytes.items x 0)
             → IsImagePut at piece i j
@@ -216,20 +232,24 @@ module _ (i j : ImageState) (len : j.len ≡ i.len) (grain : j.grain ≡ i.grain
         }
 
 -- an image of which sector 0 was unmarked, with other first bytes
-module _ (i j k : ImageState) (h : IsUnmarked 0 i j) (len : k.len ≡ j.len) (grain : k.grain ≡ j.grain) (slots : k.slots.items ≡ j.slots.items)
-    (pages : k.pages.items ≡ j.pages.items) (bytes : k.bytes.items ≡ j.bytes.items) (changed : k.changed.items ≡ j.changed.items) where
+module _ (i j k : ImageState) (h : IsUnmarked 0 i j) (len : k.len ≡ j.len) (grain : k.grain ≡ j.grain)
+    (slots : k.slots.items ≡ j.slots.items)
+    (pages : k.pages.items ≡ j.pages.items) (bytes : k.bytes.items ≡ j.bytes.items)
+    (changed : k.changed.items ≡ j.changed.items) where
   changed_kept : (s : ℕ) → is_changed k s ≡ is_changed j s
   unfolding mark_of
   changed_kept s =
       as_changed j k len grain slots pages s
       (changed_alike j k (s * j.grain) len (held_alike j k len grain slots pages (s * j.grain / 4096))
       (λ held. mark_alike j k len grain slots pages (s * j.grain)
-      ∙ ap (λ (l : List Bool). get_or l (frame_of j (s * j.grain / 4096) * 8 + s * j.grain % 4096 / 512) false) changed))
+      ∙ ap (λ (l : List Bool). get_or l (frame_of j (s * j.grain / 4096) * 8 + s * j.grain % 4096 / 512) false)
+      changed))
 
   byte_stays : (x : ℕ) → held_byte k x ≡ held_byte j x
   unfolding held_byte
   byte_stays x =
-      byte_alike j k len grain slots pages x ∙ ap (λ (l : List ℕ). get_or l (frame_of j (x / 4096) * 4096 + x % 4096) 0) bytes
+      byte_alike j k len grain slots pages x
+      ∙ ap (λ (l : List ℕ). get_or l (frame_of j (x / 4096) * 4096 + x % 4096) 0) bytes
 
   pub headed : (front : List ℕ) → k.header ≡ front → IsHeaded front i k
   headed front is = record {

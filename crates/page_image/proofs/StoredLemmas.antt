@@ -1,5 +1,6 @@
 -- What stays on the disk under writes that hold it.
-use Rattle.std.proofs.Common.{◌≡◌, ℕ, ◌-◌, ◌*◌, ◌+◌, ◌<◌, ◌≤◌, IsTrue, List, [], ◌∷◌, length, get_or, Option, Some, None, refl, sym, ◌∙◌, ap, subst, arith, inl, inr, ⊎_elim}
+use Rattle.std.proofs.Common.{◌≡◌, ℕ, ◌-◌, ◌*◌, ◌+◌, ◌<◌, ◌≤◌, IsTrue, List, [], ◌∷◌, length, get_or, Option, Some}
+use Rattle.std.proofs.Common.{None, refl, sym, ◌∙◌, ap, subst, arith, inl, inr, ⊎_elim}
 use Rattle.std.specs.Option.{option_map}
 use Rattle.std.proofs.Math.Nat.{zero-mul}
 use Rattle.std.proofs.lemmas.Bool.{cases_lt}
@@ -23,7 +24,8 @@ use Rattle.page_image.proofs.SectorLemmas.{some_grain, front_sector}
 use Rattle.page_image.proofs.WriteLemmas.{IsThis, stays_own}
 
 module _ (grain x byte : ℕ) where
-  held_written : (image : List ℕ) (sector : ℕ) (bytes : List ℕ) → Fits grain (length image) sector bytes → HoldsAt grain x byte sector bytes
+  held_written : (image : List ℕ) (sector : ℕ) (bytes : List ℕ) → Fits grain (length image) sector bytes
+      → HoldsAt grain x byte sector bytes
       → x < length image → get_or image x 0 ≡ byte → get_or (with_sector grain image sector bytes) x 0 ≡ byte
   held_written image sector bytes fits holds inside is =
       let begins : sector * grain < length image = fits.1 in
@@ -35,16 +37,21 @@ module _ (grain x byte : ℕ) where
       ap (λ (y : ℕ). get_or (with_sector grain image sector bytes) y 0) place
       ∙ with_sector-inside grain image sector bytes begins fits.0 (x - sector * grain) (omega arith) (omega arith)
       ∙ holds from below)
-      (λ (behind : sector * grain + grain ≤ x). with_sector-behind grain image sector bytes begins fits.0 x behind inside ∙ is)
+      (λ (behind : sector * grain + grain ≤ x).
+      with_sector-behind grain image sector bytes begins fits.0 x behind inside ∙ is)
       (cases_lt x (sector * grain + grain)))
       (cases_lt x (sector * grain))
 
-  held_after : (size : ℕ) (image : List ℕ) (events : List Event) → length image ≡ size → EachWrite (Fits grain size) events
-      → OnlyWrites (HoldsAt grain x byte) events → x < size → get_or image x 0 ≡ byte → get_or (image_after grain image events) x 0 ≡ byte
+  held_after : (size : ℕ) (image : List ℕ) (events : List Event) → length image ≡ size
+      → EachWrite (Fits grain size) events
+      → OnlyWrites (HoldsAt grain x byte) events → x < size → get_or image x 0 ≡ byte
+      → get_or (image_after grain image events) x 0 ≡ byte
   held_after size image [] long fits holds inside is = is
   held_after size image (Write sector bytes ∷ events) long fits holds inside is =
-      let fit : Fits grain (length image) sector bytes = subst (λ (n : ℕ). Fits grain n sector bytes) (sym long) (fits sector bytes (inl refl)) in
-      held_after size (with_sector grain image sector bytes) events (length-with_sector grain image sector bytes fit.1 fit.0 ∙ long)
+      let fit : Fits grain (length image) sector bytes =
+      subst (λ (n : ℕ). Fits grain n sector bytes) (sym long) (fits sector bytes (inl refl)) in
+      held_after size (with_sector grain image sector bytes) events
+      (length-with_sector grain image sector bytes fit.1 fit.0 ∙ long)
       (λ s b has. fits s b (inr has)) holds.1 inside
       (held_written image sector bytes fit holds.0 (omega arith) is)
   held_after size image (Sync ∷ events) long fits holds inside is = absurd holds
@@ -52,7 +59,8 @@ module _ (grain x byte : ℕ) where
 
   -- a byte of the disk's image stays where each write holds it
   held_now : (told next : Told) → told.grain ≡ grain → EachWrite (Fits next.grain (length next.start)) next.events
-      → length (image_now told) ≡ length told.start → GrewBy (OnlyWrites (HoldsAt grain x byte)) told next → x < length told.start
+      → length (image_now told) ≡ length told.start → GrewBy (OnlyWrites (HoldsAt grain x byte)) told next
+      → x < length told.start
       → get_or (image_now told) x 0 ≡ byte → get_or (image_now next) x 0 ≡ byte
   held_now told next same fits long grew inside is =
       let fits_added : EachWrite (Fits grain (length told.start)) grew.added =
@@ -60,26 +68,32 @@ module _ (grain x byte : ℕ) where
       subst (λ (g : ℕ). Fits g (length told.start) sector bytes) (grew.grain ∙ same)
       (subst (λ (l : List ℕ). Fits next.grain (length l) sector bytes) grew.start
       (fits sector bytes
-      (subst (λ (l : List Event). HasWrite l sector bytes) (sym grew.events) (has_write-right told.events grew.added sector bytes has)))) in
+      (subst (λ (l : List Event). HasWrite l sector bytes) (sym grew.events)
+      (has_write-right told.events grew.added sector bytes has)))) in
       let now : image_now next ≡ image_after grain (image_now told) grew.added =
       rw (grew.grain, grew.start, grew.events, image_after-append told.grain told.start told.events grew.added)
       (ap (λ (g : ℕ). image_after g (image_now told) grew.added) same) in
-      ap (λ (l : List ℕ). get_or l x 0) now ∙ held_after (length told.start) (image_now told) grew.added long fits_added grew.such inside is
+      ap (λ (l : List ℕ). get_or l x 0) now
+      ∙ held_after (length told.start) (image_now told) grew.added long fits_added grew.such inside is
 
   held_told : (d e : disks.State) → disks.IsSound d → disks.IsSound e → IsTrue (tells d) → d.grain ≡ grain → x < d.size
       → WritesOnly (HoldsAt grain x byte) d e → get_or (image_told d) x 0 ≡ byte → get_or (image_told e) x 0 ≡ byte
   held_told d e sound sound_now is same inside grew was =
       let told = tells-told d.told d.size is in
       let went = rw told.1 at grew in
-      let size : length (image_now told.0) ≡ length told.0.start = now_size d told.0 sound told.1 ∙ sym (start_size d told.0 sound told.1) in
+      let size : length (image_now told.0) ≡ length told.0.start = now_size d told.0 sound told.1
+      ∙ sym (start_size d told.0 sound told.1) in
       ap (λ (o : Option Told). get_or (image_of o) x 0) went.1
-      ∙ held_now told.0 went.0 (told_grain d told.0 sound told.1 ∙ same) (told_writes e went.0 sound_now went.1) size went.2
-      (omega (arith, start_size d told.0 sound told.1)) (ap (λ (o : Option Told). get_or (image_of o) x 0) (sym told.1) ∙ was)
+      ∙ held_now told.0 went.0 (told_grain d told.0 sound told.1 ∙ same) (told_writes e went.0 sound_now went.1) size
+      went.2
+      (omega (arith, start_size d told.0 sound told.1))
+      (ap (λ (o : Option Told). get_or (image_of o) x 0) (sym told.1) ∙ was)
     where
       start_size : (s : disks.State) (told : Told) → disks.IsSound s → s.told ≡ Some told → length told.start ≡ s.size
       start_size s told ok is = rw is at ok.told_size
 
-module _ (d e : disks.State) (i j : ImageState) (sound : disks.IsSound d) (sound_now : disks.IsSound e) (disk_of : IsDiskOf d i) (told : IsTrue (tells d)) where
+module _ (d e : disks.State) (i j : ImageState) (sound : disks.IsSound d) (sound_now : disks.IsSound e)
+    (disk_of : IsDiskOf d i) (told : IsTrue (tells d)) where
   -- a call that leaves alone each of the first 512 places leaves them on the disk
   pub front_stays : ((x : ℕ) → x < 512 → SameImageSpot (Place x) d i e j) → IsFrontStored d i → IsFrontStored e j
   front_stays leaves stored x below =
@@ -91,7 +105,8 @@ module _ (d e : disks.State) (i j : ImageState) (sound : disks.IsSound d) (sound
       ∙ sym same
 
   -- and so does one that writes them
-  pub front_written : (front written : List ℕ) → length written ≡ i.grain → ((k : ℕ) → k < 512 → get_or written k 0 ≡ get_or front k 0)
+  pub front_written : (front written : List ℕ) → length written ≡ i.grain
+      → ((k : ℕ) → k < 512 → get_or written k 0 ≡ get_or front k 0)
       → j.header ≡ front → disks.Happens (Write 0 written) d e → IsFrontStored e j
   front_written front written long header is happens x below =
       let layout = i.layout in
@@ -100,8 +115,10 @@ module _ (d e : disks.State) (i j : ImageState) (sound : disks.IsSound d) (sound
       let size = now_size d told_d.0 sound told_d.1 in
       let first : 0 * i.grain ≡ 0 = zero-mul i.grain in
       ap (λ (o : Option Told). get_or (image_of o) x 0) went.1
-      ∙ stays_own 0 written i.grain long told_d.0 went.0 (told_grain d told_d.0 sound told_d.1 ∙ disk_of.grain) (omega (arith, disk_of.size))
-      went.2 x (omega (arith, disk_of.size)) (some_grain i.grain i.layout.known) (front_sector i.grain i.layout.known x below)
+      ∙ stays_own 0 written i.grain long told_d.0 went.0 (told_grain d told_d.0 sound told_d.1 ∙ disk_of.grain)
+      (omega (arith, disk_of.size))
+      went.2 x (omega (arith, disk_of.size)) (some_grain i.grain i.layout.known)
+      (front_sector i.grain i.layout.known x below)
       ∙ ap (λ (n : ℕ). get_or written n 0) (omega arith)
       ∙ header x below ∙ ap (λ (l : List ℕ). get_or l x 0) (sym is)
 

@@ -1,6 +1,8 @@
 -- What a write of a changed sector leaves.
-use Rattle.std.proofs.Common.{◌≡◌, ◌≢◌, ◌⊎◌, ℕ, ◌+◌, ◌-◌, ◌*◌, ◌/◌, ◌%◌, ◌<◌, ◌≤◌, Bool, true, false, not, ◌&&◌, IsTrue, List, [], ◌∷◌, length}
-use Rattle.std.proofs.Common.{get_or, Result, Ok, Err, OnOk, OnErr, Option, Some, None, MatchOption, refl, sym, ◌∙◌, ap, subst, arith, inl, inr, ⊎_elim}
+use Rattle.std.proofs.Common.{◌≡◌, ◌≢◌, ◌⊎◌, ℕ, ◌+◌, ◌-◌, ◌*◌, ◌/◌, ◌%◌, ◌<◌, ◌≤◌, Bool, true, false, not, ◌&&◌, IsTrue}
+use Rattle.std.proofs.Common.{List, [], ◌∷◌, length}
+use Rattle.std.proofs.Common.{get_or, Result, Ok, Err, OnOk, OnErr, Option, Some, None, MatchOption, refl, sym, ◌∙◌, ap}
+use Rattle.std.proofs.Common.{subst, arith, inl, inr, ⊎_elim}
 use Rattle.std.specs.Bool.{⊤}
 use Rattle.std.specs.Option.{option_map}
 use Rattle.std.proofs.lemmas.Nat.{div-add-mod', div-mul-add, mod_below}
@@ -44,8 +46,10 @@ pub clean_stored : (d : disks.State) (i : ImageState) → Mirrors d i → IsClea
 clean_stored d i mirrors clean told is x behind below sure = mirrors told is x behind below sure (clean (x / i.grain))
 
 -- an event ends nothing that is told of reads
-pub tells_happened : (event : Event) (d e : disks.State) → disks.IsSteady d e → disks.Happens event d e → tells e ≡ tells d
-tells_happened event d e steady happens = ap (λ (n : ℕ). is_sure n e.told) steady.size ∙ ap (is_sure d.size) happens ∙ still d.told
+pub tells_happened : (event : Event) (d e : disks.State) → disks.IsSteady d e → disks.Happens event d e
+    → tells e ≡ tells d
+tells_happened event d e steady happens = ap (λ (n : ℕ). is_sure n e.told) steady.size ∙ ap (is_sure d.size) happens
+    ∙ still d.told
   where
     still : (o : Option Told) → is_sure d.size (option_map (disks.then_event event) o) ≡ is_sure d.size o
     still None = refl
@@ -59,7 +63,8 @@ module _ (n : ℕ) (bytes : List ℕ) (sector : ℕ) where
 
   -- and one that failed, of its own sector alone
   pub sure_failed : (o p : Option Told) → sector ≢ n
-      → MatchOption o (p ≡ None) (λ told. (next : Told) × (p ≡ Some next) × disks.WriteFails n bytes told next) → SureFrom sector o p
+      → MatchOption o (p ≡ None) (λ told. (next : Told) × (p ≡ Some next) × disks.WriteFails n bytes told next)
+      → SureFrom sector o p
   sure_failed None p apart is = is
   sure_failed (Some told) p apart (next, is, fails) = (next, is, fails.others sector apart)
 
@@ -72,13 +77,21 @@ IsThisOrNone n bytes events = (events ≡ []) ⊎ (events ≡ Write n bytes ∷ 
 
 -- the same events, of which something else is known
 pub grew_as : {P Q : List Event → Type 0} (a b : Told) (grew : GrewBy P a b) → Q grew.added → GrewBy Q a b
-grew_as a b h such = record { start = h.start; grain = h.grain; left = h.left; added = h.added; events = h.events; such = such }
+grew_as a b h such = record {
+  start = h.start;
+  grain = h.grain;
+  left = h.left;
+  added = h.added;
+  events = h.events;
+  such = such;
+}
 
 some_same : (x y : Told) → Some x ≡ Some y → x ≡ y
 some_same x y same = cc
 
 -- what is told of a sector's reads at two moments that are known
-pub sure_back : (sector : ℕ) (d e : disks.State) (told next : Told) → SureAsBefore sector d e → d.told ≡ Some told → e.told ≡ Some next
+pub sure_back : (sector : ℕ) (d e : disks.State) (told next : Told) → SureAsBefore sector d e → d.told ≡ Some told
+    → e.told ≡ Some next
     → next.sure sector ≡ told.sure sector
 sure_back sector d e told next same was is =
     let from = came_from (λ before after. after.sure sector ≡ before.sure sector) d e next same is in
@@ -114,14 +127,16 @@ module _ (n : ℕ) (bytes : List ℕ) (grain : ℕ) (long : length bytes ≡ gra
         (λ none. ap (λ (l : List ℕ). get_or l x 0) (image_unchanged told next (grew_as told next grew none)))
         (λ this.
         ap (λ (l : List ℕ). get_or l x 0)
-        (image_written told next n bytes (grew_as told next grew this) ∙ ap (λ (g : ℕ). with_sector g (image_now told) n bytes) same_grain)
+        (image_written told next n bytes (grew_as told next grew this)
+        ∙ ap (λ (g : ℕ). with_sector g (image_now told) n bytes) same_grain)
         ∙ ⊎_elim (with_sector-before grain (image_now told) n bytes starts long x)
         (λ behind. with_sector-behind grain (image_now told) n bytes starts long x behind inside)
         (sides x n grain apart))
         grew.such
 
     -- in its own it has what was written
-    pub stays_own : GrewBy (IsThis n bytes) told next → (x : ℕ) → x < length (image_now told) → 1 ≤ grain → x / grain ≡ n
+    pub stays_own : GrewBy (IsThis n bytes) told next → (x : ℕ) → x < length (image_now told) → 1 ≤ grain
+        → x / grain ≡ n
         → get_or (image_now next) x 0 ≡ get_or bytes (x - n * grain) 0
     stays_own grew x inside some here =
         let (from, below) = in_sector x n grain some here in
@@ -133,14 +148,16 @@ module _ (n : ℕ) (bytes : List ℕ) (grain : ℕ) (long : length bytes ≡ gra
         ∙ with_sector-inside grain (image_now told) n bytes starts long k (omega arith) (omega arith)
 
   -- and so with what is told of it
-  pub told_apart : (o p : Option Told) → MatchOption o (p ≡ None) (λ told. (next : Told) × (p ≡ Some next) × GrewBy (IsThisOrNone n bytes) told next)
+  pub told_apart : (o p : Option Told)
+      → MatchOption o (p ≡ None) (λ told. (next : Told) × (p ≡ Some next) × GrewBy (IsThisOrNone n bytes) told next)
       → ((told : Told) → o ≡ Some told → (told.grain ≡ grain) × (n * grain < length (image_now told)))
       → (x : ℕ) → ((told : Told) → o ≡ Some told → x < length (image_now told)) → x / grain ≢ n
       → get_or (image_of p) x 0 ≡ get_or (image_of o) x 0
   told_apart None p is fits x inside apart = ap (λ (o : Option Told). get_or (image_of o) x 0) is
   told_apart (Some told) p (next, is, grew) fits x inside apart =
       let facts = fits told refl in
-      ap (λ (o : Option Told). get_or (image_of o) x 0) is ∙ stays_apart told next facts.0 facts.1 grew x (inside told refl) apart
+      ap (λ (o : Option Told). get_or (image_of o) x 0) is
+      ∙ stays_apart told next facts.0 facts.1 grew x (inside told refl) apart
 
 -- an image with the same bytes, of which each sector but one is as much changed
 pub record SameBut (n : ℕ) (i j : ImageState) : Type 0 where
@@ -175,9 +192,11 @@ SameBut-same n i = record {
   others = λ sector apart. refl;
 }
 
-module _ (d : disks.State) (i : ImageState) (n : ℕ) (bytes : List ℕ) (own : IsOwnWrite d i n bytes) (sound : disks.IsSound d) (disk_of : IsDiskOf d i) where
+module _ (d : disks.State) (i : ImageState) (n : ℕ) (bytes : List ℕ) (own : IsOwnWrite d i n bytes)
+    (sound : disks.IsSound d) (disk_of : IsDiskOf d i) where
   -- a byte of the write is the image's
-  own_byte : (x : ℕ) → x < i.len → n * i.grain ≤ x → x < n * i.grain + i.grain → get_or bytes (x - n * i.grain) 0 ≡ byte_of d i x
+  own_byte : (x : ℕ) → x < i.len → n * i.grain ≤ x → x < n * i.grain + i.grain
+      → get_or bytes (x - n * i.grain) 0 ≡ byte_of d i x
   own_byte x inside from below =
       let place : n * i.grain + (x - n * i.grain) ≡ x = omega arith in
       own.bytes.each (x - n * i.grain) (omega arith) (omega arith) ∙ ap (byte_of d i) place
@@ -196,7 +215,8 @@ module _ (d : disks.State) (i : ImageState) (n : ℕ) (bytes : List ℕ) (own : 
   unheld_apart : (x : ℕ) → is_held i (x / 4096) ≡ false → x / i.grain ≢ n
   unheld_apart x none here =
       let held = (changed_parts i (n * i.grain) own.changed).1 in
-      let same : n * i.grain / 4096 ≡ x / 4096 = ap (λ (s : ℕ). s * i.grain / 4096) (sym here) ∙ sector_page i.grain i.layout.known x in
+      let same : n * i.grain / 4096 ≡ x / 4096 = ap (λ (s : ℕ). s * i.grain / 4096) (sym here)
+      ∙ sector_page i.grain i.layout.known x in
       let gone : is_held i (n * i.grain / 4096) ≡ false = ap (is_held i) same ∙ none in
       absurd (cc)
 
@@ -210,7 +230,8 @@ module _ (d : disks.State) (i : ImageState) (n : ℕ) (bytes : List ℕ) (own : 
     byte_kept : (x : ℕ) → x < i.len → byte_of e j x ≡ byte_of d i x
     byte_kept x inside =
         ⊎_elim
-        (λ (front : x < 512). byte_front e j x front ∙ ap (λ (l : List ℕ). get_or l x 0) same.header ∙ sym (byte_front d i x front))
+        (λ (front : x < 512). byte_front e j x front ∙ ap (λ (l : List ℕ). get_or l x 0) same.header
+        ∙ sym (byte_front d i x front))
         (λ (behind : 512 ≤ x).
         ⊎_elim
         (λ (held : is_held i (x / 4096) ≡ true).
@@ -227,8 +248,10 @@ module _ (d : disks.State) (i : ImageState) (n : ℕ) (bytes : List ℕ) (own : 
     mirrors : Mirrors e j
     mirrors next is x behind below_now sure_now clean_now =
         let inside : x < i.len = subst (λ (m : ℕ). x < m) same.len below_now in
-        let clean : is_changed j (x / i.grain) ≡ false = subst (λ (g : ℕ). is_changed j (x / g) ≡ false) same.grain clean_now in
-        let told_sure : IsTrue (next.sure (x / i.grain)) = subst (λ (g : ℕ). IsTrue (next.sure (x / g))) same.grain sure_now in
+        let clean : is_changed j (x / i.grain) ≡ false =
+        subst (λ (g : ℕ). is_changed j (x / g) ≡ false) same.grain clean_now in
+        let told_sure : IsTrue (next.sure (x / i.grain)) =
+        subst (λ (g : ℕ). IsTrue (next.sure (x / g))) same.grain sure_now in
         let some = some_grain i.grain i.layout.known in
         let start = begins in
         ⊎_elim
@@ -241,7 +264,8 @@ module _ (d : disks.State) (i : ImageState) (n : ℕ) (bytes : List ℕ) (own : 
         (λ (apart : x / i.grain ≢ n).
         let from = came_from (GrewBy (IsThisOrNone n bytes)) d e next grew is in
         let fits = told_fits from.0 from.1 in
-        let before : IsTrue (from.0.sure (x / i.grain)) = sym (sure_back (x / i.grain) d e from.0 next (sure (x / i.grain) apart) from.1 is) ∙ told_sure in
+        let before : IsTrue (from.0.sure (x / i.grain)) =
+        sym (sure_back (x / i.grain) d e from.0 next (sure (x / i.grain) apart) from.1 is) ∙ told_sure in
         stays_apart n bytes i.grain own.bytes.long from.0 next fits.0 (omega arith) from.2 x (omega arith) apart
         ∙ disk_of.mirrors from.0 from.1 x behind inside before (sym (same.others (x / i.grain) apart) ∙ clean)
         ∙ sym (byte_kept x inside))
@@ -260,13 +284,17 @@ module _ (d : disks.State) (i : ImageState) (n : ℕ) (bytes : List ℕ) (own : 
       still : (sector : ℕ) → is_changed i sector ≡ true → is_changed j sector ≡ false → WritesTo sector d e
       still sector changed clean =
           ⊎_elim
-          (λ (here : sector ≡ n). subst (λ (s : ℕ). WritesTo s d e) (sym here) (pending (ap (is_changed j) (sym here) ∙ clean)))
+          (λ (here : sector ≡ n). subst (λ (s : ℕ). WritesTo s d e) (sym here)
+          (pending (ap (is_changed j) (sym here) ∙ clean)))
           (λ (apart : sector ≢ n). let marks = same.others sector apart in absurd (cc))
           (cases_eq sector n)
 
       left_spot : (spot : Spot) → SameImageSpot spot d i e j
-      left_spot (Place x) = λ inside.
-          (byte_kept x inside, grow (OnlyWrites (HoldsAt i.grain x (byte_of d i x))) tt (λ from below. own_byte x inside from below, tt))
+      left_spot (Place x) = λ inside. (
+        byte_kept x inside,
+        grow (OnlyWrites (HoldsAt i.grain x (byte_of d i x))) tt
+            (λ from below. own_byte x inside from below, tt),
+      )
       left_spot (Sector number) = λ clean.
           (let apart = other_sector number clean in
           let grew = grow (OnlyWrites (λ sector written. sector ≢ number)) tt (λ is. apart (sym is), tt) in
@@ -288,18 +316,21 @@ module _ (d : disks.State) (i : ImageState) (n : ℕ) (bytes : List ℕ) (own : 
       )
 
   -- the sector was written
-  pub leaves_written : (e : disks.State) (j : ImageState) → disks.IsSteady d e → SameBut n i j → disks.Happens (Write n bytes) d e
+  pub leaves_written : (e : disks.State) (j : ImageState) → disks.IsSteady d e → SameBut n i j
+      → disks.Happens (Write n bytes) d e
       → (spot : Spot) → Leaves spot d i e j
   leaves_written e j steady same happens =
       left e j steady same
       (grew_happens (IsThisOrNone n bytes) (Write n bytes) d e happens (inr refl))
       (λ sector apart. sure_written n bytes sector d.told e.told happens)
       (λ clean. grew_happens (IsThis n bytes) (Write n bytes) d e happens refl)
-      (λ clean. grew_happens (λ events. 1 ≤ writes_to n events) (Write n bytes) d e happens (rw (eq-eqb n n refl) (omega arith)))
+      (λ clean. grew_happens (λ events. 1 ≤ writes_to n events) (Write n bytes) d e happens
+      (rw (eq-eqb n n refl) (omega arith)))
       (λ P none such. grew_happens P (Write n bytes) d e happens such)
 
   -- the write failed, and the sector stays changed
-  pub leaves_failed : (e : disks.State) → disks.IsSteady d e → disks.GoesOn (disks.WriteFails n bytes) d e → (spot : Spot) → Leaves spot d i e i
+  pub leaves_failed : (e : disks.State) → disks.IsSteady d e → disks.GoesOn (disks.WriteFails n bytes) d e
+      → (spot : Spot) → Leaves spot d i e i
   leaves_failed e steady fails =
       left e i steady (SameBut-same n i)
       (grew_failed (IsThisOrNone n bytes) n bytes d e fails (inl refl) (inr refl))
@@ -309,26 +340,30 @@ module _ (d : disks.State) (i : ImageState) (n : ℕ) (bytes : List ℕ) (own : 
       (λ P none such. grew_failed P n bytes d e fails none such)
 
   -- a write that is done
-  pub wrote_this : (e : disks.State) (j : ImageState) → disks.IsSteady d e → IsUnmarked n i j → disks.Happens (Write n bytes) d e → IsWrittenOut d i e j
+  pub wrote_this : (e : disks.State) (j : ImageState) → disks.IsSteady d e → IsUnmarked n i j
+      → disks.Happens (Write n bytes) d e → IsWrittenOut d i e j
   wrote_this e j steady unmarked happens = record {
     went = record {
       leaves = leaves_written e j steady (SameBut-unmarked n i j unmarked) happens;
       frames = unmarked.frames;
       fewer = fewer;
     };
-    written = grew_happens (WritesEach d i (λ sector. not (is_changed j sector))) (Write n bytes) d e happens (record { own = (own, tt); count = one_write });
+    written = grew_happens (WritesEach d i (λ sector. not (is_changed j sector))) (Write n bytes) d e happens
+        (record { own = (own, tt); count = one_write });
     told = tells_happened (Write n bytes) d e steady happens;
   } where
     fewer : (sector : ℕ) → is_changed j sector ≡ true → is_changed i sector ≡ true
     fewer sector changed =
-        ⊎_elim (λ (here : sector ≡ n). ap (is_changed i) here ∙ own.changed) (λ (apart : sector ≢ n). sym (unmarked.others sector apart) ∙ changed)
+        ⊎_elim (λ (here : sector ≡ n). ap (is_changed i) here ∙ own.changed)
+        (λ (apart : sector ≢ n). sym (unmarked.others sector apart) ∙ changed)
         (cases_eq sector n)
 
     one_write : (m : ℕ) → writes_to m (Write n bytes ∷ []) ≡ one_if (not (is_changed j m) && is_changed i m)
     one_write m =
         ⊎_elim
         (λ (here : n ≡ m).
-        rw (eq-eqb n m here, ap (is_changed i) (sym here) ∙ own.changed, ap (is_changed j) (sym here) ∙ unmarked.clean) refl)
+        rw (eq-eqb n m here, ap (is_changed i) (sym here) ∙ own.changed, ap (is_changed j) (sym here) ∙ unmarked.clean)
+        refl)
         (λ (apart : n ≢ m).
         rw (ne_eqb n m apart, unmarked.others m (λ same. apart (sym same))) (none (is_changed i m)))
         (cases_eq n m)
@@ -338,7 +373,8 @@ module _ (d : disks.State) (i : ImageState) (n : ℕ) (bytes : List ℕ) (own : 
         none false = refl
 
   -- and one that failed
-  pub wrote_this_or_none : (e : disks.State) → disks.IsSteady d e → disks.GoesOn (disks.WriteFails n bytes) d e → IsWrittenInPart d i e i
+  pub wrote_this_or_none : (e : disks.State) → disks.IsSteady d e → disks.GoesOn (disks.WriteFails n bytes) d e
+      → IsWrittenInPart d i e i
   wrote_this_or_none e steady fails = record {
     went = record {
       leaves = leaves_failed e steady fails;

@@ -1,5 +1,6 @@
 -- What becomes of the frames of an image.
-use Rattle.std.specs.Prelude.{◌≡◌, ◌⊎◌, ℕ, ◌+◌, ◌*◌, ◌/◌, ◌<◌, ◌≤◌, true, false, IsTrue, length, get_or, set, slice_index, Some, None}
+use Rattle.std.specs.Prelude.{◌≡◌, ◌⊎◌, ℕ, ◌+◌, ◌*◌, ◌/◌, ◌<◌, ◌≤◌, true, false, IsTrue, length, get_or, set}
+use Rattle.std.specs.Prelude.{slice_index, Some, None}
 use Rattle.save_disk.specs.Trace.{Told, image_now}
 use Rattle.save_disk.specs.State as disks
 use Rattle.page_image.specs.declared.state.ImageState.{ImageState}
@@ -55,7 +56,8 @@ pub record IsFrameRead (frame : ℕ) (old new : ImageState) : Type 0 where
 
 -- a byte as a read of its sector gives it, where that is told
 abbrev pub IsByteRead : disks.State → ℕ → ℕ → ℕ → Type 0
-IsByteRead disk grain x byte = (told : Told) → disk.told ≡ Some told → IsTrue (told.sure (x / grain)) → byte ≡ slice_index (image_now told) x
+IsByteRead disk grain x byte = (told : Told) → disk.told ≡ Some told → IsTrue (told.sure (x / grain))
+    → byte ≡ slice_index (image_now told) x
 
 -- From one image to another some pages were given up and some were read, and nothing else: each sector is as much
 -- changed, and each byte that is held now was held before, or was read from the disk and is not changed.

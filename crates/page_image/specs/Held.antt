@@ -26,4 +26,5 @@ pub record SameImageView {D : Type 0} (old new : Image D) : Type 0 where
   pub same_disk : new.disk.ghost_name ≡ old.disk.ghost_name
 
 abbrev pub ImageKeeps : {D : Type 0} → (D → disks.State) → Spot → Image D → Image D → Type 0
-ImageKeeps states spot old new = SameImageView old new × Leaves spot (states old.disk.now) old.image.now (states new.disk.now) new.image.now
+ImageKeeps states spot old new = SameImageView old new
+    × Leaves spot (states old.disk.now) old.image.now (states new.disk.now) new.image.now

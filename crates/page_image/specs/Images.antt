@@ -1,5 +1,6 @@
 -- What a contract sees of an image over its disk.
-use Rattle.std.specs.Prelude.{◌≡◌, ◌≢◌, ℕ, ◌+◌, ◌*◌, ◌/◌, ◌%◌, ◌<◌, ◌≤◌, Bool, true, false, not, ◌==◌, ◌&&◌, ◌||◌, nat_lt, if◌then◌else◌, IsTrue}
+use Rattle.std.specs.Prelude.{◌≡◌, ◌≢◌, ℕ, ◌+◌, ◌*◌, ◌/◌, ◌%◌, ◌<◌, ◌≤◌, Bool, true, false, not, ◌==◌, ◌&&◌, ◌||◌}
+use Rattle.std.specs.Prelude.{nat_lt, if◌then◌else◌, IsTrue}
 use Rattle.std.specs.Prelude.{List, length, slice_index, get_or, Option, Some, None}
 use Rattle.save_bytes.specs.Cells.{Byte}
 use Rattle.save_bytes.specs.State.{Shape, State}
@@ -53,7 +54,8 @@ pub record IsHeldPiece (disk : disks.State) (image : ImageState) (at most : ℕ)
 -- In a sector that is not changed each byte is on the disk, where reads of the sector are told. The first 512 bytes are
 -- kept apart: a write of them that failed may leave others on the disk.
 abbrev pub Mirrors : disks.State → ImageState → Type 0
-Mirrors disk image = (told : Told) → disk.told ≡ Some told → (x : ℕ) → 512 ≤ x → x < image.len → IsTrue (told.sure (x / image.grain))
+Mirrors disk image = (told : Told) → disk.told ≡ Some told → (x : ℕ) → 512 ≤ x → x < image.len
+    → IsTrue (told.sure (x / image.grain))
     → is_changed image (x / image.grain) ≡ false → slice_index (image_now told) x ≡ byte_of disk image x
 
 -- the disk has the length and the grain of the one that was opened, and what the image has not changed
@@ -101,7 +103,8 @@ image_state disk image = record {
 
 -- each byte behind the first 512 is on the disk, where reads of its sector are told
 abbrev pub IsStored : disks.State → ImageState → Type 0
-IsStored disk image = (told : Told) → disk.told ≡ Some told → (x : ℕ) → 512 ≤ x → x < image.len → IsTrue (told.sure (x / image.grain))
+IsStored disk image = (told : Told) → disk.told ≡ Some told → (x : ℕ) → 512 ≤ x → x < image.len
+    → IsTrue (told.sure (x / image.grain))
     → slice_index (image_now told) x ≡ byte_of disk image x
 
 -- the first 512 bytes are on the disk as the image has them

@@ -31,7 +31,8 @@ SameImage-same d image = record {
 
 -- of the sector's reads as much is told
 abbrev pub SureFrom : ℕ → Option Told → Option Told → Type 0
-SureFrom number o p = MatchOption o (p ≡ None) (λ told. (next : Told) × (p ≡ Some next) × (next.sure number ≡ told.sure number))
+SureFrom number o p = MatchOption o (p ≡ None)
+    (λ told. (next : Told) × (p ≡ Some next) × (next.sure number ≡ told.sure number))
 
 pub sure_start : (number : ℕ) (o : Option Told) → SureFrom number o o
 sure_start number None = refl
@@ -42,15 +43,18 @@ sure_then number None p q h k = rw h at k
 sure_then number (Some told) p q (next, is, same) k = let later = rw is at k in (later.0, later.1, later.2 ∙ same)
 
 pub SameImageSpot-same : (spot : Spot) (d : disks.State) (image : ImageState) → SameImageSpot spot d image d image
-SameImageSpot-same (Place x) d image = λ inside. (refl, WritesOnly-quiet (HoldsAt image.grain x (byte_of d image x)) d d refl)
-SameImageSpot-same (Sector number) d image = λ clean. (clean, WritesOnly-quiet (λ sector bytes. sector ≢ number) d d refl, sure_start number d.told)
+SameImageSpot-same (Place x) d image = λ inside.
+    (refl, WritesOnly-quiet (HoldsAt image.grain x (byte_of d image x)) d d refl)
+SameImageSpot-same (Sector number) d image = λ clean.
+    (clean, WritesOnly-quiet (λ sector bytes. sector ≢ number) d d refl, sure_start number d.told)
 SameImageSpot-same other d image = tt
 
 pub Leaves-same : (spot : Spot) (d : disks.State) (image : ImageState) → Leaves spot d image d image
 Leaves-same spot d image = (SameImage-same d image, SameImageSpot-same spot d image)
 
 pub ImageKeeps-same : {D : Type 0} (states : D → disks.State) (spot : Spot) (s : Image D) → ImageKeeps states spot s s
-ImageKeeps-same states spot s = (record { same_image = refl; same_disk = refl }, Leaves-same spot (states s.disk.now) s.image.now)
+ImageKeeps-same states spot s =
+    (record { same_image = refl; same_disk = refl }, Leaves-same spot (states s.disk.now) s.image.now)
 
 -- the same of another grain and byte that are equal to these
 pub holds_as : (x : ℕ) (e f : disks.State) (grain other byte same : ℕ) → grain ≡ other → byte ≡ same
@@ -73,7 +77,8 @@ module _ (d e f : disks.State) (i j k : ImageState) where
         (cases_Bool (is_changed j sector));
   }
 
-  pub SameImageSpot-join : (spot : Spot) → j.len ≡ i.len → j.grain ≡ i.grain → SameImageSpot spot d i e j → SameImageSpot spot e j f k
+  pub SameImageSpot-join : (spot : Spot) → j.len ≡ i.len → j.grain ≡ i.grain → SameImageSpot spot d i e j
+      → SameImageSpot spot e j f k
       → SameImageSpot spot d i f k
   SameImageSpot-join (Place x) len grain h g = λ inside.
       let first = h inside in
@@ -97,11 +102,13 @@ pub ImageKeeps-join : {D : Type 0} (states : D → disks.State) (spot : Spot) (s
     → ImageKeeps states spot s t → ImageKeeps states spot t u → ImageKeeps states spot s u
 ImageKeeps-join states spot s t u h g = (
   record { same_image = g.0.same_image ∙ h.0.same_image; same_disk = g.0.same_disk ∙ h.0.same_disk },
-  Leaves-join (states s.disk.now) (states t.disk.now) (states u.disk.now) s.image.now t.image.now u.image.now spot h.1 g.1,
+  Leaves-join (states s.disk.now) (states t.disk.now) (states u.disk.now) s.image.now t.image.now u.image.now spot h.1
+      g.1,
 )
 
 -- a call leaves what no call changes
-pub SameImage-shape : (d e : disks.State) (i j : ImageState) → SameImage d i e j → (image_state e j).shape ≡ (image_state d i).shape
+pub SameImage-shape : (d e : disks.State) (i j : ImageState) → SameImage d i e j
+    → (image_state e j).shape ≡ (image_state d i).shape
 SameImage-shape d e i j same = same_shape j.len i.len (is_disk_of e j) (is_disk_of d i) same.len same.sound
   where
     same_shape : (m n : ℕ) (a b : Bool) → m ≡ n → a ≡ b → shape_of m a ≡ shape_of n b

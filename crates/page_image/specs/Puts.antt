@@ -9,14 +9,16 @@ use Rattle.page_image.specs.Frames.{SameFrames, KeepsFrames}
 -- the sectors that have one of the n places from a place on are changed, and the others are as before
 pub record Marks (at n : ℕ) (old new : ImageState) : Type 0 where
   pub met : (k : ℕ) → k < n → is_changed new ((at + k) / old.grain) ≡ true
-  pub others : (sector : ℕ) → ((k : ℕ) → k < n → (at + k) / old.grain ≢ sector) → is_changed new sector ≡ is_changed old sector
+  pub others : (sector : ℕ) → ((k : ℕ) → k < n → (at + k) / old.grain ≢ sector)
+      → is_changed new sector ≡ is_changed old sector
 
 -- a piece was put at a place of a page that is held
 pub record IsImagePut (at : ℕ) (piece : List ℕ) (old new : ImageState) : Type 0 where
   pub same : SameFrames old new
   pub held : (page : ℕ) → is_held new page ≡ is_held old page
   pub written : (k : ℕ) → k < length piece → held_byte new (at + k) ≡ slice_index piece k
-  pub others : (x : ℕ) → is_held old (x / 4096) ≡ true → ((k : ℕ) → k < length piece → x ≢ at + k) → held_byte new x ≡ held_byte old x
+  pub others : (x : ℕ) → is_held old (x / 4096) ≡ true → ((k : ℕ) → k < length piece → x ≢ at + k)
+      → held_byte new x ≡ held_byte old x
   pub marks : Marks at (length piece) old new
 
 -- the sector is not changed any more

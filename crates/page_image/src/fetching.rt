@@ -110,7 +110,8 @@ fn read_page<D: Disk>(
     requires frame { frame < length image.old.pages.items }
     requires page { page < length image.old.slots.items }
     ensures read { OnOk result ((k : ℕ) → k < 4096 → page * 4096 + k < image.old.len
-        → IsByteRead (D.state disk.old) image.old.grain (page * 4096 + k) (get_or image.new.bytes.items (frame * 4096 + k) 0)) }
+        → IsByteRead (D.state disk.old) image.old.grain (page * 4096 + k)
+        (get_or image.new.bytes.items (frame * 4096 + k) 0)) }
     ensures frame { IsFrameRead frame image.old image.new }
     ensures quiet { IsQuiet (D.state disk.old) (D.state disk.new) }
     ensures steady { IsSteady (D.state disk.old) (D.state disk.new) }

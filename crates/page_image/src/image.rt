@@ -70,18 +70,25 @@ impl<D: Disk> Image<'_, D> {
         ensures cells { SameCells (shown D.state self.old) (shown D.state self.new) }
         ensures clean { OnOk result (IsClean self.new.image.now) }
         ensures written { OnOk result
-            (GoesOn (GrewBy (WritesEach (D.state self.old.disk.now) self.old.image.now (λ sector. true))) (D.state self.old.disk.now) (D.state self.new.disk.now)) }
+            (GoesOn (GrewBy (WritesEach (D.state self.old.disk.now) self.old.image.now (λ sector. true)))
+            (D.state self.old.disk.now) (D.state self.new.disk.now)) }
         ensures failed { OnErr result
-            (GoesOn (GrewBy (WritesSome (D.state self.old.disk.now) self.old.image.now (λ sector. true))) (D.state self.old.disk.now) (D.state self.new.disk.now)) }
+            (GoesOn (GrewBy (WritesSome (D.state self.old.disk.now) self.old.image.now (λ sector. true)))
+            (D.state self.old.disk.now) (D.state self.new.disk.now)) }
         ensures stored { OnOk result (IsStored (D.state self.new.disk.now) self.new.image.now) }
         ensures few { IsTrue (tells (D.state self.old.disk.now))
-            → OnOk result (DiffersWithin 512 (length self.old.image.now.pages.items) (D.state self.new.disk.now) self.new.image.now) }
-        ensures few_in_all { IsTrue (tells (D.state self.old.disk.now)) → IsFrontStored (D.state self.old.disk.now) self.old.image.now
-            → OnOk result (DiffersWithin 0 (length self.old.image.now.pages.items) (D.state self.new.disk.now) self.new.image.now) }
-        ensures front { IsTrue (tells (D.state self.old.disk.now)) → IsFrontStored (D.state self.old.disk.now) self.old.image.now
+            → OnOk result (DiffersWithin 512 (length self.old.image.now.pages.items) (D.state self.new.disk.now)
+            self.new.image.now) }
+        ensures few_in_all { IsTrue (tells (D.state self.old.disk.now))
+            → IsFrontStored (D.state self.old.disk.now) self.old.image.now
+            → OnOk result (DiffersWithin 0 (length self.old.image.now.pages.items) (D.state self.new.disk.now)
+            self.new.image.now) }
+        ensures front { IsTrue (tells (D.state self.old.disk.now))
+            → IsFrontStored (D.state self.old.disk.now) self.old.image.now
             → IsFrontStored (D.state self.new.disk.now) self.new.image.now }
         ensures told { OnOk result ((shown D.state self.new).told ≡ (shown D.state self.old).told) }
-        ensures cause { HasCause (D.state self.old.disk.now).counts.disk (D.state self.new.disk.now).counts.disk result }
+        ensures cause { HasCause (D.state self.old.disk.now).counts.disk
+            (D.state self.new.disk.now).counts.disk result }
     {
         let disk = &mut *self.disk;
         write_out(disk, &mut *self.image)
@@ -95,17 +102,21 @@ impl<D: Disk> Image<'_, D> {
     pub fn write_header(&mut self, header: &[u8; 512]) -> Result<(), Failed>
         requires { IsTrue (shown D.state self.old).shape.sound }
         ensures view { SameImageView self.old self.new }
-        ensures leaves { LeavesBehind (D.state self.old.disk.now) self.old.image.now (D.state self.new.disk.now) self.new.image.now }
-        ensures written { OnOk result ((bytes : List ℕ) × HasFront (D.state self.old.disk.now) self.old.image.now header.now bytes
+        ensures leaves { LeavesBehind (D.state self.old.disk.now) self.old.image.now (D.state self.new.disk.now)
+            self.new.image.now }
+        ensures written { OnOk result
+            ((bytes : List ℕ) × HasFront (D.state self.old.disk.now) self.old.image.now header.now bytes
             × Happens (Write 0 bytes) (D.state self.old.disk.now) (D.state self.new.disk.now)) }
-        ensures failed { OnErr result (FailsFront (D.state self.old.disk.now) self.old.image.now header.now (D.state self.new.disk.now)) }
+        ensures failed { OnErr result
+            (FailsFront (D.state self.old.disk.now) self.old.image.now header.now (D.state self.new.disk.now)) }
         ensures header { OnOk result (AreBytesAt (shown D.state self.new).cells 0 header.now) }
         ensures front { IsTrue (tells (D.state self.old.disk.now))
             → OnOk result (IsFrontStored (D.state self.new.disk.now) self.new.image.now) }
         ensures clean { OnOk result (is_changed self.new.image.now 0 ≡ false) }
         ensures kept { OnErr result (self.new.image.now.header ≡ self.old.image.now.header) }
         ensures told { OnOk result ((shown D.state self.new).told ≡ (shown D.state self.old).told) }
-        ensures cause { HasCause (D.state self.old.disk.now).counts.disk (D.state self.new.disk.now).counts.disk result }
+        ensures cause { HasCause (D.state self.old.disk.now).counts.disk
+            (D.state self.new.disk.now).counts.disk result }
     {
         let disk = &mut *self.disk;
         write_front(disk, &mut *self.image, header)
@@ -116,10 +127,12 @@ impl<D: Disk> Image<'_, D> {
         requires sound { IsTrue (shown D.state self.old).shape.sound }
         requires inside { at < self.old.image.now.len }
         ensures view { SameImageView self.old self.new }
-        ensures leaves { LeavesTold (D.state self.old.disk.now) self.old.image.now (D.state self.new.disk.now) self.new.image.now }
+        ensures leaves { LeavesTold (D.state self.old.disk.now) self.old.image.now (D.state self.new.disk.now)
+            self.new.image.now }
         ensures held { OnOk result (is_held self.new.image.now (at / 4096) ≡ true) }
         ensures told { OnOk result (tells (D.state self.new.disk.now) ≡ tells (D.state self.old.disk.now)) }
-        ensures cause { HasCause (D.state self.old.disk.now).counts.disk (D.state self.new.disk.now).counts.disk result }
+        ensures cause { HasCause (D.state self.old.disk.now).counts.disk
+            (D.state self.new.disk.now).counts.disk result }
     {
         let disk = &mut *self.disk;
         self.image.bring(disk, at)
@@ -134,7 +147,8 @@ impl<D: Disk> Image<'_, D> {
         ensures synced { OnOk result (Happens Sync (D.state self.old.disk.now) (D.state self.new.disk.now)) }
         ensures failed { OnErr result (IsQuiet (D.state self.old.disk.now) (D.state self.new.disk.now)) }
         ensures steady { IsSteady (D.state self.old.disk.now) (D.state self.new.disk.now) }
-        ensures cause { HasCause (D.state self.old.disk.now).counts.disk (D.state self.new.disk.now).counts.disk result }
+        ensures cause { HasCause (D.state self.old.disk.now).counts.disk
+            (D.state self.new.disk.now).counts.disk result }
         ensures same { SameImageView self.old self.new }
         ensures image { self.new.image.now ≡ self.old.image.now }
         ensures front { IsFrontStored (D.state self.old.disk.now) self.old.image.now
@@ -161,14 +175,18 @@ impl<D: Disk> Space for Image<'_, D> {
 
     ghost keeps_join = { ImageKeeps-join D.state };
 
-    ghost keeps_cells = { λ s t sound single told still kept.
-        (λ x inside. ap Byte ((kept (Place x)).1.1 inside).0, record { bottom = λ x inside. refl; is_fixed = λ x inside. refl }) };
+    ghost keeps_cells = { λ s t sound single told still kept. (
+      λ x inside. ap Byte ((kept (Place x)).1.1 inside).0,
+      record { bottom = λ x inside. refl; is_fixed = λ x inside. refl },
+    ) };
 
-    ghost keeps_lands = { λ s t sound single told still kept x below spot. subst (λ (grain : ℕ). ImageLands grain x spot) (kept Frame).1.0.grain };
+    ghost keeps_lands = { λ s t sound single told still kept x below spot.
+        subst (λ (grain : ℕ). ImageLands grain x spot) (kept Frame).1.0.grain };
 
     ghost keeps_hold = { λ s t kept. kept };
 
-    ghost keeps_shape = { λ s t kept. SameImage-shape (D.state s.disk.now) (D.state t.disk.now) s.image.now t.image.now kept.1.0 };
+    ghost keeps_shape = { λ s t kept.
+        SameImage-shape (D.state s.disk.now) (D.state t.disk.now) s.image.now t.image.now kept.1.0 };
 
     fn len(&self) -> u64 {
         self.image.len()
@@ -190,21 +208,29 @@ impl<D: Disk> Space for Image<'_, D> {
     // that is written meanwhile has its old bytes or its new ones, all of them, also where the call is refused.
     fn put(&mut self, at: u64, bytes: &[u8]) -> Result<(), Bad>
         requires { IsWritable (shown D.state self.old).shape at (length bytes.now) }
-        ensures ready { CanPut (shown D.state self.old) at (length bytes.now) → IsReady (shown D.state self.old) at (length bytes.now) (result_err result) }
+        ensures ready { CanPut (shown D.state self.old) at (length bytes.now)
+            → IsReady (shown D.state self.old) at (length bytes.now) (result_err result) }
         ensures plain { IsTrue (shown D.state self.old).shape.plain → NeverDamaged (result_err result) }
         ensures puts { Puts (shown D.state self.old) at bytes.now (shown D.state self.new) (result_err result) }
         ensures moves { MovesOnly (ImageKeeps D.state) (λ view. ImageLands view.image.now.grain)
             (shown D.state self.old) self.old at (length bytes.now) self.new (result_err result) }
-        ensures pending { OnOk result (IsPending at (length bytes.now) (D.state self.old.disk.now) (D.state self.new.disk.now) self.new.image.now) }
+        ensures pending { OnOk result
+            (IsPending at (length bytes.now) (D.state self.old.disk.now) (D.state self.new.disk.now)
+            self.new.image.now) }
         ensures old_or_new { IsTrue (tells (D.state self.old.disk.now))
             → WritesOnly
-            (IsOldOrNewSector (D.state self.old.disk.now) self.old.image.now (D.state self.new.disk.now) self.new.image.now)
+            (IsOldOrNewSector (D.state self.old.disk.now) self.old.image.now (D.state self.new.disk.now)
+            self.new.image.now)
             (D.state self.old.disk.now) (D.state self.new.disk.now) }
         ensures few { IsTrue (tells (D.state self.old.disk.now))
-            → OnOk result (DiffersWithin 512 (length self.old.image.now.pages.items) (D.state self.new.disk.now) self.new.image.now) }
-        ensures few_in_all { IsTrue (tells (D.state self.old.disk.now)) → IsFrontStored (D.state self.old.disk.now) self.old.image.now
-            → OnOk result (DiffersWithin 0 (length self.old.image.now.pages.items) (D.state self.new.disk.now) self.new.image.now) }
-        ensures front { IsTrue (tells (D.state self.old.disk.now)) → IsFrontStored (D.state self.old.disk.now) self.old.image.now
+            → OnOk result (DiffersWithin 512 (length self.old.image.now.pages.items) (D.state self.new.disk.now)
+            self.new.image.now) }
+        ensures few_in_all { IsTrue (tells (D.state self.old.disk.now))
+            → IsFrontStored (D.state self.old.disk.now) self.old.image.now
+            → OnOk result (DiffersWithin 0 (length self.old.image.now.pages.items) (D.state self.new.disk.now)
+            self.new.image.now) }
+        ensures front { IsTrue (tells (D.state self.old.disk.now))
+            → IsFrontStored (D.state self.old.disk.now) self.old.image.now
             → IsFrontStored (D.state self.new.disk.now) self.new.image.now }
     {
         let disk = &mut *self.disk;

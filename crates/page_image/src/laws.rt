@@ -14,11 +14,13 @@ ghost use Rattle.page_image.specs.Allowed.{IsAllowedWrite, LeavesMissed};
 /// A call that leaves alone each spot that a put would miss adds nothing to the trace but writes, each of a sector that
 /// is changed or that the put meets, and with the image's bytes at all places that the put does not meet.
 pub fn writes_of_calls()
-    ensures { (disk disk_new : State) (image image_new : ImageState) (at n : ℕ) → LeavesMissed at n disk image disk_new image_new
+    ensures { (disk disk_new : State) (image image_new : ImageState) (at n : ℕ)
+        → LeavesMissed at n disk image disk_new image_new
         → WritesOnly (IsAllowedWrite disk image at n) disk disk_new }
 {}
 
-/// Where nothing of an image is changed, a call that leaves alone each sector leaves the disk's trace as it is, with all
+/// Where nothing of an image is changed, a call that leaves alone each sector leaves the disk's trace as it is, with
+/// all
 /// that it tells of reads, and nothing of the image is changed then. It is so on every disk, whatever it tells.
 #[tactic(auto, using(crate::proofs::QuietLemmas::quiet_where_clean))]
 pub fn quiet_calls()
@@ -42,7 +44,8 @@ pub fn few_pages_differ()
 /// The first 512 bytes stay on the disk as the image has them, where a call leaves alone each of their places: any call
 /// but `write_header`.
 pub fn front_stays_stored()
-    ensures { (disk disk_new : State) (image image_new : ImageState) → IsSound disk → IsSound disk_new → IsDiskOf disk image
+    ensures { (disk disk_new : State) (image image_new : ImageState) → IsSound disk → IsSound disk_new
+        → IsDiskOf disk image
         → IsTrue (tells disk) → ((x : ℕ) → x < 512 → Leaves (Place x) disk image disk_new image_new)
         → IsFrontStored disk image → IsFrontStored disk_new image_new }
 {}

@@ -13,7 +13,8 @@ use std::alloc::{AllocError, Global};
 impl ImageState {
     ghost use Rattle.page_image.specs.Images.{IsOpened};
 
-    /// Reads the first 512 bytes of the image of a disk that has so many bytes: 512 to 67,108,864. No page is held then,
+    /// Reads the first 512 bytes of the image of a disk that has so many bytes: 512 to 67,108,864. No page is held
+    /// then,
     /// and no later call takes memory.
     ///
     /// # Errors
@@ -26,7 +27,8 @@ impl ImageState {
         ensures opened { IfOk result (IsOpened (D.state disk.new)) }
         ensures quiet { IsQuiet (D.state disk.old) (D.state disk.new) }
         ensures steady { IsSteady (D.state disk.old) (D.state disk.new) }
-        ensures cause { IfErr result (λ fault. fault ≡ ImageFault.Disk → Rose (D.state disk.old).counts.disk (D.state disk.new).counts.disk) }
+        ensures cause { IfErr result (λ fault. fault ≡ ImageFault.Disk
+            → Rose (D.state disk.old).counts.disk (D.state disk.new).counts.disk) }
     {
         let grain = disk.grain();
         let mut header = [0; 512];

@@ -20,8 +20,10 @@ pub(crate) fn put_all<D: Disk>(
     requires disk_of { IsDiskOf (D.state disk.old) image.old }
     requires inside { at + length bytes.now ≤ image.old.len }
     requires behind { 512 ≤ at }
-    ensures done { OnOk result (PutsFirst at bytes.now (length bytes.now) (D.state disk.old) image.old (D.state disk.new) image.new) }
-    ensures failed { OnErr result (PutsSome at (length bytes.now) (D.state disk.old) image.old (D.state disk.new) image.new) }
+    ensures done { OnOk result (PutsFirst at bytes.now (length bytes.now) (D.state disk.old) image.old
+        (D.state disk.new) image.new) }
+    ensures failed { OnErr result
+        (PutsSome at (length bytes.now) (D.state disk.old) image.old (D.state disk.new) image.new) }
     ensures cause { HasCause (D.state disk.old).counts.disk (D.state disk.new).counts.disk result }
 {
     let mut done = 0;
@@ -43,7 +45,8 @@ fn put_first<D: Disk>(
     requires inside { at + length bytes.now ≤ image.old.len }
     requires behind { 512 ≤ at }
     ensures count { IfOk result (λ n. n ≡ min (length bytes.now) (4096 - at % 4096)) }
-    ensures done { IfOk result (λ n. PutsFirst at (take n bytes.now) n (D.state disk.old) image.old (D.state disk.new) image.new) }
+    ensures done { IfOk result (λ n.
+        PutsFirst at (take n bytes.now) n (D.state disk.old) image.old (D.state disk.new) image.new) }
     ensures failed { OnErr result (LeavesTold (D.state disk.old) image.old (D.state disk.new) image.new) }
     ensures cause { HasCause (D.state disk.old).counts.disk (D.state disk.new).counts.disk result }
 {
@@ -64,7 +67,8 @@ fn put_piece<D: Disk>(
     requires inside { at + length piece.now ≤ image.old.len }
     requires in_page { at % 4096 + length piece.now ≤ 4096 }
     requires behind { 512 ≤ at }
-    ensures done { OnOk result (PutsFirst at piece.now (length piece.now) (D.state disk.old) image.old (D.state disk.new) image.new) }
+    ensures done { OnOk result (PutsFirst at piece.now (length piece.now) (D.state disk.old) image.old
+        (D.state disk.new) image.new) }
     ensures failed { OnErr result (LeavesTold (D.state disk.old) image.old (D.state disk.new) image.new) }
     ensures cause { HasCause (D.state disk.old).counts.disk (D.state disk.new).counts.disk result }
 {
@@ -89,7 +93,8 @@ fn put_within<D: Disk>(
     requires inside { at + length piece.now ≤ image.old.len }
     requires in_page { at % 4096 + length piece.now ≤ 4096 }
     requires behind { 512 ≤ at }
-    ensures done { OnOk result (PutsFirst at piece.now (length piece.now) (D.state disk.old) image.old (D.state disk.new) image.new) }
+    ensures done { OnOk result (PutsFirst at piece.now (length piece.now) (D.state disk.old) image.old
+        (D.state disk.new) image.new) }
     ensures failed { OnErr result (LeavesTold (D.state disk.old) image.old (D.state disk.new) image.new) }
     ensures cause { HasCause (D.state disk.old).counts.disk (D.state disk.new).counts.disk result }
 {
@@ -111,7 +116,8 @@ fn put_page<D: Disk>(
     requires fills { length piece.now ≡ min 4096 (image.old.len - at) }
     requires behind { 512 ≤ at }
     requires apart { is_held image.old (at / 4096) ≡ false }
-    ensures done { OnOk result (PutsFirst at piece.now (length piece.now) (D.state disk.old) image.old (D.state disk.new) image.new) }
+    ensures done { OnOk result (PutsFirst at piece.now (length piece.now) (D.state disk.old) image.old
+        (D.state disk.new) image.new) }
     ensures failed { OnErr result (LeavesTold (D.state disk.old) image.old (D.state disk.new) image.new) }
     ensures cause { HasCause (D.state disk.old).counts.disk (D.state disk.new).counts.disk result }
 {

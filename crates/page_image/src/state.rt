@@ -1,6 +1,7 @@
 //! What is held of an image.
 
-ghost use Rattle.std.specs.Prelude.{◌≡◌, ℕ, ◌+◌, ◌-◌, ◌*◌, ◌/◌, ◌%◌, ◌^◌, ◌<◌, ◌≤◌, true, false, None, Some, length, get_or, slice_index_or};
+ghost use Rattle.std.specs.Prelude.{◌≡◌, ℕ, ◌+◌, ◌-◌, ◌*◌, ◌/◌, ◌%◌, ◌^◌, ◌<◌, ◌≤◌, true, false, None, Some, length};
+ghost use Rattle.std.specs.Prelude.{get_or, slice_index_or};
 ghost use Rattle.page_image.specs.Layout.{IsImageLaidOut, IsEndOf};
 
 /// Why an image was not opened.
@@ -40,7 +41,8 @@ pub struct ImageState {
     // for each frame when it was last asked for, by the clock; 0 where it holds no page
     pub(crate) uses: Vec<u64>,
     pub(crate) clock: u64,
-    ghost layout: { IsImageLaidOut len grain (length slots.items) (length pages.items) (length bytes.items) (length changed.items) (length uses.items) },
+    ghost layout: { IsImageLaidOut len grain (length slots.items) (length pages.items) (length bytes.items)
+        (length changed.items) (length uses.items) },
 }
 
 impl ImageState {
@@ -339,8 +341,10 @@ fn write_part(bytes: &mut Vec<u8>, start: usize, piece: &[u8])
 fn set_marks(changed: &mut Vec<bool>, first: usize, n: usize)
     requires { first + n ≤ length changed.old.items }
     ensures within { (k : ℕ) → first ≤ k → k < first + n → slice_index_or changed.new.items k false ≡ true }
-    ensures before { (k : ℕ) → k < first → slice_index_or changed.new.items k false ≡ slice_index_or changed.old.items k false }
-    ensures behind { (k : ℕ) → first + n ≤ k → slice_index_or changed.new.items k false ≡ slice_index_or changed.old.items k false }
+    ensures before { (k : ℕ) → k < first
+        → slice_index_or changed.new.items k false ≡ slice_index_or changed.old.items k false }
+    ensures behind { (k : ℕ) → first + n ≤ k
+        → slice_index_or changed.new.items k false ≡ slice_index_or changed.old.items k false }
     ensures len { length changed.new.items ≡ length changed.old.items }
 {
     changed[first..first + n].fill(true);

@@ -367,7 +367,8 @@ fn a_generic_call_acts_on_an_image(rt: HostRuntime) -> Result<(), Fail> {
 fn store<D: Disk>(image: &mut Image<'_, D>, at: u64, bytes: [u8; 1]) -> Result<(), Bad>
     requires { IsWritable (shown D.state image.old).shape at 1 }
     ensures { IsTrue (shown D.state image.old).told
-        → OnOk result ((told : Told) → (D.state image.new.disk.now).told ≡ Some told → slice_index (image_now told) at ≡ slice_index bytes 0) }
+        → OnOk result ((told : Told) → (D.state image.new.disk.now).told ≡ Some told
+        → slice_index (image_now told) at ≡ slice_index bytes 0) }
 {
     match image.put(at, &bytes) {
         Ok(()) => {}

@@ -14,5 +14,6 @@ pub returns-else-is_held-clause-front : goal.returns-else-is_held-clause-front
 returns-else-is_held-clause-front g c =
     let d = g.D.Disk.state c.args.disk.now in
     IfOk-weaker c.read.result (λ done. IsRead d 0 c.read.new.out) (λ done. IsSector0 d c.args.image.now c.read.new.out)
-    (λ done. sector0_read d c.args.image.now c.read.new.out (g.met.D.Disk.sound c.args.disk.now) c.requires.disk_of (sym c.if-is_held.ensures))
+    (λ done. sector0_read d c.args.image.now c.read.new.out (g.met.D.Disk.sound c.args.disk.now) c.requires.disk_of
+    (sym c.if-is_held.ensures))
     c.read.ensures.value

@@ -1,4 +1,5 @@
-use Rattle.std.proofs.Common.{◌≡◌, ◌⊎◌, ◌+◌, ◌-◌, ◌%◌, ◌≤◌, ◌<◌, ℕ, List, length, min, take, drop, ap, inl, inr, ⊎_elim, refl, ◌∙◌, subst, arith}
+use Rattle.std.proofs.Common.{◌≡◌, ◌⊎◌, ◌+◌, ◌-◌, ◌%◌, ◌≤◌, ◌<◌, ℕ, List, length, min, take, drop, ap, inl, inr, ⊎_elim}
+use Rattle.std.proofs.Common.{refl, ◌∙◌, subst, arith}
 use Rattle.std.proofs.lemmas.List.{length-drop, take_all}
 use Rattle.std.proofs.lemmas.Bool.{cases_lt}
 use Rattle.save_bytes.specs.Spots.{Frame}
@@ -13,11 +14,13 @@ use Rattle.page_image.proofs.putting.put_all.Goals as goal
 gone_on : (at len done n : ℕ) → done ≤ len → n ≡ min (len - done) (4096 - (at + done) % 4096)
     → (done + n ≡ len) ⊎ ((done + n ≡ 0) ⊎ ((at + (done + n)) % 4096 ≡ 0))
 gone_on at len done n few is =
-    ⊎_elim (λ (last : len - done < 4096 - (at + done) % 4096). inl (omega arith)) (λ (full : 4096 - (at + done) % 4096 ≤ len - done). inr (inr (omega arith)))
+    ⊎_elim (λ (last : len - done < 4096 - (at + done) % 4096). inl (omega arith))
+    (λ (full : 4096 - (at + done) % 4096 ≤ len - done). inr (inr (omega arith)))
     (cases_lt (len - done) (4096 - (at + done) % 4096))
 
 -- where there is more to put, it begins a page or is the first
-begins : (at len done : ℕ) → done < len → (done ≡ len) ⊎ ((done ≡ 0) ⊎ ((at + done) % 4096 ≡ 0)) → (done ≡ 0) ⊎ ((at + done) % 4096 ≡ 0)
+begins : (at len done : ℕ) → done < len → (done ≡ len) ⊎ ((done ≡ 0) ⊎ ((at + done) % 4096 ≡ 0)) → (done ≡ 0)
+    ⊎ ((at + done) % 4096 ≡ 0)
 begins at len done more (inl all) = absurd (omega arith)
 begins at len done more (inr fresh) = fresh
 
@@ -49,12 +52,15 @@ returns-in_err-done-clause-failed g c =
     let state = g.D.Disk.state in
     let step = c.in_err-done.ensures in
     on_err c.from_residual.result
-    (puts_some c.args.at c.args.bytes.now c.loop-done.done (state c.args.disk.now) (state c.loop-done.disk) (state c.put_first.new.disk)
-    c.args.image.now c.loop-done.image c.put_first.new.image c.loop-done.invariant.puts (step.failed Frame tt).0 step.failed)
+    (puts_some c.args.at c.args.bytes.now c.loop-done.done (state c.args.disk.now) (state c.loop-done.disk)
+    (state c.put_first.new.disk)
+    c.args.image.now c.loop-done.image c.put_first.new.image c.loop-done.invariant.puts (step.failed Frame tt).0
+    step.failed)
 
 pub returns-in_err-done-clause-cause : goal.returns-in_err-done-clause-cause
 returns-in_err-done-clause-cause g c =
-    let rose = Rose-later _ (g.D.Disk.state c.loop-done.disk).counts.disk _ c.loop-done.invariant.puts.some.hold.steady.disk in
+    let rose = Rose-later _ (g.D.Disk.state c.loop-done.disk).counts.disk _
+    c.loop-done.invariant.puts.some.hold.steady.disk in
     on_err c.from_residual.result (rose c.in_err-done.ensures.cause)
 
 pub loop-done-smaller : goal.loop-done-smaller
@@ -79,7 +85,8 @@ loop-done-preserved g c =
     let next : PutsFirst (c.args.at + done) (take n (drop done bytes)) n e j f k =
     subst (λ (l : List ℕ). PutsFirst (c.args.at + done) (take n l) n e j f k) (rest_is bytes done) step.done in
     record {
-      puts = puts_more c.args.at bytes done (state c.args.disk.now) e f c.args.image.now j k before.puts next.some.hold n next (omega arith) (omega arith)
+      puts = puts_more c.args.at bytes done (state c.args.disk.now) e f c.args.image.now j k before.puts next.some.hold
+          n next (omega arith) (omega arith)
           (begins c.args.at (length bytes) done c.loop-done-test.true before.fresh) c.requires.inside;
       few = omega (arith, before.few, count);
       fresh = gone_on c.args.at (length bytes) done n before.few count;

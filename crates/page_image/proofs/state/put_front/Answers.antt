@@ -10,4 +10,5 @@ pub copy_from_slice-requires : goal.copy_from_slice-requires
 copy_from_slice-requires c = length-take-le 512 c.args.out.now c.requires ∙ sym c.told-header
 
 pub returns-clause-behind : goal.returns-clause-behind
-returns-clause-behind c = λ k from. behind_part 512 c.args.out.now c.copy_from_slice.new.self k c.requires c.copy_from_slice.ensures.len from
+returns-clause-behind c = λ k from.
+    behind_part 512 c.args.out.now c.copy_from_slice.new.self k c.requires c.copy_from_slice.ensures.len from

@@ -7,5 +7,6 @@ returns-in_err-ready-clause-quiet g c = quiet_reads g.D.Disk.state _ _ _ _ c.rea
 
 pub returns-clause-quiet : goal.returns-clause-quiet
 returns-clause-quiet g c = λ clean.
-    quiet_reads g.D.Disk.state _ _ _ _ c.read_one.ensures.reads (clean_reads g.D.Disk.state _ _ _ _ c.ready.ensures.reads clean)
+    quiet_reads g.D.Disk.state _ _ _ _ c.read_one.ensures.reads
+    (clean_reads g.D.Disk.state _ _ _ _ c.ready.ensures.reads clean)
     ∙ quiet_reads g.D.Disk.state _ _ _ _ c.ready.ensures.reads clean

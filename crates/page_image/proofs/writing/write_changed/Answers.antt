@@ -19,12 +19,14 @@ returns-in_err-write-clause-failed g c =
     on_err c.from_residual.result
     (wrote_this_or_none (state c.args.disk.now) c.args.image.now _ _
     (record { changed = sym c.if-not-is_changed.ensures; bytes = c.copy_sector.ensures (state c.args.disk.now) })
-    (g.met.D.Disk.sound c.args.disk.now) c.requires.disk_of (state c.write.new.self) c.write.ensures.steady c.in_err-write.ensures.failed)
+    (g.met.D.Disk.sound c.args.disk.now) c.requires.disk_of (state c.write.new.self) c.write.ensures.steady
+    c.in_err-write.ensures.failed)
 
 pub returns-clause-done : goal.returns-clause-done
 returns-clause-done g c =
     let state = g.D.Disk.state in
     wrote_this (state c.args.disk.now) c.args.image.now c.args.sector c.copy_sector.new.out
     (record { changed = sym c.if-not-is_changed.ensures; bytes = c.copy_sector.ensures (state c.args.disk.now) })
-    (g.met.D.Disk.sound c.args.disk.now) c.requires.disk_of (state c.write.new.self) c.unmark.new.self c.write.ensures.steady
+    (g.met.D.Disk.sound c.args.disk.now) c.requires.disk_of (state c.write.new.self) c.unmark.new.self
+    c.write.ensures.steady
     c.unmark.ensures c.in_ok-write.ensures.written

@@ -20,7 +20,8 @@ loop-sector-init g c = record {
 }
 
 pub write_changed-requires-clause-disk_of : goal.write_changed-requires-clause-disk_of
-write_changed-requires-clause-disk_of g c = kept_disk _ _ _ _ (c.loop-sector.invariant.out.went.leaves Frame).0 c.requires.disk_of
+write_changed-requires-clause-disk_of g c =
+    kept_disk _ _ _ _ (c.loop-sector.invariant.out.went.leaves Frame).0 c.requires.disk_of
 
 pub write_changed-requires-clause-inside : goal.write_changed-requires-clause-inside
 write_changed-requires-clause-inside g c =
@@ -32,12 +33,14 @@ pub returns-in_err-write_changed-clause-failed : goal.returns-in_err-write_chang
 returns-in_err-write_changed-clause-failed g c =
     let state = g.D.Disk.state in
     on_err c.from_residual.result
-    (part_more (state c.args.disk.now) (state c.loop-sector.disk) (state c.write_changed.new.disk) c.args.image.now c.loop-sector.image _
+    (part_more (state c.args.disk.now) (state c.loop-sector.disk) (state c.write_changed.new.disk) c.args.image.now
+    c.loop-sector.image _
     c.loop-sector.invariant.out c.in_err-write_changed.ensures.failed)
 
 pub returns-in_err-write_changed-clause-cause : goal.returns-in_err-write_changed-clause-cause
 returns-in_err-write_changed-clause-cause g c =
-    let rose = Rose-later _ (g.D.Disk.state c.loop-sector.disk).counts.disk _ (c.loop-sector.invariant.out.went.leaves Frame).0.steady.disk in
+    let rose = Rose-later _ (g.D.Disk.state c.loop-sector.disk).counts.disk _
+    (c.loop-sector.invariant.out.went.leaves Frame).0.steady.disk in
     on_err c.from_residual.result (rose c.in_err-write_changed.ensures.cause)
 
 pub loop-sector-preserved : goal.loop-sector-preserved
@@ -46,11 +49,13 @@ loop-sector-preserved g c =
     let before = c.loop-sector.invariant in
     let step = c.in_ok-write_changed.ensures in
     record {
-      out = out_more (state c.args.disk.now) (state c.loop-sector.disk) (state c.write_changed.new.disk) c.args.image.now c.loop-sector.image _
+      out = out_more (state c.args.disk.now) (state c.loop-sector.disk) (state c.write_changed.new.disk)
+          c.args.image.now c.loop-sector.image _
           before.out step.done;
       clean = λ sector from below.
           ⊎_elim
           (λ (here : sector ≡ c.loop-sector.sector). rw here step.clean)
-          (λ (apart : sector ≢ c.loop-sector.sector). clean_still _ _ _ _ step.done.went sector (before.clean sector from (omega arith)))
+          (λ (apart : sector ≢ c.loop-sector.sector).
+          clean_still _ _ _ _ step.done.went sector (before.clean sector from (omega arith)))
           (cases_eq sector c.loop-sector.sector);
     }

@@ -19,12 +19,14 @@ write_out-requires g c = disk_of-true _ _ c.requires
 pub returns-clause-frame : goal.returns-clause-frame
 returns-clause-frame g c =
     either_way c.write_out.result (λ out. (record { same_image = refl; same_disk = refl }, out.went.leaves Frame))
-    (λ part. (record { same_image = refl; same_disk = refl }, part.went.leaves Frame)) c.write_out.ensures.done c.write_out.ensures.failed
+    (λ part. (record { same_image = refl; same_disk = refl }, part.went.leaves Frame)) c.write_out.ensures.done
+    c.write_out.ensures.failed
 
 pub returns-clause-spots : goal.returns-clause-spots
 returns-clause-spots g c = λ spot.
     either_way c.write_out.result (λ out. (record { same_image = refl; same_disk = refl }, out.went.leaves spot))
-    (λ part. (record { same_image = refl; same_disk = refl }, part.went.leaves spot)) c.write_out.ensures.done c.write_out.ensures.failed
+    (λ part. (record { same_image = refl; same_disk = refl }, part.went.leaves spot)) c.write_out.ensures.done
+    c.write_out.ensures.failed
 
 pub returns-clause-cells : goal.returns-clause-cells
 returns-clause-cells g c = λ x below.
@@ -34,7 +36,8 @@ returns-clause-cells g c = λ x below.
 pub returns-clause-written : goal.returns-clause-written
 returns-clause-written g c =
     both_weaker c.write_out.result
-    (all_written (g.D.Disk.state c.args.self.now.disk.now) (g.D.Disk.state c.write_out.new.disk) c.args.self.now.image.now c.write_out.new.image)
+    (all_written (g.D.Disk.state c.args.self.now.disk.now) (g.D.Disk.state c.write_out.new.disk)
+    c.args.self.now.image.now c.write_out.new.image)
     c.write_out.ensures.done c.write_out.ensures.clean
 
 pub returns-clause-failed : goal.returns-clause-failed
@@ -55,7 +58,8 @@ returns-clause-few g c = λ told.
     on_ok_weaker c.write_out.result
     (λ out.
     subst (λ (n : ℕ). DiffersWithin 512 n e j) (out.went.leaves Frame).0.frames
-    (few_pages e j (g.met.D.Disk.sound c.write_out.new.disk) (kept_disk _ e _ j (out.went.leaves Frame).0 (disk_of-true _ _ c.requires))
+    (few_pages e j (g.met.D.Disk.sound c.write_out.new.disk)
+    (kept_disk _ e _ j (out.went.leaves Frame).0 (disk_of-true _ _ c.requires))
     (out.told ∙ told)))
     c.write_out.ensures.done
 
@@ -64,9 +68,12 @@ front : (g : Over) (c : After-write_out g) → IsTrue (tells (g.D.Disk.state c.a
     → IsFrontStored (g.D.Disk.state c.args.self.now.disk.now) c.args.self.now.image.now
     → IsFrontStored (g.D.Disk.state c.write_out.new.disk) c.write_out.new.image
 front g c told =
-    front_stays (g.D.Disk.state c.args.self.now.disk.now) (g.D.Disk.state c.write_out.new.disk) c.args.self.now.image.now c.write_out.new.image
-    (g.met.D.Disk.sound c.args.self.now.disk.now) (g.met.D.Disk.sound c.write_out.new.disk) (disk_of-true _ _ c.requires) told
-    (λ x below. either_way c.write_out.result (λ out. (out.went.leaves (Place x)).1) (λ part. (part.went.leaves (Place x)).1)
+    front_stays (g.D.Disk.state c.args.self.now.disk.now) (g.D.Disk.state c.write_out.new.disk)
+    c.args.self.now.image.now c.write_out.new.image
+    (g.met.D.Disk.sound c.args.self.now.disk.now) (g.met.D.Disk.sound c.write_out.new.disk)
+    (disk_of-true _ _ c.requires) told
+    (λ x below. either_way c.write_out.result (λ out. (out.went.leaves (Place x)).1)
+    (λ part. (part.went.leaves (Place x)).1)
     c.write_out.ensures.done c.write_out.ensures.failed)
 
 pub returns-clause-front : goal.returns-clause-front
@@ -79,7 +86,8 @@ returns-clause-few_in_all g c = λ told stored.
     on_ok_weaker c.write_out.result
     (λ out.
     subst (λ (n : ℕ). DiffersWithin 0 n e j) (out.went.leaves Frame).0.frames
-    (few_in_all e j (g.met.D.Disk.sound c.write_out.new.disk) (kept_disk _ e _ j (out.went.leaves Frame).0 (disk_of-true _ _ c.requires))
+    (few_in_all e j (g.met.D.Disk.sound c.write_out.new.disk)
+    (kept_disk _ e _ j (out.went.leaves Frame).0 (disk_of-true _ _ c.requires))
     (out.told ∙ told) (front g (goal.at.returns-clause-few_in_all g c).After-write_out told stored)))
     c.write_out.ensures.done
 

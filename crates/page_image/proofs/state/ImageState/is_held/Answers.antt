@@ -7,8 +7,10 @@ returns-then-len-frame c = unheld_past c.args.self.now c.args.page _ c.frame_of-
 
 pub returns-in-Some : goal.returns-in-Some
 returns-in-Some c =
-    held_as c.args.self.now c.args.page c.frame_of-frame.result (Some c.in-Some.held) c.frame_of-frame.ensures (sym c.in-Some.is ∙ c.page_in.ensures)
+    held_as c.args.self.now c.args.page c.frame_of-frame.result (Some c.in-Some.held) c.frame_of-frame.ensures
+    (sym c.in-Some.is ∙ c.page_in.ensures)
 
 pub returns-in-None : goal.returns-in-None
 returns-in-None c =
-    held_as c.args.self.now c.args.page c.frame_of-frame.result None c.frame_of-frame.ensures (sym c.in-None.is ∙ c.page_in.ensures)
+    held_as c.args.self.now c.args.page c.frame_of-frame.result None c.frame_of-frame.ensures
+    (sym c.in-None.is ∙ c.page_in.ensures)
