@@ -23,10 +23,6 @@ module _ (start n : ℕ) (bytes out : List ℕ) (fits : start + n ≤ length byt
       → get_or (put_mid start (start + n - start) bytes out) (start + k) 0 ≡ get_or out k 0
   part_inside k within = grind (arith, places)
 
-  pub part_behind : (x : ℕ) → start + n ≤ x
-      → get_or (put_mid start (start + n - start) bytes out) x 0 ≡ get_or bytes x 0
-  part_behind x behind = grind (arith, places)
-
 -- a byte of a sector that was read
 pub own_read : (disk : disks.State) (grain sector : ℕ) (out : List ℕ) → disks.IsSound disk → grain ≡ disk.grain
     → disks.IsRead disk sector out
@@ -62,11 +58,6 @@ sector_read disk grain first sector bytes out sound same fits long read before =
     (subst (λ (x : ℕ). IsByteRead disk grain x (get_or out m 0)) here
     (own_read disk grain (first + sector) out sound same read m within)))
     (cases_lt k start)
-
--- a disk that tells the same trace
-pub read_same : (disk other : disks.State) (grain first : ℕ) (bytes : List ℕ) (n : ℕ) → disk.told ≡ other.told
-    → AreSectorsRead disk grain first bytes n → AreSectorsRead other grain first bytes n
-read_same disk other grain first bytes n same read = λ k below told is sure. read k below told (same ∙ is) sure
 
 -- what a whole slice becomes
 pub written_back : (n : ℕ) (new rest : List ℕ) → length new ≡ n → take n (new ++ rest) ≡ new

@@ -24,9 +24,6 @@ module _ (grain : ℕ) (known : IsTrue (is_grain grain)) where
   sector_page x = by_grain grain known (λ (g : ℕ). x / g * g / 4096 ≡ x / 4096) (omega arith) (omega arith)
 
   -- a sector ends in the page in which it begins
-  pub sector_inside : (s : ℕ) → s * grain % 4096 + grain ≤ 4096
-  sector_inside s = by_grain grain known (λ (g : ℕ). s * g % 4096 + g ≤ 4096) (omega arith) (omega arith)
-
   pub place_page : (s k : ℕ) → k < grain → (s * grain + k) / 4096 ≡ s * grain / 4096
   place_page s k =
       by_grain grain known (λ (g : ℕ). k < g → (s * g + k) / 4096 ≡ s * g / 4096) (λ below. omega arith)

@@ -273,12 +273,3 @@ unmarked_unheld i none = record {
   clean = changed_unheld i (0 * i.grain) none;
   others = λ s apart. refl;
 }
-
-pub marked_unheld : (i : ImageState) → is_held i 0 ≡ false → IsFirstMarked i i
-marked_unheld i none = record {
-  same = record { len = refl; grain = refl; header = refl; frames = refl; slots = refl };
-  held = λ page. refl;
-  bytes = λ x. refl;
-  marked = λ held. absurd (cc);
-  others = λ s apart. refl;
-}

@@ -15,4 +15,6 @@ pub use laws::{few_pages_differ, front_stays_stored, quiet_calls, writes_of_call
 pub use state::{ImageFault, ImageState};
 
 #[cfg(test)]
+mod longest_tests;
+#[cfg(test)]
 mod tests;

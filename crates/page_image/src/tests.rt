@@ -287,7 +287,7 @@ fn a_sync_is_passed_on(rt: HostRuntime) -> Result<(), Fail> {
     Ok(())
 }
 
-fn read_one<S: Space>(space: &mut S, at: u64) -> Result<u8, Bad>
+pub(crate) fn read_one<S: Space>(space: &mut S, at: u64) -> Result<u8, Bad>
     requires { IsInside (S.state space.old).shape at 1 }
     ensures byte { IsTrue (S.state space.old).told → IfOk result (λ byte. (S.state space.old).cells at ≡ Byte byte) }
     ensures reads { Reads S.state S.keeps S.lands space.old space.new (result_err result) }
