@@ -9,11 +9,11 @@ use Rattle.save_disk.specs.Keeps.{HoldsAt}
 
 -- A write in a call that puts n bytes at a place: its sector is changed or has one of the places, and it holds the
 -- image's byte at each other place. A call that reads puts none.
-pub record IsAllowedWrite (disk : disks.State) (image : ImageState) (at n : ℕ) (sector : ℕ) (written : List ℕ) : Type 0
-  where
-    pub changed : is_changed image sector ≡ false → Misses (ImageLands image.grain) at n (Sector sector) → ⊥
-    pub bytes : (x : ℕ) → x < image.len → Misses (ImageLands image.grain) at n (Place x)
-        → HoldsAt image.grain x (byte_of disk image x) sector written
+pub record IsAllowedWrite (disk : disks.State) (image : ImageState) (at n : ℕ) (sector : ℕ)
+    (written : List ℕ) : Type 0 where
+  pub changed : is_changed image sector ≡ false → Misses (ImageLands image.grain) at n (Sector sector) → ⊥
+  pub bytes : (x : ℕ) → x < image.len → Misses (ImageLands image.grain) at n (Place x)
+      → HoldsAt image.grain x (byte_of disk image x) sector written
 
 -- a call that leaves alone each spot that a put of n bytes at a place misses
 abbrev pub LeavesMissed : ℕ → ℕ → disks.State → ImageState → disks.State → ImageState → Type 0

@@ -11,8 +11,7 @@ use Rattle.page_image.specs.Allowed.{IsOldOrNewSector}
 use Rattle.page_image.specs.Puts.{IsPending}
 
 -- A put of n bytes at a place, however far it got: what it misses is left alone, and each write is of a sector as it
--- was
--- or as it is.
+-- was or as it is.
 pub record PutsSome (at n : ℕ) (disk : disks.State) (image : ImageState) (disk_new : disks.State)
     (image_new : ImageState) : Type 0 where
   pub hold : SameImage disk image disk_new image_new

@@ -9,8 +9,7 @@ use Rattle.save_disk.specs.Tells.{tells}
 use Rattle.page_image.specs.Images.{byte_of, is_changed, is_disk_of}
 
 -- What no call changes: the length, the grain and the number of frames. The disk's trace grows by writes alone. The
--- disk
--- stays that of the image, and what is changed stays so until its sector is written.
+-- disk stays that of the image, and what is changed stays so until its sector is written.
 pub record SameImage (disk : disks.State) (image : ImageState) (disk_new : disks.State) (image_new : ImageState) : Type
     0 where
   pub len : image_new.len ≡ image.len
@@ -27,8 +26,7 @@ abbrev pub SureAsBefore : ℕ → disks.State → disks.State → Type 0
 SureAsBefore number = disks.GoesOn (λ told next. next.sure number ≡ told.sure number)
 
 -- A place of the image is left alone where its byte is as before and each write holds it. A sector is left alone where,
--- if it was not
--- changed before, it is not changed, was not written, and its reads are told as before.
+-- if it was not changed before, it is not changed, was not written, and its reads are told as before.
 abbrev pub SameImageSpot : Spot → disks.State → ImageState → disks.State → ImageState → Type 0
 SameImageSpot (Place x) disk image disk_new image_new =
     x < image.len → (byte_of disk_new image_new x ≡ byte_of disk image x)

@@ -23,25 +23,24 @@ pub record IsOwnWrite (disk : disks.State) (image : ImageState) (sector : ℕ) (
   pub bytes : IsSectorOf disk image sector written
 
 -- of the chosen sectors each that is changed was written as it is, once, and no other
-pub record WritesEach (disk : disks.State) (image : ImageState) (is_chosen : ℕ → Bool) (events : List Event) : Type 0
-  where
-    pub own : OnlyWrites (IsOwnWrite disk image) events
-    pub count : (sector : ℕ) → writes_to sector events ≡ one_if (is_chosen sector && is_changed image sector)
+pub record WritesEach (disk : disks.State) (image : ImageState) (is_chosen : ℕ → Bool)
+    (events : List Event) : Type 0 where
+  pub own : OnlyWrites (IsOwnWrite disk image) events
+  pub count : (sector : ℕ) → writes_to sector events ≡ one_if (is_chosen sector && is_changed image sector)
 
 -- of the chosen sectors some that are changed were written as they are, each once, and no other
-pub record WritesSome (disk : disks.State) (image : ImageState) (is_chosen : ℕ → Bool) (events : List Event) : Type 0
-  where
-    pub own : OnlyWrites (IsOwnWrite disk image) events
-    pub count : (sector : ℕ) → writes_to sector events ≤ one_if (is_chosen sector && is_changed image sector)
+pub record WritesSome (disk : disks.State) (image : ImageState) (is_chosen : ℕ → Bool)
+    (events : List Event) : Type 0 where
+  pub own : OnlyWrites (IsOwnWrite disk image) events
+  pub count : (sector : ℕ) → writes_to sector events ≤ one_if (is_chosen sector && is_changed image sector)
 
 -- A call that writes sectors out leaves alone every byte and what is not changed. The same pages lie in the same
--- frames,
--- and no sector is changed that was not.
-pub record GoesOut (disk : disks.State) (image : ImageState) (disk_new : disks.State) (image_new : ImageState) : Type 0
-  where
-    pub leaves : (spot : Spot) → Leaves spot disk image disk_new image_new
-    pub frames : KeepsFrames image image_new
-    pub fewer : (sector : ℕ) → is_changed image_new sector ≡ true → is_changed image sector ≡ true
+-- frames, and no sector is changed that was not.
+pub record GoesOut (disk : disks.State) (image : ImageState) (disk_new : disks.State)
+    (image_new : ImageState) : Type 0 where
+  pub leaves : (spot : Spot) → Leaves spot disk image disk_new image_new
+  pub frames : KeepsFrames image image_new
+  pub fewer : (sector : ℕ) → is_changed image_new sector ≡ true → is_changed image sector ≡ true
 
 -- each sector that is not changed any more was written as it was, once, and no other
 pub record IsWrittenOut (disk : disks.State) (image : ImageState) (disk_new : disks.State)

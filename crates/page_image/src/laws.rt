@@ -20,8 +20,7 @@ pub fn writes_of_calls()
 {}
 
 /// Where nothing of an image is changed, a call that leaves alone each sector leaves the disk's trace as it is, with
-/// all
-/// that it tells of reads, and nothing of the image is changed then. It is so on every disk, whatever it tells.
+/// all that it tells of reads, and nothing of the image is changed then. It is so on every disk, whatever it tells.
 #[tactic(auto, using(crate::proofs::QuietLemmas::quiet_where_clean))]
 pub fn quiet_calls()
     ensures quiet { (disk disk_new : State) (image image_new : ImageState) → IsClean image

@@ -14,8 +14,7 @@ impl ImageState {
     ghost use Rattle.page_image.specs.Images.{IsOpened};
 
     /// Reads the first 512 bytes of the image of a disk that has so many bytes: 512 to 67,108,864. No page is held
-    /// then,
-    /// and no later call takes memory.
+    /// then, and no later call takes memory.
     ///
     /// # Errors
     ///
