@@ -4,3 +4,4 @@ pub mod PathLemmas
 pub mod StateLemmas
 pub mod StepLemmas
 pub mod ViewLemmas
+pub mod MarkLemmas

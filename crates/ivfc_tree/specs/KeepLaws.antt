@@ -13,15 +13,10 @@ use Rattle.ivfc_tree.specs.Held.{shown, SameHold, SameOwn, HashKeeps, IsOnPath, 
 use Rattle.ivfc_tree.specs.ViewLaws.{level4_size, true-can_view_hashes, tree_of, view_cells}
 
 pub AsManyMarks-same : (s : IvfcState) → AsManyMarks s s
-AsManyMarks-same s = record { marks1 = refl; marks2 = refl; marks3 = refl; marks4 = refl }
+AsManyMarks-same s level = refl
 
 pub AsManyMarks-join : (s t u : IvfcState) → AsManyMarks s t → AsManyMarks t u → AsManyMarks s u
-AsManyMarks-join s t u h k = record {
-  marks1 = k.marks1 ∙ h.marks1;
-  marks2 = k.marks2 ∙ h.marks2;
-  marks3 = k.marks3 ∙ h.marks3;
-  marks4 = k.marks4 ∙ h.marks4;
-}
+AsManyMarks-join s t u h k level = k level ∙ h level
 
 module _ {S : Type 0} where
   SameHold-same : (s : IvfcView S) → SameHold s s
@@ -94,10 +89,10 @@ module _ {S : Type 0} (states : S → State) (keeps : Spot → S → S → Type 
         shape s.base.now t.base.now h.2,
         h.0.same_difi,
         h.0.master_len,
-        marks.marks1,
-        marks.marks2,
-        marks.marks3,
-        marks.marks4,
+        marks 1,
+        marks 2,
+        marks 3,
+        marks 4,
       ) refl
 
 -- what holds of two spaces where each spot was left alone, if they lie soundly without twins and are told

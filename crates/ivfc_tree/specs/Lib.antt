@@ -2,7 +2,9 @@ pub mod Hashing
 pub mod Levels
 pub mod Marks
 pub mod Paths
+pub mod Known
 pub mod View
 pub mod Held
 pub mod ViewLaws
+pub mod KnownLaws
 pub mod KeepLaws

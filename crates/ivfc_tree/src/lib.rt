@@ -4,6 +4,7 @@
 mod hashing;
 mod laws;
 mod levels;
+mod marks;
 mod path;
 mod state;
 mod view;

@@ -1,36 +1,26 @@
 //! What a hash tree keeps between its views.
 
-ghost use Rattle.std.specs.Prelude.{◌≡◌, ℕ, ◌<◌, ◌≤◌, false, List, replicate, IfOk};
-ghost use Rattle.difi.specs.Places.{blocks_of};
+ghost use Rattle.std.specs.Prelude.{◌≡◌, ℕ, ◌<◌, List, length, IfOk};
 ghost use Rattle.save_bytes.specs.Cells.{Cell};
 ghost use Rattle.difi.specs.Sound.{HasBlockSizes};
 ghost use Rattle.ivfc_tree.specs.Levels.{IsLevel};
-ghost use Rattle.ivfc_tree.specs.Marks.{is_marked, IsMadeFor, HasNoMarks};
+ghost use Rattle.ivfc_tree.specs.Marks.{is_marked, is_remembered, level_marks, IsMadeFor, HasNoMarks, IsEmpty, MarksBlock};
 ghost use Rattle.ivfc_tree.specs.Paths.{IsStateOf, block_state};
 
-use difi::{Difi, LevelPlace};
+use crate::marks::{BlockMark, Marks};
+use difi::Difi;
 use std::alloc::{AllocError, Global};
 
-/// Which blocks of each level were put or cleared in the present transaction.
+/// Which blocks of each level were put or cleared in the present transaction, what is remembered of the others, and how
+/// many were hashed.
 #[derive(Drop)]
 pub struct IvfcState {
-    put1: Vec<bool>,
-    put2: Vec<bool>,
-    put3: Vec<bool>,
-    put4: Vec<bool>,
-}
-
-// A clear mark for each block of a level.
-fn no_marks(alloc: Global, level: &LevelPlace) -> Result<Vec<bool>, AllocError>
-    requires { level.now.log ≤ 16 }
-    ensures { IfOk result (λ marks. marks.items ≡ replicate (blocks_of level.now) false) }
-{
-    let blocks = level.size.div_ceil(1 << level.log);
-    vec![in alloc; false; blocks as usize]
+    marks: Marks,
+    hashed: u64,
 }
 
 impl IvfcState {
-    /// The state of a descriptor's tree in which nothing was put or cleared.
+    /// The state of a descriptor's tree in which nothing was put or cleared, and nothing is remembered.
     ///
     /// # Errors
     ///
@@ -39,16 +29,16 @@ impl IvfcState {
         requires { HasBlockSizes difi.now }
         ensures made { IfOk result (IsMadeFor difi.now) }
         ensures unmarked { IfOk result HasNoMarks }
+        ensures empty { IfOk result IsEmpty }
+        ensures none { IfOk result (λ state. state.hashed ≡ 0) }
         // A block is good exactly where it has a hash path. Where it has none, it is named by the topmost level that
         // fails, as never written exactly where the entry there is 32 zero bytes.
         ensures paths { IfOk result (λ state. (cells : ℕ → Cell) (master : List ℕ) (level block : ℕ)
             → IsStateOf cells master difi.now level block (block_state cells master difi.now state level block)) }
     {
         Ok(IvfcState {
-            put1: no_marks(alloc, &difi.ivfc1)?,
-            put2: no_marks(alloc, &difi.ivfc2)?,
-            put3: no_marks(alloc, &difi.ivfc3)?,
-            put4: no_marks(alloc, &difi.ivfc4)?,
+            marks: Marks::new(alloc, difi)?,
+            hashed: 0,
         })
     }
 
@@ -56,12 +46,15 @@ impl IvfcState {
     pub(crate) fn is_marked(&self, level: u8, block: u64) -> bool
         ensures { result ≡ is_marked self.now level block }
     {
-        let marks = match level {
-            1 => &self.put1,
-            2 => &self.put2,
-            3 => &self.put3,
-            _ => &self.put4,
-        };
-        marks.get(block as usize).copied().unwrap_or(false)
+        matches!(self.marks.get(level, block), BlockMark::Put)
+    }
+
+    /// Notes that a block was put or cleared.
+    pub(crate) fn mark(&mut self, level: u8, block: u64)
+        requires level { IsLevel level }
+        requires block { block < length (level_marks self.old.marks level) }
+        ensures { MarksBlock level block self.old self.new }
+    {
+        self.marks.set(level, block, BlockMark::Put);
     }
 }

@@ -22,7 +22,7 @@ returns-clause-reads g c =
         same_master = refl;
         master_len = refl;
         same_state = refl;
-        marks = record { marks1 = refl; marks2 = refl; marks3 = refl; marks4 = refl };
+        marks = λ level. refl;
       };
       master_now = refl;
       state_now = refl;
