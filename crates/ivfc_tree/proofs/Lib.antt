@@ -3,5 +3,6 @@ pub mod HashLemmas
 pub mod PathLemmas
 pub mod StateLemmas
 pub mod StepLemmas
+pub mod LearnLemmas
 pub mod ViewLemmas
 pub mod MarkLemmas

@@ -1,11 +1,16 @@
 -- A mark that is set.
-use Rattle.std.proofs.Common.{◌≡◌, ◌≢◌, ℕ, ◌<◌, length, set, refl, ⊎_elim, get_or-set_same, get_or-set_other}
+use Rattle.std.proofs.Common.{◌≡◌, ◌≢◌, ℕ, ◌<◌, length, set, refl, ◌∙◌, ⊎_elim, get_or-set_same, get_or-set_other}
 use Rattle.std.proofs.lemmas.Bool.{cases_eq, ne_eqb}
 use Rattle.std.proofs.lemmas.List.{length-set}
+use Rattle.difi.specs.declared.descriptor.Difi.{Difi}
+use Rattle.difi.specs.Places.{blocks_of}
 use Rattle.ivfc_tree.specs.declared.marks.BlockMark.{BlockMark}
 use Rattle.ivfc_tree.specs.declared.marks.BlockMark.TheVariants.{Unknown}
 use Rattle.ivfc_tree.specs.declared.marks.Marks.{Marks}
-use Rattle.ivfc_tree.specs.Marks.{level_marks, mark_in, IsSet}
+use Rattle.ivfc_tree.specs.declared.state.IvfcState.{IvfcState}
+use Rattle.ivfc_tree.specs.Levels.{level_of, HasBlock}
+use Rattle.ivfc_tree.specs.Marks.{level_marks, mark_in, IsMadeFor, IsSet}
+use Rattle.ivfc_tree.specs.ViewLaws.{by_level, level4_size, level4_log}
 
 -- where one level's marks are those of before with one set, and the other levels' are those of before
 module _ (level block : ℕ) (mark : BlockMark) (old new : Marks) (inside : block < length (level_marks old level))
@@ -52,3 +57,14 @@ module _ (old new : Marks) where
   pub others4 : new.level1 ≡ old.level1 → new.level2 ≡ old.level2 → new.level3 ≡ old.level3
       → (l : ℕ) → l ≢ 4 → level_marks new l ≡ level_marks old l
   others4 one two three l other = rw (ne_eqb l 4 other, one, two, three) refl
+
+-- a state has a mark for each block of the tree that it was made for
+pub mark_there : (difi : Difi) (state : IvfcState) (level block : ℕ) → IsMadeFor difi state → HasBlock difi level block
+    → block < length (level_marks state.marks level)
+unfolding level_of
+mark_there difi state level block made there =
+    let many = by_level (λ level. length (level_marks state.marks level) ≡ blocks_of (level_of difi level)) made.marks1 made.marks2
+    made.marks3
+    (made.marks4 ∙ rw (level4_size difi, level4_log difi) refl)
+    level there.in_tree in
+    rw many there.in_level

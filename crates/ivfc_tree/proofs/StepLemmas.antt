@@ -9,7 +9,7 @@ use Rattle.ivfc_tree.specs.Levels.{parent_of}
 use Rattle.ivfc_tree.specs.Marks.{is_marked}
 use Rattle.ivfc_tree.specs.Paths.{own_state, after, marked_state, block_state}
 
-after-fault : (found above own : BlockState) → found ≡ above → found ≢ Good → found ≡ after above own
+pub after-fault : (found above own : BlockState) → found ≡ above → found ≢ Good → found ≡ after above own
 after-fault found Good own is fault = absurd (fault is)
 after-fault found (BlankAt upper at) own is fault = is
 after-fault found (BadAt upper at) own is fault = is

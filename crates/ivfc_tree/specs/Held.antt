@@ -1,6 +1,7 @@
 -- What a view through the hash tree holds, which spots a call on it leaves alone, and which a put may touch.
-use Rattle.std.specs.Prelude.{◌≡◌, ◌⊎◌, ℕ, ◌+◌, ◌/◌, ◌<◌, List, length}
+use Rattle.std.specs.Prelude.{◌≡◌, ◌⊎◌, ℕ, ◌+◌, ◌/◌, ◌<◌, List, length, Option}
 use Rattle.std.specs.Borrow.{MutBor}
+use Rattle.save_bytes.specs.declared.space.Bad.{Bad}
 use Rattle.save_bytes.specs.State.{State}
 use Rattle.save_bytes.specs.Spots.{Spot, Mark, Frame}
 use Rattle.difi.specs.declared.descriptor.Difi.{Difi}
@@ -10,6 +11,7 @@ use Rattle.ivfc_tree.specs.declared.view.IvfcView.{IvfcView}
 use Rattle.ivfc_tree.specs.Levels.{IsLevel, level_of}
 use Rattle.ivfc_tree.specs.Marks.{is_marked, SameMarks, AsManyMarks}
 use Rattle.ivfc_tree.specs.Paths.{path_block}
+use Rattle.ivfc_tree.specs.Known.{Learns}
 use Rattle.ivfc_tree.specs.View.{view_state}
 
 -- what a contract sees of a view over a base of which this is seen
@@ -39,11 +41,11 @@ pub record SameHold {S : Type 0} (old new : IvfcView S) : Type 0 where
   pub same_state : new.state.ghost_name ≡ old.state.ghost_name
   pub marks : AsManyMarks old.state.now new.state.now
 
--- the same master hash and state too; the base may have changed
-pub record SameHashView {S : Type 0} (old new : IvfcView S) : Type 0 where
+-- a call that looks for a block's state changes nothing of the view itself but what is remembered; the base may have changed
+pub record LooksUp {S : Type 0} (level block : ℕ) (old new : IvfcView S) (refusal : Option Bad) : Type 0 where
   pub hold : SameHold old new
   pub master_now : new.master.now ≡ old.master.now
-  pub state_now : new.state.now ≡ old.state.now
+  pub learns : Learns old.difi.now level block old.state.now new.state.now refusal
 
 -- a block's mark was left alone, or all marks and the master hash; other spots are not in the view itself
 abbrev pub SameOwn : {S : Type 0} → Spot → IvfcView S → IvfcView S → Type 0

@@ -1,5 +1,6 @@
 -- The laws of a space on what is kept, of a view through the hash tree, where they hold of its base.
 use Rattle.std.proofs.Common.{◌≡◌, ℕ, ◌+◌, ◌^◌, ◌<◌, IsTrue, IsFalse, length, refl, inl, inr, ◌∙◌, arith, ⊎_elim}
+use Rattle.std.proofs.lemmas.Bool.{and_parts}
 use Rattle.save_bytes.specs.State.{Shape, State}
 use Rattle.save_bytes.specs.Stays.{SameCells, SameTwins}
 use Rattle.save_bytes.specs.Spots.{Spot, Mark, Frame, Hold, LandsAsBefore}
@@ -7,7 +8,7 @@ use Rattle.difi.specs.declared.descriptor.Difi.{Difi}
 use Rattle.ivfc_tree.specs.declared.view.IvfcView.{IvfcView}
 use Rattle.ivfc_tree.specs.declared.state.IvfcState.{IvfcState}
 use Rattle.ivfc_tree.specs.Levels.{IsLevel, level_of}
-use Rattle.ivfc_tree.specs.Marks.{AsManyMarks}
+use Rattle.ivfc_tree.specs.Marks.{is_made_for, AsManyMarks}
 use Rattle.ivfc_tree.specs.View.{CanViewHashes, can_view_hashes, HasLevels, HasTree, view_state}
 use Rattle.ivfc_tree.specs.Held.{shown, SameHold, SameOwn, HashKeeps, IsOnPath, MarksPath, HashLands, hash_lands}
 use Rattle.ivfc_tree.specs.ViewLaws.{level4_size, true-can_view_hashes, tree_of, view_cells}
@@ -17,6 +18,10 @@ AsManyMarks-same s level = refl
 
 pub AsManyMarks-join : (s t u : IvfcState) → AsManyMarks s t → AsManyMarks t u → AsManyMarks s u
 AsManyMarks-join s t u h k level = k level ∙ h level
+
+-- as many marks serve the same tree
+pub is_made_for-many : (difi : Difi) (s t : IvfcState) → AsManyMarks s t → is_made_for difi t ≡ is_made_for difi s
+is_made_for-many difi s t many = rw (many 1, many 2, many 3, many 4) refl
 
 module _ {S : Type 0} where
   SameHold-same : (s : IvfcView S) → SameHold s s
@@ -84,15 +89,11 @@ module _ {S : Type 0} (states : S → State) (keeps : Spot → S → S → Type 
       → (shown states t).shape ≡ (shown states s).shape
   unfolding can_view_hashes
   HashKeeps-shape shape s t h =
-      let marks = h.0.marks in
       rw (
         shape s.base.now t.base.now h.2,
         h.0.same_difi,
         h.0.master_len,
-        marks 1,
-        marks 2,
-        marks 3,
-        marks 4,
+        is_made_for-many s.difi.now s.state.now t.state.now h.0.marks,
       ) refl
 
 -- what holds of two spaces where each spot was left alone, if they lie soundly without twins and are told
@@ -124,7 +125,7 @@ module _ {S : Type 0} (states : S → State)
         × SameTwins (shown states s) (shown states t))
     HashKeeps-cells law s t sound single told still kept =
         let can = shown_can s sound in
-        let below = law s.base.now t.base.now can.sound can.single told still (λ spot. (kept spot).2) in
+        let below = law s.base.now t.base.now can.sound can.single (and_parts _ _ told).0 (and_parts _ _ still).0 (λ spot. (kept spot).2) in
         let frame = kept Frame in
         let there : SameCells (shown states s)
         (view_state (states t.base.now) s.part s.master.now s.difi.now t.state.now) =
@@ -140,7 +141,7 @@ module _ {S : Type 0} (states : S → State)
         (λ s t. LandsAsBefore (shown states s).shape.size (hash_lands lands s) (hash_lands lands t))
     HashKeeps-lands lands law s t sound single told still kept =
         let can = shown_can s sound in
-        let below = law s.base.now t.base.now can.sound can.single told still (λ spot. (kept spot).2) in
+        let below = law s.base.now t.base.now can.sound can.single (and_parts _ _ told).0 (and_parts _ _ still).0 (λ spot. (kept spot).2) in
         rw (kept Frame).0.same_difi
         (HashLands-before (states s.base.now).shape s.difi.now (shown_tree s sound).levels (lands s.base.now)
         (lands t.base.now) below)

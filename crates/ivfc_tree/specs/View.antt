@@ -21,6 +21,7 @@ use Rattle.ivfc_tree.specs.declared.view.Status.TheVariants.{Good as GoodStatus,
 use Rattle.ivfc_tree.specs.Levels.{IsLevel, level_of}
 use Rattle.ivfc_tree.specs.Marks.{IsMadeFor, is_made_for}
 use Rattle.ivfc_tree.specs.Paths.{block_state, cell_in}
+use Rattle.ivfc_tree.specs.Known.{is_told}
 
 -- what a view needs of its base, its descriptor, its master hash and its state: the base is laid out as the double-copy
 -- tree's contents, each place of it may be written, it never answers that a cell is damaged, and it has neither twins nor fixed
@@ -67,7 +68,7 @@ abbrev pub cell_of : (ℕ → Cell) → ℕ → List ℕ → Difi → IvfcState 
 cell_of cells part master difi state x =
     cell_in (block_state cells master difi state 4 (x / block_size difi.ivfc4)) part (value_of (cells ((level_of difi 4).at + x)))
 
--- level four's bytes by their hash paths; damage spreads in its blocks
+-- level four's bytes by their hash paths; damage spreads in its blocks. They are told where what is remembered is true.
 abbrev pub view_state : State → ℕ → List ℕ → Difi → IvfcState → State
 view_state base part master difi state = record {
   shape = record {
@@ -79,7 +80,7 @@ view_state base part master difi state = record {
     block_start = λ x. x / block_size difi.ivfc4 * block_size difi.ivfc4;
     block_len = λ x. min (block_size difi.ivfc4) (difi.ivfc4.size - x / block_size difi.ivfc4 * block_size difi.ivfc4);
   };
-  told = base.told;
+  told = is_told base master difi state;
   cells = cell_of base.cells part master difi state;
   bottom = λ x. x;
   is_fixed = λ x. false;

@@ -1,13 +1,15 @@
 //! What a hash tree keeps between its views.
 
-ghost use Rattle.std.specs.Prelude.{◌≡◌, ℕ, ◌<◌, List, length, IfOk};
+ghost use Rattle.std.specs.Prelude.{◌≡◌, ℕ, ◌<◌, List, length, IfOk, None};
 ghost use Rattle.save_bytes.specs.Cells.{Cell};
 ghost use Rattle.difi.specs.Sound.{HasBlockSizes};
 ghost use Rattle.ivfc_tree.specs.Levels.{IsLevel};
-ghost use Rattle.ivfc_tree.specs.Marks.{is_marked, is_remembered, level_marks, IsMadeFor, HasNoMarks, IsEmpty, MarksBlock};
+ghost use Rattle.ivfc_tree.specs.Marks.{mark_at, is_marked, level_marks, IsMadeFor, HasNoMarks, IsEmpty, MarksBlock, IsSet};
+ghost use Rattle.ivfc_tree.specs.Known.{recalled_by, mark_for, Counts};
 ghost use Rattle.ivfc_tree.specs.Paths.{IsStateOf, block_state};
 
 use crate::marks::{BlockMark, Marks};
+use crate::path::BlockState;
 use difi::Difi;
 use std::alloc::{AllocError, Global};
 
@@ -56,5 +58,46 @@ impl IvfcState {
         ensures { MarksBlock level block self.old self.new }
     {
         self.marks.set(level, block, BlockMark::Put);
+    }
+
+    /// How many blocks were hashed since the state was made; it stays at its last value.
+    pub fn hashed(&self) -> u64
+        ensures { result ≡ self.now.hashed }
+    {
+        self.hashed
+    }
+
+    /// What is remembered of a block itself: one that was put or cleared counts as good.
+    pub(crate) fn recall(&self, level: u8, block: u64) -> Option<BlockState>
+        ensures { result ≡ recalled_by (mark_at self.now level block) level block None }
+    {
+        match self.marks.get(level, block) {
+            BlockMark::Unknown => None,
+            BlockMark::Put | BlockMark::KnownGood => Some(BlockState::Good),
+            BlockMark::KnownBlank => Some(BlockState::Blank { level, block }),
+            BlockMark::KnownBad => Some(BlockState::Bad { level, block }),
+        }
+    }
+
+    /// Counts a block that is hashed.
+    pub(crate) fn count(&mut self)
+        ensures { Counts self.old self.new }
+    {
+        self.hashed = self.hashed.saturating_add(1);
+    }
+
+    /// Notes what a block's path comes to, where it is the block itself that tells.
+    pub(crate) fn note(&mut self, level: u8, block: u64, found: BlockState)
+        requires level { IsLevel level }
+        requires block { block < length (level_marks self.old.marks level) }
+        ensures set { IsSet level block (mark_for found) self.old.marks self.new.marks }
+        ensures hashed { self.new.hashed ≡ self.old.hashed }
+    {
+        let mark = match found {
+            BlockState::Good => BlockMark::KnownGood,
+            BlockState::Blank { .. } => BlockMark::KnownBlank,
+            BlockState::Bad { .. } => BlockMark::KnownBad,
+        };
+        self.marks.set(level, block, mark);
     }
 }

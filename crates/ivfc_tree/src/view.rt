@@ -1,6 +1,6 @@
 //! A view through the hash tree.
 
-ghost use Rattle.std.specs.Prelude.{◌≡◌, ℕ, ◌<◌, ◌≤◌, length, IsTrue, IfOk, []};
+ghost use Rattle.std.specs.Prelude.{◌≡◌, ℕ, ◌/◌, ◌<◌, ◌≤◌, length, IsTrue, IfOk, []};
 ghost use Rattle.std.specs.Borrow.{sem};
 ghost use Rattle.std.specs.Io.BufRead.{Rests};
 ghost use Rattle.std.specs.Result.{result_err};
@@ -8,10 +8,11 @@ ghost use Rattle.save_bytes.specs.State.{IsInside};
 ghost use Rattle.save_bytes.specs.Refusals.{NeverDamaged};
 ghost use Rattle.save_bytes.specs.Answers.{IsPiece};
 ghost use Rattle.save_bytes.specs.Reads.{Reads};
+ghost use Rattle.difi.specs.Places.{block_size};
 ghost use Rattle.ivfc_tree.specs.Levels.{HasBlock};
 ghost use Rattle.ivfc_tree.specs.Paths.{block_state};
 ghost use Rattle.ivfc_tree.specs.View.{CanViewHashes, IsVerified, status_of, rest_of};
-ghost use Rattle.ivfc_tree.specs.Held.{shown, IsHashViewOf, SameHashView, HashKeeps, hash_lands};
+ghost use Rattle.ivfc_tree.specs.Held.{shown, IsHashViewOf, LooksUp, HashKeeps, hash_lands};
 ghost use Rattle.ivfc_tree.specs.contracts.view.IvfcView.{the_row};
 ghost use mir.Syntax.{named};
 
@@ -81,11 +82,12 @@ impl<'a, S: Space> IvfcView<'a, S> {
         ensures plain { NeverDamaged (result_err result) }
         ensures reads { Reads (shown S.state) (HashKeeps S.keeps) (hash_lands S.lands) self.old self.new (result_err result) }
         ensures base { Reads S.state S.keeps S.lands self.old.base.now self.new.base.now (result_err result) }
-        ensures same { SameHashView self.old self.new }
+        ensures looks { LooksUp level block self.old self.new (result_err result) }
     {
         let base = &mut *self.base;
         let master = &mut *self.master;
-        block_state(base, self.difi, master, &*self.state, level, block)
+        let state = &mut *self.state;
+        block_state(base, self.difi, master, state, level, block)
     }
 
     /// Tries the hash path of the byte at `at`, and answers how many bytes from there on are good by it: at least 1
@@ -97,7 +99,7 @@ impl<'a, S: Space> IvfcView<'a, S> {
         ensures verified { IsVerified (shown S.state self.old) at most result }
         ensures reads { Reads (shown S.state) (HashKeeps S.keeps) (hash_lands S.lands) self.old self.new (result_err result) }
         ensures base { Reads S.state S.keeps S.lands self.old.base.now self.new.base.now (result_err result) }
-        ensures same { SameHashView self.old self.new }
+        ensures looks { LooksUp 4 (at / block_size self.old.difi.now.ivfc4) self.old self.new (result_err result) }
     {
         let block = at / block_size(&self.difi.ivfc4);
         let rest = rest_of_block(self.difi, at).min(most as u64) as usize;
@@ -123,7 +125,7 @@ impl<'a, S: Space> IvfcView<'a, S> {
         ensures* after { sem 𝓛 (Rests (the_row (record { mir = named 0; lft = [] }) S.row) self.entry (λ new.
             Reads (shown S.state) (HashKeeps S.keeps) (hash_lands S.lands) self.old new (result_err result)
             × Reads S.state S.keeps S.lands self.old.base.now new.base.now (result_err result)
-            × SameHashView self.old new)) }
+            × LooksUp 4 (at / block_size self.old.difi.now.ivfc4) self.old new (result_err result))) }
     {
         let place = level_of(self.difi, 4).at + at;
         let most = match self.verify(at, most) {
@@ -143,7 +145,7 @@ impl<'a, S: Space> IvfcView<'a, S> {
         ensures plain { NeverDamaged (result_err result) }
         ensures reads { Reads (shown S.state) (HashKeeps S.keeps) (hash_lands S.lands) self.old self.new (result_err result) }
         ensures base { Reads S.state S.keeps S.lands self.old.base.now self.new.base.now (result_err result) }
-        ensures same { SameHashView self.old self.new }
+        ensures looks { LooksUp level block self.old self.new (result_err result) }
     {
         match self.found(level, block) {
             Ok(BlockState::Good) => Ok(Status::Good),

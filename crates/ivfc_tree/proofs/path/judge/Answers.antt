@@ -13,7 +13,7 @@ returns-in-Ok-block_digest-clause-state g c = λ told.
     c.args.level c.args.block
     c.requires.there.in_tree in
     let digest = c.in-Ok-block_digest.ensures.digest (stays.space.told told) ∙ ap sha256 block in
-    rw (← c.in-Ok.ensures.entry told, ← digest) c.compare.ensures
+    rw (← c.in-Ok.ensures.entry told, ← digest) c.compare.ensures.judged
 
 pub returns-in-Ok-block_digest-clause-reads : goal.returns-in-Ok-block_digest-clause-reads
 returns-in-Ok-block_digest-clause-reads g c =

@@ -1,6 +1,6 @@
 use Rattle.std.proofs.Common.{refl}
 use Rattle.std.specs.Result.{result_err}
-use Rattle.ivfc_tree.specs.KeepLaws.{shown_tree}
+use Rattle.ivfc_tree.specs.KeepLaws.{shown_can, shown_tree}
 use Rattle.ivfc_tree.proofs.ViewLemmas.{hashed_read}
 use Rattle.ivfc_tree.proofs.view.IvfcView.found.Goals as goal
 
@@ -9,11 +9,16 @@ block_state-requires-clause-tree g c =
     let space = g.S.Space in
     shown_tree space.state g.met.S.Space.size_fits c.args.self.now c.requires.sound
 
+pub block_state-requires-clause-made : goal.block_state-requires-clause-made
+block_state-requires-clause-made g c =
+    let space = g.S.Space in
+    (shown_can space.state g.met.S.Space.size_fits c.args.self.now c.requires.sound).made
+
 pub returns-clause-reads : goal.returns-clause-reads
 returns-clause-reads g c =
     let space = g.S.Space in
     let tree = shown_tree space.state g.met.S.Space.size_fits c.args.self.now c.requires.sound in
-    (hashed_read space.state space.keeps space.lands c.args.self.now _ (result_err c.block_state.result)
+    hashed_read space.state space.keeps space.lands c.args.level c.args.block c.args.self.now _ (result_err c.block_state.result)
     (record {
       hold = record {
         same_base = refl;
@@ -22,9 +27,9 @@ returns-clause-reads g c =
         same_master = refl;
         master_len = refl;
         same_state = refl;
-        marks = λ level. refl;
+        marks = c.block_state.ensures.finds.learns.many;
       };
       master_now = refl;
-      state_now = refl;
+      learns = c.block_state.ensures.finds.learns;
     })
-    tree c.block_state.ensures.reads).0
+    tree c.block_state.ensures.finds.told c.block_state.ensures.reads
