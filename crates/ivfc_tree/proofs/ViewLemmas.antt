@@ -1,16 +1,16 @@
 -- A view as a space.
-use Rattle.std.proofs.Common.{◌≡◌, ℕ, ◌+◌, ◌-◌, ◌*◌, ◌/◌, ◌%◌, ◌<◌, ◌≤◌, min, IsTrue, List, length, Option, None, Result}
+use Rattle.std.proofs.Common.{◌≡◌, ◌≢◌, ℕ, zero, suc, Bool, true, false, if◌then◌else◌, ⊎_elim, ◌+◌, ◌-◌, ◌*◌, ◌/◌, ◌%◌, ◌<◌, ◌≤◌, min, IsTrue, List, length, Option, None, Result}
 use Rattle.std.proofs.Common.{Ok, Err, refl, sym, ◌∙◌, ap, subst, arith}
-use Rattle.std.proofs.lemmas.Bool.{and_parts}
+use Rattle.std.proofs.lemmas.Bool.{and_parts, cases_lt, cases_Bool}
 use Rattle.std.proofs.lemmas.Nat.{pow_pos, div-add-mod', div-mul-add, mod_below}
 use Rattle.std.specs.Borrow.{Bor}
 use Rattle.save_bytes.specs.declared.space.Bad.{Bad}
 use Rattle.save_bytes.specs.declared.space.Bad.TheVariants.{Disk, Damaged}
-use Rattle.save_bytes.specs.Cells.{Byte, IsByte}
+use Rattle.save_bytes.specs.Cells.{Cell, Byte, Spoilt, IsByte, IsUnspoilt, IsClearable}
 use Rattle.save_bytes.specs.State.{Shape, State, IsInside}
 use Rattle.save_bytes.specs.Refusals.{UnlessDisk}
 use Rattle.save_bytes.specs.Answers.{IsPiece}
-use Rattle.save_bytes.specs.Stays.{Stays}
+use Rattle.save_bytes.specs.Stays.{SameCells, Stays}
 use Rattle.save_bytes.specs.Spots.{Spot, Mark, Frame}
 use Rattle.save_bytes.specs.Reads.{Reads}
 use Rattle.save_bytes.proofs.SpaceLemmas.{UnlessDisk-map, UnlessDisk-always}
@@ -20,15 +20,16 @@ use Rattle.ivfc_tree.specs.declared.path.BlockState.{BlockState}
 use Rattle.ivfc_tree.specs.declared.path.BlockState.TheVariants.{Good, Blank as BlankAt, Bad as BadAt}
 use Rattle.ivfc_tree.specs.declared.state.IvfcState.{IvfcState}
 use Rattle.ivfc_tree.specs.declared.view.IvfcView.{IvfcView}
-use Rattle.ivfc_tree.specs.Levels.{level_of}
-use Rattle.ivfc_tree.specs.Paths.{block_state, cell_in}
-use Rattle.ivfc_tree.specs.View.{HasTree, can_view_hashes, view_state, rest_of, IsVerified}
-use Rattle.ivfc_tree.specs.Marks.{SameMarks, AsManyMarks}
-use Rattle.ivfc_tree.specs.Known.{is_told, Learns}
+use Rattle.ivfc_tree.specs.Levels.{level_of, HasBlock, parent_of}
+use Rattle.ivfc_tree.specs.Paths.{own_state, after, marked_state, block_state, cell_in}
+use Rattle.ivfc_tree.specs.View.{HasTree, can_view_hashes, view_state, rest_of, IsVerified, IsReadyRun}
+use Rattle.ivfc_tree.specs.Marks.{is_marked, SameMarks, AsManyMarks}
+use Rattle.ivfc_tree.specs.Known.{HasMarkedParents, is_told, Learns}
 use Rattle.ivfc_tree.specs.Held.{shown, LooksUp, SameOwn, HashKeeps, hash_lands}
 use Rattle.ivfc_tree.specs.ViewLaws.{view_cells, place_inside}
 use Rattle.ivfc_tree.specs.KeepLaws.{HashLands-before, is_made_for-many}
 use Rattle.ivfc_tree.proofs.LearnLemmas.{told_later}
+use Rattle.ivfc_tree.proofs.StepLemmas.{step-marked}
 
 -- what stays in the base stays in the view, where the same blocks are put and what is remembered stays true
 pub view_looked : (base new : State) (part : ℕ) (master : List ℕ) (difi : Difi) (state later : IvfcState)
@@ -135,6 +136,12 @@ byte_cell Good part value byte = refl
 byte_cell (BlankAt level block) part value byte = absurd byte
 byte_cell (BadAt level block) part value byte = absurd byte
 
+unspoilt_cell : (found : BlockState) (part value : ℕ) → ((level block : ℕ) → found ≢ BadAt level block)
+    → IsUnspoilt (cell_in found part value)
+unspoilt_cell Good part value unspoilt = tt
+unspoilt_cell (BlankAt level block) part value unspoilt = tt
+unspoilt_cell (BadAt level block) part value unspoilt = absurd (unspoilt level block refl)
+
 module _ (base : State) (part : ℕ) (master : List ℕ) (difi : Difi) (state : IvfcState) (at : ℕ) where
   -- what is answered of a good block
   pub good_verified : at < difi.ivfc4.size → (most n : ℕ) → 1 ≤ most
@@ -148,6 +155,20 @@ module _ (base : State) (part : ℕ) (master : List ℕ) (difi : Difi) (state : 
         bounded = omega (arith, is);
         inside = omega (arith, is, rest.inside);
         bytes = λ told k h. rw (rest.block k (omega (arith, is, h)), ← good told) tt;
+        damaged = λ told. tt;
+      }
+
+  -- what is answered of a block that is not spoilt
+  pub unspoilt_run : at < difi.ivfc4.size → (most n : ℕ) → 1 ≤ most → (found : BlockState)
+      → (IsTrue (is_told base master difi state) → found ≡ block_state base.cells master difi state 4 (at / block_size difi.ivfc4))
+      → ((level block : ℕ) → found ≢ BadAt level block) → n ≡ min (rest_of difi at) most
+      → IsReadyRun (view_state base part master difi state) at most (Ok n)
+  unspoilt_run inside most n some found state unspoilt is =
+      let rest = rest_is difi at inside in
+      record {
+        some = omega (arith, is, rest.some, some);
+        bounded = omega (arith, is);
+        unspoilt = λ told k h. rw (rest.block k (omega (arith, is, h)), ← state told) (unspoilt_cell found part _ unspoilt);
         damaged = λ told. tt;
       }
 
@@ -197,3 +218,113 @@ module _ (base : State) (part : ℕ) (master : List ℕ) (difi : Difi) (state : 
     }
     view_piece (Err (Damaged part level block)) h =
         absurd (h.plain (subst (λ (shape : Shape). IsTrue shape.plain) (sym stays.space.shape) tree.levels.plain))
+
+-- bytes that are not spoilt, and more behind them
+pub unspoilt_more : (s mid : State) (at done n : ℕ) → at + done + n ≤ s.shape.size → SameCells s mid
+    → ((k : ℕ) → k < done → IsUnspoilt (s.cells (at + k)))
+    → ((k : ℕ) → k < n → IsUnspoilt (mid.cells (at + done + k)))
+    → (k : ℕ) → k < done + n → IsUnspoilt (s.cells (at + k))
+unspoilt_more s mid at done n fits same before next k h =
+    ⊎_elim
+    (λ (first : k < done). before k first)
+    (λ (later : done ≤ k).
+    (let place : at + done + (k - done) ≡ at + k = omega (arith, later) in
+    let there = next (k - done) (omega (arith, later, h)) in
+    rw (← same (at + k) (omega (arith, fits, h))) (rw place at there)))
+    (cases_lt k done)
+
+-- a block at fault lies at a level or above it
+abbrev FailsWithin : ℕ → BlockState → Type 0
+FailsWithin level Good = Unit {0}
+FailsWithin level (BlankAt upper at) = upper ≤ level
+FailsWithin level (BadAt upper at) = upper ≤ level
+
+chosen_within : (level block : ℕ) (none same : Bool)
+    → FailsWithin level (if none then BlankAt level block else (if same then Good else BadAt level block))
+chosen_within level block true same = omega arith
+chosen_within level block false true = tt
+chosen_within level block false false = omega arith
+
+-- by itself a block fails at its own level
+abbrev FailsAt : BlockState → Type 0
+FailsAt Good = Unit {0}
+FailsAt (BlankAt upper at) = 4 ≤ upper
+FailsAt (BadAt upper at) = 4 ≤ upper
+
+chosen_at : (level block : ℕ) (none same : Bool) → 4 ≤ level
+    → FailsAt (if none then BlankAt level block else (if same then Good else BadAt level block))
+chosen_at level block true same h = h
+chosen_at level block false true h = tt
+chosen_at level block false false h = h
+
+after_within : (level : ℕ) (above own : BlockState) → FailsWithin level above → FailsWithin (suc level) own
+    → FailsWithin (suc level) (after above own)
+after_within level Good own h k = k
+after_within level (BlankAt upper at) own h k = omega (arith, h)
+after_within level (BadAt upper at) own h k = omega (arith, h)
+
+module _ (cells : ℕ → Cell) (master : List ℕ) (difi : Difi) where
+  fails_within : (marked : ℕ → ℕ → Bool) (level block : ℕ) → FailsWithin level (marked_state cells master difi marked level block)
+  unfolding marked_state
+  fails_within marked zero block = tt
+  fails_within marked (suc level) block =
+      ⊎_elim
+      (λ (marks : marked (suc level) block ≡ true). rw marks tt)
+      (λ (none : marked (suc level) block ≡ false).
+      rw none (after_within level (marked_state cells master difi marked level (parent_of difi level block)) _
+      (fails_within marked level (parent_of difi level block))
+      (chosen_within (suc level) block _ _)))
+      (cases_Bool (marked (suc level) block))
+
+  -- a block of level four is marked, or what it comes to is decided by level three, unless that is good
+  module _ (state : IvfcState) (block : ℕ) (part value : ℕ) where
+    marked_byte : is_marked state 4 block ≡ true → cell_in (block_state cells master difi state 4 block) part value ≡ Byte value
+    marked_byte marks = rw (← step-marked cells master difi state 4 block (omega arith) marks) refl
+
+    unmarked_cell : is_marked state 4 block ≡ false → (above : BlockState)
+        → above ≡ block_state cells master difi state 3 (parent_of difi 3 block)
+        → block_state cells master difi state 4 block ≡ after above (own_state cells master difi 4 block)
+    unfolding marked_state
+    unmarked_cell none above is = rw (none, ← is) refl
+
+    own_clearable : (own : BlockState) → FailsAt own → IsClearable (cell_in own part value)
+    own_clearable Good at = tt
+    own_clearable (BlankAt level at) h = tt
+    own_clearable (BadAt level at) h = h
+
+    -- where that is not spoilt, the block may be cleared
+    pub clearable : (above : BlockState) → above ≡ block_state cells master difi state 3 (parent_of difi 3 block)
+        → ((level at : ℕ) → above ≢ BadAt level at)
+        → IsClearable (cell_in (block_state cells master difi state 4 block) part value)
+    clearable above is unspoilt =
+        ⊎_elim
+        (λ (marks : is_marked state 4 block ≡ true). rw (marked_byte marks) tt)
+        (λ (none : is_marked state 4 block ≡ false). rw (unmarked_cell none above is) (below above unspoilt))
+        (cases_Bool (is_marked state 4 block))
+      where
+        below : (above : BlockState) → ((level at : ℕ) → above ≢ BadAt level at)
+            → IsClearable (cell_in (after above (own_state cells master difi 4 block)) part value)
+        below Good unspoilt = own_clearable (own_state cells master difi 4 block) (chosen_at 4 block _ _ (omega arith))
+        below (BlankAt level at) unspoilt = tt
+        below (BadAt level at) unspoilt = absurd (unspoilt level at refl)
+
+    -- where it is spoilt, so are the block's cells
+    pub spoilt_above : HasMarkedParents difi state → HasBlock difi 4 block → (level at : ℕ)
+        → BadAt level at ≡ block_state cells master difi state 3 (parent_of difi 3 block)
+        → (cell_in (block_state cells master difi state 4 block) part value ≡ Spoilt part level at) × (level < 4)
+    spoilt_above closed there level at is =
+        let above = fails_within (is_marked state) 3 (parent_of difi 3 block) in
+        let within : level ≤ 3 = rw (← is) at above in
+        let none : is_marked state 4 block ≡ false =
+        not_marked (is_marked state 4 block) (λ marks. good_bad
+        (step-marked cells master difi state 3 (parent_of difi 3 block) (omega arith) (closed 3 block (omega arith) there marks) ∙ sym is)) in (
+          rw (unmarked_cell none (BadAt level at) is) refl,
+          omega (arith, within),
+        )
+      where
+        good_bad : Good ≡ BadAt level at → ⊥
+        good_bad e = cc
+
+        not_marked : (b : Bool) → (b ≡ true → ⊥) → b ≡ false
+        not_marked true never = absurd (never refl)
+        not_marked false never = refl

@@ -3,7 +3,7 @@ use Rattle.std.specs.Prelude.{◌≡◌, ℕ, ◌+◌, ◌-◌, ◌*◌, ◌/◌
 use Rattle.std.specs.Prelude.{List, length, Result, IfOk}
 use Rattle.std.specs.Result.{result_err}
 use Rattle.save_bytes.specs.declared.space.Bad.{Bad}
-use Rattle.save_bytes.specs.Cells.{Cell, IsByte, Blames}
+use Rattle.save_bytes.specs.Cells.{Cell, Spoilt, IsByte, IsUnspoilt, Blames}
 use Rattle.save_bytes.specs.CellNumbers.{value_of}
 use Rattle.save_bytes.specs.State.{State, Shape}
 use Rattle.save_bytes.specs.Refusals.{IfDamaged}
@@ -94,6 +94,13 @@ pub record IsVerified (s : State) (at most : ℕ) (result : Result ℕ Bad) : Ty
   pub inside : IfOk result (λ n. at + n ≤ s.shape.size)
   pub bytes : IsTrue s.told → IfOk result (λ n. (k : ℕ) → k < n → IsByte (s.cells (at + k)))
   pub damaged : IsTrue s.told → IfDamaged (result_err result) (Blames (s.cells at))
+
+-- so many bytes from a place on are not spoilt; or the cell there is, and is named
+pub record IsReadyRun (s : State) (at most : ℕ) (result : Result ℕ Bad) : Type 0 where
+  pub some : IfOk result (λ n. 1 ≤ n)
+  pub bounded : IfOk result (λ n. n ≤ most)
+  pub unspoilt : IsTrue s.told → IfOk result (λ n. (k : ℕ) → k < n → IsUnspoilt (s.cells (at + k)))
+  pub damaged : IsTrue s.told → IfDamaged (result_err result) (λ part level block. s.cells at ≡ Spoilt part level block)
 
 -- what is told of a block
 abbrev pub status_of : BlockState → Status

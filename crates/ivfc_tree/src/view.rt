@@ -6,17 +6,17 @@ ghost use Rattle.std.specs.Io.BufRead.{Rests};
 ghost use Rattle.std.specs.Result.{result_err};
 ghost use Rattle.save_bytes.specs.State.{IsInside};
 ghost use Rattle.save_bytes.specs.Refusals.{NeverDamaged};
-ghost use Rattle.save_bytes.specs.Answers.{IsPiece};
+ghost use Rattle.save_bytes.specs.Answers.{IsPiece, IsReady, IsClearReady};
 ghost use Rattle.save_bytes.specs.Reads.{Reads};
 ghost use Rattle.difi.specs.Places.{block_size};
 ghost use Rattle.ivfc_tree.specs.Levels.{HasBlock};
 ghost use Rattle.ivfc_tree.specs.Paths.{block_state};
-ghost use Rattle.ivfc_tree.specs.View.{CanViewHashes, IsVerified, status_of, rest_of};
+ghost use Rattle.ivfc_tree.specs.View.{CanViewHashes, IsVerified, IsReadyRun, status_of, rest_of};
 ghost use Rattle.ivfc_tree.specs.Held.{shown, IsHashViewOf, LooksUp, HashKeeps, hash_lands};
 ghost use Rattle.ivfc_tree.specs.contracts.view.IvfcView.{the_row};
 ghost use mir.Syntax.{named};
 
-use crate::levels::{block_size, level_of};
+use crate::levels::{block_size, level_of, parent_of};
 use crate::path::{BlockState, block_state};
 use crate::state::IvfcState;
 use difi::Difi;
@@ -113,6 +113,68 @@ impl<'a, S: Space> IvfcView<'a, S> {
             BlockState::Blank { level, block } | BlockState::Bad { level, block } => {
                 Err(Bad::Damaged { part, level, block })
             }
+        }
+    }
+
+    // How many bytes from `at` on, up to `most`, lie in a block that may be written.
+    fn ready_run(&mut self, at: u64, most: u64) -> Result<u64, Bad>
+        requires inside { IsInside (shown S.state self.old).shape at 1 }
+        requires some { 1 ≤ most }
+        ensures ready { IsReadyRun (shown S.state self.old) at most result }
+        ensures reads { Reads (shown S.state) (HashKeeps S.keeps) (hash_lands S.lands) self.old self.new (result_err result) }
+    {
+        let block = at / block_size(&self.difi.ivfc4);
+        let rest = rest_of_block(self.difi, at).min(most);
+        let found = match self.found(4, block) {
+            Ok(found) => found,
+            Err(bad) => return Err(bad),
+        };
+        match found {
+            BlockState::Bad { level, block } => Err(Bad::Damaged {
+                part: self.part,
+                level,
+                block,
+            }),
+            _ => Ok(rest),
+        }
+    }
+
+    /// Whether the `n` bytes from `at` on may be written: `Damaged` comes exactly where a block that they meet is spoilt, and
+    /// names the topmost block that fails of the first. Nothing is marked.
+    pub fn ready(&mut self, at: u64, n: u64) -> Result<(), Bad>
+        requires { IsInside (shown S.state self.old).shape at n }
+        ensures ready { IsReady (shown S.state self.old) at n (result_err result) }
+        ensures reads { Reads (shown S.state) (HashKeeps S.keeps) (hash_lands S.lands) self.old self.new (result_err result) }
+    {
+        let mut done = 0;
+        while done < n {
+            match self.ready_run(at + done, n - done) {
+                Ok(run) => done += run,
+                Err(bad) => return Err(bad),
+            }
+        }
+        Ok(())
+    }
+
+    /// Whether the block of `at` may be cleared: `Damaged` comes exactly where a block above it is spoilt.
+    pub fn clear_ready(&mut self, at: u64) -> Result<(), Bad>
+        requires { IsInside (shown S.state self.old).shape at 1 }
+        ensures ready { IsClearReady (shown S.state self.old) at (result_err result) }
+        ensures reads { Reads (shown S.state) (HashKeeps S.keeps) (hash_lands S.lands) self.old self.new (result_err result) }
+    {
+        let block = at / block_size(&self.difi.ivfc4);
+        let above = parent_of(self.difi, 3, block);
+        let found = match self.found(3, above) {
+            Ok(found) => found,
+            Err(bad) => return Err(bad),
+        };
+        match found {
+            BlockState::Bad { level, block } => Err(Bad::Damaged {
+                part: self.part,
+                level,
+                block,
+            }),
+            _ => Ok(()),
         }
     }
 
