@@ -6,3 +6,6 @@ pub mod StepLemmas
 pub mod LearnLemmas
 pub mod ViewLemmas
 pub mod MarkLemmas
+pub mod EntryLemmas
+pub mod SealLemmas
+pub mod SealStepLemmas

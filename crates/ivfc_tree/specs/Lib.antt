@@ -8,3 +8,4 @@ pub mod Held
 pub mod ViewLaws
 pub mod KnownLaws
 pub mod KeepLaws
+pub mod Seals

@@ -6,6 +6,7 @@ mod laws;
 mod levels;
 mod marks;
 mod path;
+mod seal;
 mod state;
 mod view;
 
