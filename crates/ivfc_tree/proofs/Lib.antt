@@ -9,3 +9,5 @@ pub mod MarkLemmas
 pub mod EntryLemmas
 pub mod SealLemmas
 pub mod SealStepLemmas
+pub mod OriginLemmas
+pub mod SettleLemmas

@@ -9,3 +9,5 @@ pub mod ViewLaws
 pub mod KnownLaws
 pub mod KeepLaws
 pub mod Seals
+pub mod Origins
+pub mod Settles

@@ -1,10 +1,11 @@
 //! What is kept of the blocks of a hash tree.
 
-ghost use Rattle.std.specs.Prelude.{◌≡◌, ℕ, ◌≤◌, ◌<◌, List, replicate, length, IfOk};
+ghost use Rattle.std.specs.Prelude.{◌≡◌, ℕ, ◌≤◌, ◌<◌, List, map, replicate, length, IfOk};
 ghost use Rattle.difi.specs.Places.{blocks_of};
 ghost use Rattle.difi.specs.Sound.{HasBlockSizes};
 ghost use Rattle.ivfc_tree.specs.Levels.{IsLevel};
 ghost use Rattle.ivfc_tree.specs.Marks.{mark_in, level_marks, AreNew, IsSet};
+ghost use Rattle.ivfc_tree.specs.Settles.{settled, dropped, ended};
 
 use difi::{Difi, LevelPlace};
 use std::alloc::{AllocError, Global};
@@ -86,5 +87,58 @@ impl Marks {
             3 => self.level3[block as usize] = mark,
             _ => self.level4[block as usize] = mark,
         }
+    }
+}
+
+impl BlockMark {
+    // What becomes of it where the transaction is committed.
+    fn settled(self) -> BlockMark
+        ensures { result ≡ settled self }
+    {
+        match self {
+            BlockMark::Put => BlockMark::KnownGood,
+            mark => mark,
+        }
+    }
+
+    // What becomes of it where the changes of the transaction are dropped.
+    fn dropped(self) -> BlockMark
+        ensures { result ≡ dropped self }
+    {
+        match self {
+            BlockMark::Put | BlockMark::KnownBlank => BlockMark::Unknown,
+            mark => mark,
+        }
+    }
+
+    fn ended(self, committed: bool) -> BlockMark
+        ensures { result ≡ ended committed self }
+    {
+        if committed {
+            self.settled()
+        } else {
+            self.dropped()
+        }
+    }
+}
+
+// Ends the transaction in the marks of a level.
+fn end_level(marks: &mut [BlockMark], committed: bool)
+    ensures { marks.new ≡ map (ended committed) marks.old }
+{
+    for mark in marks.iter_mut() {
+        *mark = mark.ended(committed);
+    }
+}
+
+impl Marks {
+    /// Ends the transaction, in which the blocks that were put were hashed, or are as they were before.
+    pub(crate) fn end(&mut self, committed: bool)
+        ensures { (level : ℕ) → level_marks self.new level ≡ map (ended committed) (level_marks self.old level) }
+    {
+        end_level(&mut self.level1, committed);
+        end_level(&mut self.level2, committed);
+        end_level(&mut self.level3, committed);
+        end_level(&mut self.level4, committed);
     }
 }

@@ -7,6 +7,8 @@ ghost use Rattle.ivfc_tree.specs.Levels.{IsLevel};
 ghost use Rattle.ivfc_tree.specs.Marks.{mark_at, is_marked, level_marks, IsMadeFor, HasNoMarks, IsEmpty, MarksBlock, IsSet};
 ghost use Rattle.ivfc_tree.specs.Known.{recalled_by, mark_for, Counts};
 ghost use Rattle.ivfc_tree.specs.Paths.{IsStateOf, block_state};
+ghost use Rattle.difi.specs.declared.descriptor.Difi.{Difi};
+ghost use Rattle.ivfc_tree.specs.Settles.{settled, dropped, TurnsMarks, SettlesHashed, RemembersOrigin};
 
 use crate::marks::{BlockMark, Marks};
 use crate::path::BlockState;
@@ -99,5 +101,29 @@ impl IvfcState {
             BlockState::Bad { .. } => BlockMark::KnownBad,
         };
         self.marks.set(level, block, mark);
+    }
+}
+
+impl IvfcState {
+    /// Ends a transaction that was sealed: the blocks that were put or cleared in it are good from then on by their
+    /// hashes, and known to be so. No cell of a view changes where these hashes hold.
+    pub fn settle(&mut self)
+        ensures turned { TurnsMarks settled self.old self.new }
+        ensures unmarked { HasNoMarks self.new }
+        ensures settles { SettlesHashed self.old self.new }
+    {
+        self.marks.end(true);
+    }
+
+    /// Ends a transaction whose changes are dropped: the blocks that were put or cleared in it are not known any more.
+    /// What is still remembered is true of the base as it was before them, whatever is now in those of level four.
+    pub fn drop_changes(&mut self)
+        ensures turned { TurnsMarks dropped self.old self.new }
+        ensures unmarked { HasNoMarks self.new }
+        ensures paths { (cells : ℕ → Cell) (master : List ℕ) (difi : Difi) (level block : ℕ)
+            → IsStateOf cells master difi level block (block_state cells master difi self.new level block) }
+        ensures remembers { RemembersOrigin self.old self.new }
+    {
+        self.marks.end(false);
     }
 }

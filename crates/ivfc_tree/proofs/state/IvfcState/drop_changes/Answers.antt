@@ -1,0 +1,21 @@
+use Rattle.std.proofs.Common.{refl}
+use Rattle.ivfc_tree.specs.declared.state.IvfcState.{IvfcState}
+use Rattle.ivfc_tree.specs.Marks.{is_marked}
+use Rattle.ivfc_tree.proofs.PathLemmas.{state_is}
+use Rattle.ivfc_tree.proofs.SettleLemmas.{dropped_unmarked, remembers_origin}
+use Rattle.ivfc_tree.proofs.state.IvfcState.drop_changes.Goals as goal
+
+pub returns-clause-unmarked : goal.returns-clause-unmarked
+returns-clause-unmarked c =
+    dropped_unmarked c.args.self.now (record c.args.self.now { marks = c.end.new.self })
+    (record { marks = c.end.ensures; hashed = refl })
+
+pub returns-clause-paths : goal.returns-clause-paths
+returns-clause-paths c = λ cells master difi.
+    let new : IvfcState = record c.args.self.now { marks = c.end.new.self } in
+    state_is cells master difi (is_marked new) (returns-clause-unmarked c)
+
+pub returns-clause-remembers : goal.returns-clause-remembers
+returns-clause-remembers c =
+    remembers_origin c.args.self.now (record c.args.self.now { marks = c.end.new.self })
+    (record { marks = c.end.ensures; hashed = refl })
