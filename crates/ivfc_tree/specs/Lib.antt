@@ -7,6 +7,7 @@ pub mod View
 pub mod Held
 pub mod ViewLaws
 pub mod KnownLaws
+pub mod FloorLaws
 pub mod KeepLaws
 pub mod Seals
 pub mod Origins
