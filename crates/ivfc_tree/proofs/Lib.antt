@@ -11,3 +11,4 @@ pub mod SealLemmas
 pub mod SealStepLemmas
 pub mod OriginLemmas
 pub mod SettleLemmas
+pub mod SealViewLemmas

@@ -12,3 +12,4 @@ pub mod KeepLaws
 pub mod Seals
 pub mod Origins
 pub mod Settles
+pub mod SealViews

@@ -13,11 +13,13 @@ ghost use Rattle.ivfc_tree.specs.Levels.{HasBlock};
 ghost use Rattle.ivfc_tree.specs.Paths.{block_state};
 ghost use Rattle.ivfc_tree.specs.View.{CanViewHashes, IsVerified, IsReadyRun, status_of, rest_of};
 ghost use Rattle.ivfc_tree.specs.Held.{shown, IsHashViewOf, LooksUp, HashKeeps, hash_lands};
+ghost use Rattle.ivfc_tree.specs.SealViews.{SealsView};
 ghost use Rattle.ivfc_tree.specs.contracts.view.IvfcView.{the_row};
 ghost use mir.Syntax.{named};
 
 use crate::levels::{block_size, level_of, parent_of};
 use crate::path::{BlockState, block_state};
+use crate::seal::seal_in;
 use crate::state::IvfcState;
 use difi::Difi;
 use save_bytes::{Bad, Space};
@@ -215,6 +217,20 @@ impl<'a, S: Space> IvfcView<'a, S> {
             Ok(BlockState::Bad { .. }) => Ok(Status::Bad),
             Err(bad) => Err(bad),
         }
+    }
+}
+
+impl<'a, S: Space> IvfcView<'a, S> {
+    /// Writes the hashes of all blocks that were put or cleared in this transaction into the levels above them and into
+    /// the master hash. It looks at no hash, so it is refused only where the disk below failed. No cell changes.
+    pub fn seal(&mut self) -> Result<(), Bad>
+        requires { IsTrue (shown S.state self.old).shape.sound }
+        ensures { SealsView S.state S.keeps S.lands self.old self.new (result_err result) }
+    {
+        let base = &mut *self.base;
+        let master = &mut *self.master;
+        let state = &mut *self.state;
+        seal_in(base, self.difi, master, state)
     }
 }
 
