@@ -10,12 +10,7 @@ use Rattle.save_bytes.proofs.CellLemmas.{length-bytes_in, bytes_in-part}
 use Rattle.difi.specs.declared.descriptor.Difi.{Difi}
 use Rattle.difi.specs.Places.{block_size}
 use Rattle.ivfc_tree.specs.Hashing.{Takes}
-use Rattle.ivfc_tree.specs.Levels.{level_of, ivfc_level, block_bytes, padded_block, hash_entry}
-
--- how many bytes of a block its level has
-abbrev pub len_of : Difi → ℕ → ℕ → ℕ
-len_of difi level block = min (block_size (level_of difi level))
-    ((level_of difi level).size - block * block_size (level_of difi level))
+use Rattle.ivfc_tree.specs.Levels.{level_of, len_of, ivfc_level, block_bytes, padded_block, hash_entry}
 
 module _ (cells : ℕ → Cell) (difi : Difi) (level block : ℕ) (begins : block * block_size (level_of difi level)
     < (level_of difi level).size) where

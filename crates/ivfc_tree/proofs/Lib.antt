@@ -1,3 +1,17 @@
+pub mod EaseLemmas
+pub mod FillLemmas
+pub mod ByteLemmas
+pub mod ZeroLemmas
+pub mod NameLemmas
+pub mod BecomesLemmas
+pub mod ReadyLemmas
+pub mod RouteLemmas
+pub mod WrittenLemmas
+pub mod StageLemmas
+pub mod StartLemmas
+pub mod RangeLemmas
+pub mod ContentsLemmas
+pub mod ClearLemmas
 pub mod LevelLemmas
 pub mod HashLemmas
 pub mod PathLemmas

@@ -14,6 +14,17 @@ use Rattle.ivfc_tree.specs.Paths.{block_above, IsHashed, HasHashPath, FailsFirst
 differ : (xs ys : List ℕ) → bytes_eq xs ys ≡ false → xs ≢ ys
 differ xs ys other same = both_ways (bytes_eq xs ys) other ((bytes_eq-Decides xs ys).1 same)
 
+-- the blocks above a block of the next level
+pub block_above-here : (difi : Difi) (level block : ℕ) → block_above difi (suc level) block (suc level) ≡ block
+unfolding block_above
+block_above-here difi level block = rw (eq-eqb (suc level) (suc level) refl) refl
+
+pub block_above-higher : (difi : Difi) (level block upper : ℕ) → upper < suc level
+    → block_above difi (suc level) block upper ≡ block_above difi level (parent_of difi level block) upper
+unfolding block_above
+block_above-higher difi level block upper below =
+    rw (ne_eqb upper (suc level) (λ same. absurd (omega (arith, same, below)))) refl
+
 module _ (cells : ℕ → Cell) (master : List ℕ) (difi : Difi) where
   abbrev hashed : ℕ → ℕ → Type 0
   hashed = IsHashed cells master difi
@@ -24,27 +35,16 @@ module _ (cells : ℕ → Cell) (master : List ℕ) (difi : Difi) where
   abbrev fails : ℕ → ℕ → ℕ → ℕ → Type 0
   fails = FailsFirst cells master difi
 
-  -- the blocks above a block of the next level
-  block_above-here : (level block : ℕ) → block_above difi (suc level) block (suc level) ≡ block
-  unfolding block_above
-  block_above-here level block = rw (eq-eqb (suc level) (suc level) refl) refl
-
-  block_above-higher : (level block upper : ℕ) → upper < suc level
-      → block_above difi (suc level) block upper ≡ block_above difi level (parent_of difi level block) upper
-  unfolding block_above
-  block_above-higher level block upper below =
-      rw (ne_eqb upper (suc level) (λ same. absurd (omega (arith, same, below)))) refl
-
   -- with a path above it, a block that is hashed has a path
   path_more : (level block : ℕ) → path level (parent_of difi level block) → hashed (suc level) block
       → path (suc level) block
   path_more level block above own upper some within =
       ⊎_elim
-      (λ (below : upper < suc level). rw (block_above-higher level block upper below)
+      (λ (below : upper < suc level). rw (block_above-higher difi level block upper below)
       (above upper some (omega (arith, below))))
       (λ (last : suc level ≤ upper).
       (let here : upper ≡ suc level = omega (arith, last, within) in
-      rw (here, block_above-here level block) own))
+      rw (here, block_above-here difi level block) own))
       (cases_lt upper (suc level))
 
   -- a path that fails above a block fails there for the block
@@ -53,9 +53,9 @@ module _ (cells : ℕ → Cell) (master : List ℕ) (difi : Difi) where
   fails_more level block upper at h = record {
     some = h.some;
     above = omega (arith, h.above);
-    there = h.there ∙ sym (block_above-higher level block upper (omega (arith, h.above)));
+    there = h.there ∙ sym (block_above-higher difi level block upper (omega (arith, h.above)));
     fails = h.fails;
-    before = λ higher some below. rw (block_above-higher level block higher (omega (arith, below, h.above)))
+    before = λ higher some below. rw (block_above-higher difi level block higher (omega (arith, below, h.above)))
         (h.before higher some below);
   }
 
@@ -65,9 +65,9 @@ module _ (cells : ℕ → Cell) (master : List ℕ) (difi : Difi) where
   fails_here level block above unhashed = record {
     some = omega arith;
     above = omega arith;
-    there = sym (block_above-here level block);
+    there = sym (block_above-here difi level block);
     fails = unhashed;
-    before = λ higher some below. rw (block_above-higher level block higher below)
+    before = λ higher some below. rw (block_above-higher difi level block higher below)
         (above higher some (omega (arith, below)));
   }
 

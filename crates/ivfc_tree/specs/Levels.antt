@@ -1,5 +1,5 @@
 -- The levels of a hash tree: which bytes they have, their blocks, and the entry of each block.
-use Rattle.std.specs.Prelude.{ℕ, ◌-◌, ◌*◌, ◌/◌, ◌<◌, ◌≤◌, ◌==◌, List, ◌++◌, length, take, drop, replicate, if◌then◌else◌}
+use Rattle.std.specs.Prelude.{ℕ, ◌+◌, ◌-◌, ◌*◌, ◌/◌, ◌<◌, ◌≤◌, ◌==◌, min, List, ◌++◌, length, take, drop, replicate, if◌then◌else◌}
 use Rattle.save_bytes.specs.Cells.{Cell}
 use Rattle.save_bytes.specs.CellNumbers.{bytes_in}
 use Rattle.difi.specs.declared.places.LevelPlace.{LevelPlace}
@@ -22,6 +22,14 @@ level_of difi level = if level == 1 then difi.ivfc1 else (if level == 2 then dif
 pub record HasBlock (difi : Difi) (level block : ℕ) : Type 0 where
   pub in_tree : IsLevel level
   pub in_level : block < blocks_of (level_of difi level)
+
+-- where a block begins in the base
+abbrev pub block_begin : Difi → ℕ → ℕ → ℕ
+block_begin difi level block = (level_of difi level).at + block * block_size (level_of difi level)
+
+-- how many bytes of a block its level has
+abbrev pub len_of : Difi → ℕ → ℕ → ℕ
+len_of difi level block = min (block_size (level_of difi level)) ((level_of difi level).size - block * block_size (level_of difi level))
 
 -- the bytes of a level
 abbrev pub ivfc_level : (ℕ → Cell) → Difi → ℕ → List ℕ

@@ -1,3 +1,4 @@
+pub mod Eases
 pub mod Hashing
 pub mod Levels
 pub mod Marks
@@ -5,6 +6,7 @@ pub mod Paths
 pub mod Known
 pub mod View
 pub mod Held
+pub mod Readies
 pub mod ViewLaws
 pub mod KnownLaws
 pub mod FloorLaws

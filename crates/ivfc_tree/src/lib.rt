@@ -1,11 +1,14 @@
 //! The hash tree of a partition: a byte of its contents is lent only where each hash over it holds.
 #![tactic(auto)]
 
+mod clear;
 mod hashing;
 mod laws;
 mod levels;
 mod marks;
 mod path;
+mod prepare;
+mod put;
 mod seal;
 mod state;
 mod view;
