@@ -52,10 +52,10 @@ module _ (base : Shape) (difi : Difi) (master : List ℕ) (tree : HasTree base d
   block_before l c at is = subst (λ (n : ℕ). before n c ≡ BlankAt level block) (sym at)
       (subst (λ (b : ℕ). before level b ≡ BlankAt level block) (sym is) was)
 
-  unmarked_step : (l c : ℕ) → HasBlock difi (suc l) c → (suc l ≡ level → c ≢ block) → marked (suc l) c ≡ false → still (suc l) c ≡ false
+  free_step : (l c : ℕ) → HasBlock difi (suc l) c → (suc l ≡ level → c ≢ block) → marked (suc l) c ≡ false → still (suc l) c ≡ false
       → Becomes difi level block l (parent_of difi l c) (before l (parent_of difi l c)) (now l (parent_of difi l c))
       → Becomes difi level block (suc l) c (before (suc l) c) (now (suc l) c)
-  unmarked_step l c here apart free free_still above =
+  free_step l c here apart free free_still above =
       let p = parent_of difi l c in
       let step = state_step one master difi marked l c free in
       let then_step = state_step other master difi still l c free_still in
@@ -94,7 +94,7 @@ module _ (base : Shape) (difi : Difi) (master : List ℕ) (tree : HasTree base d
       (λ (yes : marked (suc l) c ≡ true). Remains
       (rw (state_marked one master difi marked l c yes, state_marked other master difi still l c (same ∙ yes)) refl))
       (λ (no : marked (suc l) c ≡ false).
-      unmarked_step l c there_c apart no (same ∙ no)
+      free_step l c there_c apart no (same ∙ no)
       (becomes l (parent_of difi l c)
       (λ some. (parent_there base difi (length master) l c tree some there_c).parent)))
       (cases_Bool (marked (suc l) c))) in

@@ -17,10 +17,10 @@ use Rattle.save_bytes.specs.Writes.{IsWithin}
 use Rattle.save_bytes.proofs.CellLemmas.{bytes_in-same, bytes_in-is}
 use Rattle.difi.specs.declared.descriptor.Difi.{Difi}
 use Rattle.difi.specs.Places.{extent_of, block_size}
-use Rattle.ivfc_tree.specs.Levels.{IsLevel, level_of, HasBlock, padded_block, hash_entry, parent_of}
+use Rattle.ivfc_tree.specs.Levels.{IsLevel, level_of, len_of, HasBlock, padded_block, hash_entry, parent_of}
 use Rattle.ivfc_tree.specs.View.{HasLevels, HasTree}
 use Rattle.ivfc_tree.specs.Seals.{IsInEntry, IsInFirst, ChangesAt}
-use Rattle.ivfc_tree.proofs.HashLemmas.{len_of, padded_block-is, hash_entry-below}
+use Rattle.ivfc_tree.proofs.HashLemmas.{padded_block-is, hash_entry-below}
 use Rattle.ivfc_tree.proofs.LevelLemmas.{block_placed, entry_there}
 
 -- a place of the base is one of a block

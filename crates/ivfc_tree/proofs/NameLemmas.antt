@@ -35,10 +35,10 @@ after_blank Good own upper at e = inl (refl, e)
 after_blank (BlankAt level block) own upper at e = inr e
 after_blank (BadAt level block) own upper at e = absurd (cc)
 
-after_good : (above own : BlockState) → after above own ≡ Good → above ≡ Good
-after_good Good own e = refl
-after_good (BlankAt level block) own e = absurd (cc)
-after_good (BadAt level block) own e = absurd (cc)
+above_of_good : (above own : BlockState) → after above own ≡ Good → above ≡ Good
+above_of_good Good own e = refl
+above_of_good (BlankAt level block) own e = absurd (cc)
+above_of_good (BadAt level block) own e = absurd (cc)
 
 -- the block of a level above that has the entry of the one on the next level
 pub block_above-parent : (difi : Difi) (level block upper : ℕ) → 1 ≤ upper → upper < level
@@ -149,7 +149,7 @@ module _ (base : Shape) (difi : Difi) (master : List ℕ) (tree : HasTree base d
       (λ (yes : marked (suc (suc level)) block ≡ true).
       state_marked cells master difi marked level (parent_of difi (suc level) block) (closed (suc level) block some there yes))
       (λ (no : marked (suc (suc level)) block ≡ false).
-      after_good _ (own_state cells master difi (suc (suc level)) block)
+      above_of_good _ (own_state cells master difi (suc (suc level)) block)
       (sym (state_step cells master difi marked (suc level) block no) ∙ good))
       (cases_Bool (marked (suc (suc level)) block))
 

@@ -79,17 +79,17 @@ Prepares-join master difi at n fits one mid other marked more still first second
 }
 
 -- a good block is marked, and all come to the same
-pub marked_good : (cells : ℕ → Cell) (master : List ℕ) (difi : Difi) (level block : ℕ) (marked still : ℕ → ℕ → Bool)
+pub good_keeps : (cells : ℕ → Cell) (master : List ℕ) (difi : Difi) (level block : ℕ) (marked still : ℕ → ℕ → Bool)
     → MarksOne level block marked still → marked_state cells master difi marked level block ≡ Good → (l c : ℕ)
     → marked_state cells master difi still l c ≡ marked_state cells master difi marked l c
-marked_good cells master difi level block marked still marks good zero c =
+good_keeps cells master difi level block marked still marks good zero c =
     state_top cells master difi still c ∙ sym (state_top cells master difi marked c)
-marked_good cells master difi level block marked still marks good (suc l) c =
+good_keeps cells master difi level block marked still marks good (suc l) c =
     let elsewhere : (suc l ≡ level → c ≢ block)
     → marked_state cells master difi still (suc l) c ≡ marked_state cells master difi marked (suc l) c =
     λ apart.
     (let same = marks.others (suc l) c apart in
-    let above = marked_good cells master difi level block marked still marks good l (parent_of difi l c) in
+    let above = good_keeps cells master difi level block marked still marks good l (parent_of difi l c) in
     ⊎_elim
     (λ (yes : marked (suc l) c ≡ true). state_marked cells master difi still l c (same ∙ yes) ∙ sym (state_marked cells master difi marked l c yes))
     (λ (free : marked (suc l) c ≡ false). rw (state_step cells master difi still l c (same ∙ free), state_step cells master difi marked l c free, above) refl)

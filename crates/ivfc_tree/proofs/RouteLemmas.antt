@@ -16,7 +16,7 @@ use Rattle.ivfc_tree.specs.Eases.{MeetsBlock, Prepares, IsGoodTo, ReadiesBlock}
 use Rattle.ivfc_tree.proofs.PathLemmas.{block_above-here}
 use Rattle.ivfc_tree.proofs.NameLemmas.{above_there, IsBlankBy, blank_by}
 use Rattle.ivfc_tree.proofs.BecomesLemmas.{Becomes, Remains, TurnsGood, TurnsDeeper, block_now, becomes}
-use Rattle.ivfc_tree.proofs.ReadyLemmas.{marks_grow, marked_good, prepares_same, zeroed_prepares}
+use Rattle.ivfc_tree.proofs.ReadyLemmas.{marks_grow, good_keeps, prepares_same, zeroed_prepares}
 
 good_stays : {difi : Difi} {level block l c : ℕ} {old new : BlockState} → Becomes difi level block l c old new → old ≡ Good → new ≡ Good
 good_stays (Remains same) good = same ∙ good
@@ -38,7 +38,7 @@ module _ (base : Shape) (difi : Difi) (master : List ℕ) (tree : HasTree base d
     good_same : (l c : ℕ) → HasBlock difi l c → marked_state other master difi still l c ≡ marked_state one master difi marked l c
     good_same l c here_c =
         state-same base difi master tree other one (readied.same refl) still still (λ m b. refl) l c here_c
-        ∙ marked_good one master difi level here marked still readied.marks (good_to.good level some below within) l c
+        ∙ good_keeps one master difi level here marked still readied.marks (good_to.good level some below within) l c
 
     pub good_step : IsGoodTo other master difi still block last from
     good_step = record {
