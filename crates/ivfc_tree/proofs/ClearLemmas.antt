@@ -25,10 +25,11 @@ use Rattle.ivfc_tree.specs.Readies.{IsInPath, contents_len, MarksWithin, Readies
 use Rattle.ivfc_tree.proofs.ByteLemmas.{in_block_from, block_from}
 use Rattle.ivfc_tree.proofs.ZeroLemmas.{level_byte, block_byte}
 use Rattle.ivfc_tree.proofs.FillLemmas.{marks_one}
+use Rattle.ivfc_tree.proofs.OriginLemmas.{CameFrom-more}
 use Rattle.ivfc_tree.proofs.PathLemmas.{block_above-here}
 use Rattle.ivfc_tree.proofs.NameLemmas.{block_above-parent}
 use Rattle.ivfc_tree.proofs.ReadyLemmas.{marks_grow, StaysUnder-same}
-use Rattle.ivfc_tree.proofs.WrittenLemmas.{state_kept, written_cell, kept_cell, eased_put}
+use Rattle.ivfc_tree.proofs.WrittenLemmas.{state_kept, written_more, written_cell, kept_cell, eased_put}
 use Rattle.ivfc_tree.proofs.StartLemmas.{remembers_after}
 
 module _ (base : State) (difi : Difi) (master : List ℕ) (tree : HasTree base.shape difi (length master)) (block : ℕ)
@@ -102,11 +103,11 @@ module _ (base : State) (difi : Difi) (master : List ℕ) (tree : HasTree base.s
       let zero : ℕ = 0 in
       let byte = block_byte base.shape difi master tree 4 block there mid new zeroed (begin + k) (rw level4_size below) (rw level4_log of) in
       let value : get_or zeros k 0 ≡ 0 = get_or-replicate {A = ℕ} (contents_len difi block) k zero zero (omega (arith, less, long)) in
-      rw value (written_cell base.shape difi master tree mid new (is_marked then_state) (is_marked now) upper_stays free_stays upper_marks (grows 4)
+      rw value (written_cell base.shape difi master tree mid new (is_marked then_state) (is_marked now) upper_stays free_stays upper_marks grows
       part (begin + k) below 0 (rw of one_marked.here) byte)))
       (λ x below out.
       (let apart : x / size ≢ block = λ is. out (in_range x below is) in
-      kept_cell base.shape difi master tree mid new (is_marked then_state) (is_marked now) upper_stays free_stays upper_marks (grows 4)
+      kept_cell base.shape difi master tree mid new (is_marked then_state) (is_marked now) upper_stays free_stays upper_marks grows
       part x below (λ is. sym (one_marked.others 4 (x / size) (λ _. apart)) ∙ is) (contents_stay x below apart)))
       (λ x below (k, less, is) out. absurd (out (in_range x below (is ∙ of_range (begin + k) (omega arith, omega (arith, less))))))
 
@@ -147,8 +148,12 @@ module _ (base : State) (difi : Difi) (master : List ℕ) (tree : HasTree base.s
     put = cleared_put;
     remembers = remembers_after master difi mid new then_state now closed put_or_same
         (λ level other here free. StaysUnder-same level _ _
-        (state_kept base.shape difi master tree mid new (is_marked then_state) (is_marked now) upper_stays free_stays upper_marks (grows 4)
+        (state_kept base.shape difi master tree mid new (is_marked then_state) (is_marked now) upper_stays free_stays upper_marks grows
         level other (λ _. here) (λ last. free))) path.remembers;
+    origins = λ was_cells was_master came.
+        CameFrom-more base.shape difi (length master) tree (is_marked then_state) was_cells mid was_master master
+        ((path.prepares begin (length zeros) fits met).origins was_cells was_master came) (is_marked now) new master
+        (written_more base.shape difi master tree mid new (is_marked then_state) (is_marked now) upper_stays free_stays upper_marks grows);
   }
 
 -- what the call that marks it leaves of the marks

@@ -14,10 +14,11 @@ use Rattle.ivfc_tree.specs.View.{HasTree, view_state, cell_of}
 use Rattle.ivfc_tree.specs.ViewLaws.{level4_size, level4_log}
 use Rattle.ivfc_tree.specs.Eases.{MeetsBlock, marked_cell}
 use Rattle.ivfc_tree.specs.Readies.{RangeSites, ReadiesRange, PutsContents}
+use Rattle.ivfc_tree.proofs.OriginLemmas.{CameFrom-more}
 use Rattle.ivfc_tree.proofs.PathLemmas.{block_above-here}
 use Rattle.ivfc_tree.proofs.NameLemmas.{state_marked}
 use Rattle.ivfc_tree.proofs.ReadyLemmas.{StaysUnder-same}
-use Rattle.ivfc_tree.proofs.WrittenLemmas.{state_kept, written_cell, kept_cell, eased_put}
+use Rattle.ivfc_tree.proofs.WrittenLemmas.{state_kept, written_more, written_cell, kept_cell, eased_put}
 use Rattle.ivfc_tree.proofs.StartLemmas.{remembers_after}
 
 -- the range lies in the base, where level four does
@@ -95,10 +96,10 @@ module _ (base : State) (difi : Difi) (master : List ℕ) (tree : HasTree base.s
       (λ k less.
       (let place : four + (at + k) ≡ four + at + k = omega arith in
       written_cell base.shape difi master tree mid new (is_marked now) (is_marked now) upper_stays free_stays (λ level block above. refl)
-      (λ block is. is) part (at + k) (omega (arith, less, fits)) (get_or bytes k 0) (range.marked k less) (rw place (put k less))))
+      (λ level block is. is) part (at + k) (omega (arith, less, fits)) (get_or bytes k 0) (range.marked k less) (rw place (put k less))))
       (λ x below out.
       kept_cell base.shape difi master tree mid new (is_marked now) (is_marked now) upper_stays free_stays (λ level block above. refl)
-      (λ block is. is) part x below (λ is. is) (contents_stay x below out))
+      (λ level block is. is) part x below (λ is. is) (contents_stay x below out))
       (λ x below met out. met_byte part x met)
 
   -- they make a put of the view
@@ -108,5 +109,10 @@ module _ (base : State) (difi : Difi) (master : List ℕ) (tree : HasTree base.s
     remembers = remembers_after master difi mid new now now range.remembers.closed (λ level block. inl refl)
         (λ level block there free. StaysUnder-same level _ _
         (state_kept base.shape difi master tree mid new (is_marked now) (is_marked now) upper_stays free_stays (λ l b above. refl)
-        (λ b is. is) level block (λ _. there) (λ last. free))) range.remembers;
+        (λ l b is. is) level block (λ _. there) (λ last. free))) range.remembers;
+    origins = λ was_cells was_master came.
+        CameFrom-more base.shape difi (length master) tree (is_marked now) was_cells mid was_master master
+        (range.prepares.origins was_cells was_master came) (is_marked now) new master
+        (written_more base.shape difi master tree mid new (is_marked now) (is_marked now) upper_stays free_stays
+        (λ level block above. refl) (λ level block is. is));
   }

@@ -136,6 +136,12 @@ module _ (cells : ℕ → Cell) (master : List ℕ) (difi : Difi) (marked : ℕ 
       (after_blank (state level (parent_of difi level block)) own upper at (sym step ∙ is))))
       (cases_Bool (marked (suc level) block))
 
+-- a marked block is good, by its own level
+pub marked_here : (cells : ℕ → Cell) (master : List ℕ) (difi : Difi) (marked : ℕ → ℕ → Bool) (level block : ℕ) → 1 ≤ level
+    → marked level block ≡ true → marked_state cells master difi marked level block ≡ Good
+marked_here cells master difi marked zero block some is = absurd (omega (arith, some))
+marked_here cells master difi marked (suc level) block some is = state_marked cells master difi marked level block is
+
 module _ (base : Shape) (difi : Difi) (master : List ℕ) (tree : HasTree base difi (length master)) (cells : ℕ → Cell)
     (marked : ℕ → ℕ → Bool)
     (closed : (upper block : ℕ) → 1 ≤ upper → HasBlock difi (suc upper) block → marked (suc upper) block ≡ true

@@ -11,12 +11,14 @@ use Rattle.ivfc_tree.specs.declared.path.BlockState.{BlockState}
 use Rattle.ivfc_tree.specs.declared.path.BlockState.TheVariants.{Good, Blank as BlankAt, Bad as BadAt}
 use Rattle.ivfc_tree.specs.Levels.{level_of, HasBlock, parent_of}
 use Rattle.ivfc_tree.specs.Paths.{marked_state, cell_in}
+use Rattle.ivfc_tree.specs.Origins.{TellsSame, MarksMore}
+use Rattle.ivfc_tree.proofs.OriginLemmas.{CameFrom-more}
 use Rattle.ivfc_tree.specs.View.{HasTree}
-use Rattle.ivfc_tree.specs.ViewLaws.{level4_size, level4_log, block_of_there, place_inside}
+use Rattle.ivfc_tree.specs.ViewLaws.{level4_size, level4_log, block_of_there, place_inside, own-same, parent_there}
 use Rattle.ivfc_tree.specs.Eases.{MeetsBlock, ShowsBlank, EasesFrom, Eases, marked_cell, MarksOne, ZeroesBlock, StaysUnder, Prepares}
 use Rattle.ivfc_tree.proofs.EaseLemmas.{EasesFrom-same, Eases-same, Eases-join}
-use Rattle.ivfc_tree.proofs.ZeroLemmas.{level_byte, block_byte}
-use Rattle.ivfc_tree.proofs.NameLemmas.{state_marked, state_step, state_top, blank_by}
+use Rattle.ivfc_tree.proofs.ZeroLemmas.{level_byte, block_byte, own_stays, own_zero}
+use Rattle.ivfc_tree.proofs.NameLemmas.{marked_here, state_marked, state_step, state_top, blank_by}
 use Rattle.ivfc_tree.proofs.BecomesLemmas.{Becomes, Remains, TurnsGood, TurnsDeeper, block_before, block_now, becomes}
 
 pub StaysUnder-same : (level : ℕ) (old new : BlockState) → new ≡ old → StaysUnder level old new
@@ -47,9 +49,32 @@ cell_name Good part value level block e = absurd (cc)
 cell_name (BlankAt l b) part value level block e = let same_level : l ≡ level = cc in let same_block : b ≡ block = cc in cc
 cell_name (BadAt l b) part value level block e = absurd (cc)
 
+-- one more mark set, none is cleared
+pub not_before : (marked still : ℕ → ℕ → Bool) → ((level block : ℕ) → marked level block ≡ true → still level block ≡ true)
+    → (level block : ℕ) → still level block ≡ false → marked level block ≡ false
+not_before marked still grows level block free =
+    ⊎_elim (λ (is_marked : marked level block ≡ true). absurd (let grown = grows level block is_marked in cc))
+    (λ (free_before : marked level block ≡ false). free_before) (cases_Bool (marked level block))
+
 -- cells and blocks that stay were made ready
 module _ (base : Shape) (difi : Difi) (master : List ℕ) (tree : HasTree base difi (length master)) (at n : ℕ) (one other : ℕ → Cell)
     (marked still : ℕ → ℕ → Bool) where
+  more_same : ((level block : ℕ) → HasBlock difi level block
+      → marked_state other master difi still level block ≡ marked_state one master difi marked level block)
+      → ((x : ℕ) → x < base.size → other x ≡ one x) → ((level block : ℕ) → marked level block ≡ true → still level block ≡ true)
+      → MarksMore difi marked still one master other master
+  more_same states bytes grows = record {
+    more = not_before marked still grows;
+    unmarked = λ level block there free.
+        inl (record {
+          own = own-same base difi tree.levels other one bytes master (suc level) block there.in_tree;
+          above = λ some before after.
+              (let parent = parent_there base difi (length master) level block tree some there in
+              sym (states level (parent_of difi level block) parent.parent)
+              ∙ marked_here other master difi still level (parent_of difi level block) some after);
+        });
+  }
+
   pub prepares_same : ((level block : ℕ) → HasBlock difi level block
       → marked_state other master difi still level block ≡ marked_state one master difi marked level block)
       → ((x : ℕ) → x < base.size → other x ≡ one x) → ((level block : ℕ) → marked level block ≡ true → still level block ≡ true)
@@ -62,6 +87,9 @@ module _ (base : Shape) (difi : Difi) (master : List ℕ) (tree : HasTree base d
         ) refl);
     stays = λ level block there free. StaysUnder-same level _ _ (states level block there);
     grows = grows;
+    origins = λ was was_master came.
+        CameFrom-more base difi (length master) tree marked was one was_master master came still other master
+        (more_same states bytes grows);
   }
 
 -- blocks that were made ready for a range, and then more of them
@@ -76,6 +104,7 @@ Prepares-join master difi at n fits one mid other marked more still first second
       (λ (free_before : more level block ≡ false). free_before) (cases_Bool (more level block)) in
       StaysUnder-join level _ _ _ (first.stays level block there before_free) (second.stays level block there free));
   grows = λ level block is. second.grows level block (first.grows level block is);
+  origins = λ was was_master came. second.origins was was_master (first.origins was was_master came);
 }
 
 -- a good block is marked, and all come to the same
@@ -246,6 +275,47 @@ module _ (base : Shape) (difi : Difi) (master : List ℕ) (tree : HasTree base d
   stays_under l c old new free (TurnsDeeper below deep under was_blank is) =
       subst (λ (s : BlockState). StaysUnder l s new) (sym was_blank) (λ own. absurd (omega (arith, own, deep)))
 
+  -- no block that is not marked tells anything else, but those whose entries the block has
+  same_told : (l c : ℕ) → HasBlock difi (suc l) c → still (suc l) c ≡ false → (l ≡ level → parent_of difi l c ≢ block)
+      → TellsSame difi marked still one master other master l c
+  same_told l c here free elsewhere = record {
+    own = own_stays base difi master tree level block there one other zeroed (suc l) c here
+        (λ at is. (let marked_here = marks.here in
+        let freed : still level block ≡ false =
+        subst (λ (m : ℕ). still m block ≡ false) at (subst (λ (b : ℕ). still (suc l) b ≡ false) is free) in cc))
+        (λ next under. (let same : l ≡ level = omega (arith, next) in
+        elsewhere same (subst (λ (m : ℕ). parent_of difi m c ≡ block) (sym same) under)));
+    above = λ some before after.
+        absurd (let p = parent_of difi l c in
+        let same = marks.others l p elsewhere in cc);
+  }
+
+  zeroed_more : MarksMore difi marked still one master other master
+  zeroed_more = record {
+    more = not_before marked still (marks_grow level block marked still marks);
+    unmarked = λ l c here free.
+        ⊎_elim
+        (λ (at : l ≡ level).
+        ⊎_elim
+        (λ (under : parent_of difi l c ≡ block).
+        (let child : HasBlock difi (suc level) c = subst (λ (m : ℕ). HasBlock difi (suc m) c) at here in
+        let below : parent_of difi level c ≡ block = subst (λ (m : ℕ). parent_of difi m c ≡ block) at under in
+        let free_before : marked level block ≡ false = unmarked_blank was in
+        inr (record {
+          below = omega (arith, at, there.in_tree.0);
+          above = rw (at, below) free_before;
+          spoilt = λ good.
+              (let state : marked_state one master difi marked level block ≡ Good = rw (at, below) at good in cc);
+          own = rw at (own_zero base difi master tree level block there one other zeroed c child below);
+        })))
+        (λ (elsewhere : parent_of difi l c ≢ block). inl (same_told l c here free (λ _. elsewhere)))
+        (cases_eq (parent_of difi l c) block))
+        (λ (elsewhere : l ≢ level). inl (same_told l c here free (λ at. absurd (elsewhere at))))
+        (cases_eq l level);
+  } where
+    unmarked_blank : marked_state one master difi marked level block ≡ BlankAt level block → marked level block ≡ false
+    unmarked_blank is = (blank_by one master difi marked level block level block is).unmarked
+
   -- a block that became zero was made ready for a range that shows it
   pub zeroed_prepares : (at n : ℕ) → ((part : ℕ) → ShowsBlank (marked_cell one part master difi marked) at n part level block)
       → (4 ≡ level → MeetsBlock difi at n block) → Prepares master difi at n one marked other still
@@ -253,4 +323,6 @@ module _ (base : Shape) (difi : Difi) (master : List ℕ) (tree : HasTree base d
     eases = λ part. zeroed_eases part at n (shows part) met;
     stays = λ l c here free. stays_under l c _ _ free (change l c here);
     grows = marks_grow level block marked still marks;
+    origins = λ was_cells was_master came.
+        CameFrom-more base difi (length master) tree marked was_cells one was_master master came still other master zeroed_more;
   }

@@ -23,7 +23,7 @@ use Rattle.ivfc_tree.specs.Eases.{MeetsBlock, StaysUnder, Prepares, IsGoodTo}
 use Rattle.ivfc_tree.specs.Readies.{IsUnspoiltPath, IsBlankFrom, IsInPath, PutsPath, ReadiesPath}
 use Rattle.ivfc_tree.proofs.ReadyLemmas.{Prepares-join, prepares_same}
 use Rattle.ivfc_tree.proofs.PathLemmas.{block_above-here, block_above-higher}
-use Rattle.ivfc_tree.proofs.NameLemmas.{block_above-parent, above_there, state_marked, state_step, blank_by, path_good}
+use Rattle.ivfc_tree.proofs.NameLemmas.{marked_here, block_above-parent, above_there, state_step, blank_by, path_good}
 
 -- the block above one that is above a block is above that
 pub block_above-above : (difi : Difi) (level block mid upper : ℕ) → upper ≤ mid → mid ≤ level
@@ -41,12 +41,6 @@ block_above-above difi (suc level) block mid upper low high =
     subst (λ (m : ℕ). block_above difi m (block_above difi (suc level) block m) upper ≡ block_above difi (suc level) block upper) (sym here)
     (ap (λ (b : ℕ). block_above difi (suc level) b upper) (block_above-here difi level block))))
     (cases_lt mid (suc level))
-
--- a marked block is good, by its own level
-marked_here : (cells : ℕ → Cell) (master : List ℕ) (difi : Difi) (marked : ℕ → ℕ → Bool) (level block : ℕ) → 1 ≤ level
-    → marked level block ≡ true → marked_state cells master difi marked level block ≡ Good
-marked_here cells master difi marked zero block some is = absurd (omega (arith, some))
-marked_here cells master difi marked (suc level) block some is = state_marked cells master difi marked level block is
 
 module _ (base : Shape) (difi : Difi) (master : List ℕ) (tree : HasTree base difi (length master)) (cells : ℕ → Cell)
     (marked : ℕ → ℕ → Bool)

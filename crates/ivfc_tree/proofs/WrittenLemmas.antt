@@ -13,9 +13,11 @@ use Rattle.ivfc_tree.specs.Levels.{IsLevel, level_of, HasBlock, block_begin, par
 use Rattle.ivfc_tree.specs.Paths.{own_state, marked_state}
 use Rattle.ivfc_tree.specs.View.{HasTree}
 use Rattle.ivfc_tree.specs.ViewLaws.{level4_size, level4_log, block_of_there, parent_there}
+use Rattle.ivfc_tree.specs.Origins.{MarksMore}
 use Rattle.ivfc_tree.specs.Eases.{MeetsBlock, ShowsBlank, EasesFrom, Eases, marked_cell}
 use Rattle.ivfc_tree.proofs.ByteLemmas.{block_from, own_kept}
 use Rattle.ivfc_tree.proofs.LevelLemmas.{block_placed}
+use Rattle.ivfc_tree.proofs.ReadyLemmas.{not_before}
 use Rattle.ivfc_tree.proofs.NameLemmas.{state_marked, state_step, state_top}
 
 module _ (base : Shape) (difi : Difi) (master : List ℕ) (tree : HasTree base difi (length master)) (one other : ℕ → Cell)
@@ -25,7 +27,7 @@ module _ (base : Shape) (difi : Difi) (master : List ℕ) (tree : HasTree base d
     (fourth : (x : ℕ) → x < difi.ivfc4.size → still 4 (x / block_size difi.ivfc4) ≡ false
     → other ((level_of difi 4).at + x) ≡ one ((level_of difi 4).at + x))
     (marks : (level block : ℕ) → level < 4 → still level block ≡ marked level block)
-    (grows : (block : ℕ) → marked 4 block ≡ true → still 4 block ≡ true) where
+    (grows : (level block : ℕ) → marked level block ≡ true → still level block ≡ true) where
   -- the bytes of an unmarked block, and of each entry
   byte_kept : (level block y : ℕ) → HasBlock difi level block → still level block ≡ false → y < (level_of difi level).size
       → y / block_size (level_of difi level) ≡ block → other ((level_of difi level).at + y) ≡ one ((level_of difi level).at + y)
@@ -75,8 +77,8 @@ module _ (base : Shape) (difi : Difi) (master : List ℕ) (tree : HasTree base d
       (let four : suc level ≡ 4 = omega (arith, last, here.in_tree.1) in
       ⊎_elim
       (λ (was : marked (suc level) block ≡ true).
-      absurd (let grown = grows block (subst (λ (m : ℕ). marked m block ≡ true) four was) in
-      let freed : still 4 block ≡ false = subst (λ (m : ℕ). still m block ≡ false) four is_free in cc))
+      absurd (let grown = grows (suc level) block was in
+      cc))
       (λ (free_before : marked (suc level) block ≡ false). free_before)
       (cases_Bool (marked (suc level) block))))
       (cases_lt (suc level) 4) in
@@ -86,6 +88,18 @@ module _ (base : Shape) (difi : Difi) (master : List ℕ) (tree : HasTree base d
       let own = own_same_where (suc level) block here is_free in
       rw (state_step other master difi still level block is_free, state_step one master difi marked level block was_free, parent, own) refl))
       (cases_Bool (still (suc level) block))
+
+  -- no block that is not marked tells anything else
+  pub written_more : MarksMore difi marked still one master other master
+  written_more = record {
+    more = not_before marked still grows;
+    unmarked = λ level block there free.
+        inl (record {
+          own = own_same_where (suc level) block there free;
+          above = λ some before after.
+              absurd (let same = marks level (parent_of difi level block) (omega (arith, there.in_tree.1)) in cc);
+        });
+  }
 
   module _ (part x : ℕ) (below : x < difi.ivfc4.size) where
     -- a byte that was written is one of the view, and any other cell stays where its block is not newly marked

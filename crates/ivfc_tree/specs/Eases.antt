@@ -9,6 +9,7 @@ use Rattle.difi.specs.Places.{block_size}
 use Rattle.ivfc_tree.specs.declared.path.BlockState.{BlockState}
 use Rattle.ivfc_tree.specs.declared.path.BlockState.TheVariants.{Good, Blank as BlankAt, Bad as BadAt}
 use Rattle.ivfc_tree.specs.Levels.{level_of, HasBlock, block_begin, len_of}
+use Rattle.ivfc_tree.specs.Origins.{CameFrom}
 use Rattle.ivfc_tree.specs.Paths.{block_above, marked_state, cell_in}
 
 -- the n bytes of level four from `at` on meet this block of it
@@ -54,6 +55,11 @@ StaysUnder level Good new = new ≡ Good
 StaysUnder level (BlankAt upper block) new = upper ≡ level → new ≡ BlankAt upper block
 StaysUnder level (BadAt upper block) new = new ≡ BadAt upper block
 
+-- the tree that it was as the transaction began, whichever that is, is one that it came from later too
+abbrev pub CarriesOrigins : List ℕ → Difi → (ℕ → Cell) → (ℕ → ℕ → Bool) → (ℕ → Cell) → (ℕ → ℕ → Bool) → Type 0
+CarriesOrigins master difi old marked new still = (was : ℕ → Cell) (was_master : List ℕ)
+    → CameFrom difi marked was was_master old master → CameFrom difi still was was_master new master
+
 -- Blocks were made ready for a put into a range: the cells eased, and each block that is not marked came to the same, unless
 -- it was blank by a block above it.
 pub record Prepares (master : List ℕ) (difi : Difi) (at n : ℕ) (old : ℕ → Cell) (marked : ℕ → ℕ → Bool) (new : ℕ → Cell)
@@ -62,6 +68,7 @@ pub record Prepares (master : List ℕ) (difi : Difi) (at n : ℕ) (old : ℕ �
   pub stays : (level block : ℕ) → HasBlock difi level block → still level block ≡ false
       → StaysUnder level (marked_state old master difi marked level block) (marked_state new master difi still level block)
   pub grows : (level block : ℕ) → marked level block ≡ true → still level block ≡ true
+  pub origins : CarriesOrigins master difi old marked new still
 
 -- Down to some level the path of a block of level four holds above another, from which on it is blank by the block there.
 pub record IsGoodTo (cells : ℕ → Cell) (master : List ℕ) (difi : Difi) (marked : ℕ → ℕ → Bool) (block last from : ℕ) : Type 0 where

@@ -15,7 +15,7 @@ use Rattle.ivfc_tree.specs.Paths.{block_above, path_block, block_state}
 use Rattle.ivfc_tree.specs.Known.{Remembers}
 use Rattle.ivfc_tree.specs.View.{view_state, cell_of}
 use Rattle.ivfc_tree.specs.Held.{IsOnPath}
-use Rattle.ivfc_tree.specs.Eases.{MeetsBlock, Prepares}
+use Rattle.ivfc_tree.specs.Eases.{MeetsBlock, CarriesOrigins, Prepares}
 
 -- the path does not fail at a block that was written
 abbrev pub IsUnspoiltPath : BlockState → Type 0
@@ -82,8 +82,10 @@ pub record ReadiesRange (master : List ℕ) (difi : Difi) (at n done : ℕ) (old
 abbrev pub contents_len : Difi → ℕ → ℕ
 contents_len difi block = min (block_size difi.ivfc4) (difi.ivfc4.size - block * block_size difi.ivfc4)
 
--- bytes were put into level four: the cells of a view of any part are those after a put, and what is remembered is true
+-- Bytes were put into level four: the cells of a view of any part are those after a put, what is remembered is true, and
+-- the tree came from where it came from before.
 pub record PutsContents (base : State) (master : List ℕ) (difi : Difi) (was : IvfcState) (at : ℕ) (bytes : List ℕ) (new : ℕ → Cell)
     (now : IvfcState) : Type 0 where
   pub put : (part : ℕ) → HasPut (view_state base part master difi was) at bytes (cell_of new part master difi now)
   pub remembers : Remembers new master difi now
+  pub origins : CarriesOrigins master difi base.cells (is_marked was) new (is_marked now)

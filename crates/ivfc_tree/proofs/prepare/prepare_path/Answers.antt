@@ -91,3 +91,6 @@ loop-level-preserved g c =
           (Writes-wider space.state space.keeps space.lands _ (PathSites difi block) c.loop-level.base c.prepare_block.new.base None
           (λ told x below site. sites x (rw c.block_above-above.ensures at site)) c.in-Ok.ensures.writes);
     }
+
+pub returns-clause-readied : goal.returns-clause-readied
+returns-clause-readied g c = λ told master tree good_to. (c.loop-level.invariant.readied told master tree good_to).1
