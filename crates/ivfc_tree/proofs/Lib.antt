@@ -19,6 +19,7 @@ pub mod StateLemmas
 pub mod StepLemmas
 pub mod LearnLemmas
 pub mod ViewLemmas
+pub mod PutViewLemmas
 pub mod MarkLemmas
 pub mod EntryLemmas
 pub mod SealLemmas

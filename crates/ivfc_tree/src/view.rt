@@ -1,12 +1,20 @@
 //! A view through the hash tree.
 
-ghost use Rattle.std.specs.Prelude.{◌≡◌, ℕ, ◌/◌, ◌<◌, ◌≤◌, length, IsTrue, IfOk, []};
+ghost use Rattle.std.specs.Prelude.{refl, ◌≡◌, ℕ, ◌/◌, ◌<◌, ◌≤◌, length, replicate, IsTrue, IfOk, []};
 ghost use Rattle.std.specs.Borrow.{sem};
 ghost use Rattle.std.specs.Io.BufRead.{Rests};
 ghost use Rattle.std.specs.Result.{result_err};
 ghost use Rattle.save_bytes.specs.State.{IsInside};
 ghost use Rattle.save_bytes.specs.Refusals.{NeverDamaged};
 ghost use Rattle.save_bytes.specs.Answers.{IsPiece, IsReady, IsClearReady};
+ghost use Rattle.save_bytes.specs.Cells.{IsClearable};
+ghost use Rattle.ivfc_tree.specs.FloorLaws.{view_ground, view_blocks, view_alike};
+ghost use Rattle.save_bytes.specs.Stays.{SameSpace};
+ghost use Rattle.save_bytes.specs.Puts.{Puts};
+ghost use Rattle.save_bytes.specs.Spots.{MovesOnly};
+ghost use Rattle.save_bytes.proofs.PutLemmas.{AreUnspoilt};
+ghost use Rattle.std.proofs.lemmas.Bool.{false≢true};
+ghost use Rattle.ivfc_tree.specs.KeepLaws.{shown_fits, HashKeeps-same, HashKeeps-join, HashKeeps-hold, HashKeeps-shape, HashKeeps-cells, HashKeeps-lands};
 ghost use Rattle.save_bytes.specs.Reads.{Reads};
 ghost use Rattle.difi.specs.Places.{block_size};
 ghost use Rattle.ivfc_tree.specs.Levels.{HasBlock};
@@ -17,12 +25,14 @@ ghost use Rattle.ivfc_tree.specs.SealViews.{SealsView};
 ghost use Rattle.ivfc_tree.specs.contracts.view.IvfcView.{the_row};
 ghost use mir.Syntax.{named};
 
+use crate::clear::clear_in;
 use crate::levels::{block_size, level_of, parent_of};
 use crate::path::{BlockState, block_state};
+use crate::put::put_in;
 use crate::seal::seal_in;
 use crate::state::IvfcState;
 use difi::Difi;
-use save_bytes::{Bad, Space};
+use save_bytes::{Bad, Floor, Space};
 
 /// Whether a block's path holds.
 #[derive(Clone, Copy, Debug, PartialEq, Eq)]
@@ -68,13 +78,6 @@ impl<'a, S: Space> IvfcView<'a, S> {
         }
     }
 
-    /// How many bytes there are. It never changes.
-    pub fn len(&self) -> u64
-        ensures { result ≡ (shown S.state self.now).shape.size }
-    {
-        self.difi.ivfc4.size
-    }
-
     // What the path of a block comes to.
     fn found(&mut self, level: u8, block: u64) -> Result<BlockState, Bad>
         requires sound { IsTrue (shown S.state self.old).shape.sound }
@@ -118,6 +121,23 @@ impl<'a, S: Space> IvfcView<'a, S> {
         }
     }
 
+    // Clears the block of `at`, for whose sake no block is looked at: none above it should be spoilt.
+    fn clear_block(&mut self, at: u64) -> Result<(), Bad>
+        requires { IsInside (shown S.state self.old).shape at 1 }
+        ensures plain { NeverDamaged (result_err result) }
+        ensures space { SameSpace ⊥ (shown S.state self.old) (shown S.state self.new) (result_err result) }
+        ensures puts { let block = (shown S.state self.old).shape in IsClearable ((shown S.state self.old).cells at)
+            → Puts (shown S.state self.old) (block.block_start at) (replicate (block.block_len at) 0) (shown S.state self.new) (result_err result) }
+        ensures moves { let block = (shown S.state self.old).shape in
+            MovesOnly (HashKeeps S.keeps) (hash_lands S.lands) (shown S.state self.old) self.old (block.block_start at) (block.block_len at) self.new (result_err result) }
+    {
+        let block = at / block_size(&self.difi.ivfc4);
+        let base = &mut *self.base;
+        let master = &mut *self.master;
+        let state = &mut *self.state;
+        clear_in(base, self.difi, master, state, block)
+    }
+
     // How many bytes from `at` on, up to `most`, lie in a block that may be written.
     fn ready_run(&mut self, at: u64, most: u64) -> Result<u64, Bad>
         requires inside { IsInside (shown S.state self.old).shape at 1 }
@@ -141,48 +161,25 @@ impl<'a, S: Space> IvfcView<'a, S> {
         }
     }
 
-    /// Whether the `n` bytes from `at` on may be written: `Damaged` comes exactly where a block that they meet is spoilt, and
-    /// names the topmost block that fails of the first. Nothing is marked.
-    pub fn ready(&mut self, at: u64, n: u64) -> Result<(), Bad>
-        requires { IsInside (shown S.state self.old).shape at n }
-        ensures ready { IsReady (shown S.state self.old) at n (result_err result) }
-        ensures reads { Reads (shown S.state) (HashKeeps S.keeps) (hash_lands S.lands) self.old self.new (result_err result) }
+    // Puts bytes, for whose sake no block is looked at that they meet: none of them should be spoilt.
+    fn put_ready(&mut self, at: u64, bytes: &[u8]) -> Result<(), Bad>
+        requires { IsInside (shown S.state self.old).shape at (length bytes.now) }
+        ensures plain { NeverDamaged (result_err result) }
+        ensures space { SameSpace ⊥ (shown S.state self.old) (shown S.state self.new) (result_err result) }
+        ensures puts { AreUnspoilt (shown S.state self.old) at (length bytes.now)
+            → Puts (shown S.state self.old) at bytes.now (shown S.state self.new) (result_err result) }
+        ensures moves { MovesOnly (HashKeeps S.keeps) (hash_lands S.lands) (shown S.state self.old) self.old at (length bytes.now)
+            self.new (result_err result) }
     {
-        let mut done = 0;
-        while done < n {
-            match self.ready_run(at + done, n - done) {
-                Ok(run) => done += run,
-                Err(bad) => return Err(bad),
-            }
-        }
-        Ok(())
-    }
-
-    /// Whether the block of `at` may be cleared: `Damaged` comes exactly where a block above it is spoilt.
-    pub fn clear_ready(&mut self, at: u64) -> Result<(), Bad>
-        requires { IsInside (shown S.state self.old).shape at 1 }
-        ensures ready { IsClearReady (shown S.state self.old) at (result_err result) }
-        ensures reads { Reads (shown S.state) (HashKeeps S.keeps) (hash_lands S.lands) self.old self.new (result_err result) }
-    {
-        let block = at / block_size(&self.difi.ivfc4);
-        let above = parent_of(self.difi, 3, block);
-        let found = match self.found(3, above) {
-            Ok(found) => found,
-            Err(bad) => return Err(bad),
-        };
-        match found {
-            BlockState::Bad { level, block } => Err(Bad::Damaged {
-                part: self.part,
-                level,
-                block,
-            }),
-            _ => Ok(()),
-        }
+        let base = &mut *self.base;
+        let master = &mut *self.master;
+        let state = &mut *self.state;
+        put_in(base, self.difi, master, state, at, bytes)
     }
 
     /// Lends 1 to `most` bytes from `at` on, as they lie in the base, where they have a hash path. `Damaged` comes
     /// exactly where the byte at `at` has none, and names the topmost block that fails.
-    pub fn piece(&mut self, at: u64, most: usize) -> Result<&[u8], Bad>
+    pub fn lend(&mut self, at: u64, most: usize) -> Result<&[u8], Bad>
         requires inside { IsInside (shown S.state self.old).shape at 1 }
         requires some { 1 ≤ most }
         ensures piece { IsPiece (shown S.state self.old) at most result }
@@ -231,6 +228,98 @@ impl<'a, S: Space> IvfcView<'a, S> {
         let master = &mut *self.master;
         let state = &mut *self.state;
         seal_in(base, self.difi, master, state)
+    }
+}
+
+// A view lends from its base what has a hash path, and writes into it what it marks.
+impl<S: Space> Space for IvfcView<'_, S> {
+    ghost state = { shown S.state };
+
+    ghost keeps = { HashKeeps S.keeps };
+
+    ghost lands = { hash_lands S.lands };
+
+    ghost size_fits = { λ s sound. shown_fits S.state S.size_fits s sound };
+
+    ghost plain_bytes = { λ s plain told x. absurd (false≢true plain) };
+
+    ghost no_twins = { λ s single. record { apart = λ x y same. same; free = λ x. refl } };
+
+    ghost keeps_same = { HashKeeps-same S.keeps S.keeps_same };
+
+    ghost keeps_join = { HashKeeps-join S.keeps S.keeps_join };
+
+    ghost keeps_hold = { HashKeeps-hold S.keeps S.keeps_hold };
+
+    ghost keeps_shape = { HashKeeps-shape S.state S.keeps S.keeps_shape };
+
+    ghost keeps_cells = { HashKeeps-cells S.state S.size_fits S.keeps S.keeps_cells };
+
+    ghost keeps_lands = { HashKeeps-lands S.state S.size_fits S.keeps S.lands S.keeps_lands };
+
+    fn len(&self) -> u64 {
+        self.difi.ivfc4.size
+    }
+
+    fn piece(&mut self, at: u64, most: usize) -> Result<&[u8], Bad> {
+        self.lend(at, most)
+    }
+
+    fn ready(&mut self, at: u64, n: u64) -> Result<(), Bad> {
+        let mut done = 0;
+        while done < n {
+            match self.ready_run(at + done, n - done) {
+                Ok(run) => done += run,
+                Err(bad) => return Err(bad),
+            }
+        }
+        Ok(())
+    }
+
+    fn put(&mut self, at: u64, bytes: &[u8]) -> Result<(), Bad> {
+        match self.ready(at, bytes.len() as u64) {
+            Ok(()) => self.put_ready(at, bytes),
+            Err(bad) => Err(bad),
+        }
+    }
+}
+
+// Damage spreads in blocks of level four.
+impl<S: Space> Floor for IvfcView<'_, S> {
+    ghost ground = { λ s. view_ground (S.state s.base.now) s.part s.master.now s.difi.now s.state.now };
+
+    ghost blocks = { λ s sound. view_blocks (S.state s.base.now) s.part s.master.now s.difi.now s.state.now };
+
+    ghost alike = { λ s told. view_alike (S.state s.base.now) s.part s.master.now s.difi.now s.state.now };
+
+    fn block_of(&self, at: u64) -> (u64, u64) {
+        let size = block_size(&self.difi.ivfc4);
+        let start = at / size * size;
+        (start, size.min(self.difi.ivfc4.size - start))
+    }
+
+    fn clear_ready(&mut self, at: u64) -> Result<(), Bad> {
+        let block = at / block_size(&self.difi.ivfc4);
+        let above = parent_of(self.difi, 3, block);
+        let found = match self.found(3, above) {
+            Ok(found) => found,
+            Err(bad) => return Err(bad),
+        };
+        match found {
+            BlockState::Bad { level, block } => Err(Bad::Damaged {
+                part: self.part,
+                level,
+                block,
+            }),
+            _ => Ok(()),
+        }
+    }
+
+    fn clear(&mut self, at: u64) -> Result<(), Bad> {
+        match self.clear_ready(at) {
+            Ok(()) => self.clear_block(at),
+            Err(bad) => Err(bad),
+        }
     }
 }
 

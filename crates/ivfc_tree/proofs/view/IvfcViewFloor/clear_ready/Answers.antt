@@ -5,7 +5,7 @@ use Rattle.ivfc_tree.specs.KnownLaws.{true-remembers}
 use Rattle.ivfc_tree.specs.ViewLaws.{block_of_there, parent_there}
 use Rattle.ivfc_tree.specs.KeepLaws.{shown_can, shown_tree}
 use Rattle.ivfc_tree.proofs.ViewLemmas.{clearable, spoilt_above}
-use Rattle.ivfc_tree.proofs.view.IvfcView.clear_ready.Goals as goal
+use Rattle.ivfc_tree.proofs.view.IvfcViewFloor.clear_ready.Goals as goal
 
 pub block_size-requires : goal.block_size-requires
 block_size-requires g c =

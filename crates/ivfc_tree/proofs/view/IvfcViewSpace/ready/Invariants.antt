@@ -2,7 +2,7 @@ use Rattle.std.proofs.Common.{ℕ, ◌+◌, ◌-◌, ◌<◌, ◌≤◌, None, I
 use Rattle.save_bytes.specs.Cells.{IsUnspoilt}
 use Rattle.save_bytes.specs.Reads.{Reads}
 use Rattle.ivfc_tree.specs.Held.{shown, HashKeeps, hash_lands}
-use Rattle.ivfc_tree.proofs.view.IvfcView.ready.Given as goal
+use Rattle.ivfc_tree.proofs.view.IvfcViewSpace.ready.Given as goal
 
 abbrev pub invariant-loop-done : goal.invariant-loop-done
 invariant-loop-done g l = record {

@@ -9,7 +9,7 @@ use Rattle.save_bytes.proofs.CallLemmas.{Reads-join}
 use Rattle.ivfc_tree.specs.KeepLaws.{shown_tree}
 use Rattle.ivfc_tree.specs.ViewLaws.{place_inside}
 use Rattle.ivfc_tree.proofs.ViewLemmas.{run_inside, view_piece, hashed_read, Learns-refused, told_behind}
-use Rattle.ivfc_tree.proofs.view.IvfcView.piece.Goals as goal
+use Rattle.ivfc_tree.proofs.view.IvfcView.lend.Goals as goal
 
 pub overflow_add-place : goal.overflow_add-place
 overflow_add-place g c =

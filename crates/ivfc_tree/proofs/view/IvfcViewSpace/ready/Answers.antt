@@ -3,7 +3,7 @@ use Rattle.ivfc_tree.specs.Held.{shown, HashKeeps, hash_lands}
 use Rattle.ivfc_tree.specs.KeepLaws.{HashKeeps-join, shown_fits}
 use Rattle.save_bytes.proofs.CallLemmas.{Reads-join}
 use Rattle.ivfc_tree.proofs.ViewLemmas.{unspoilt_more}
-use Rattle.ivfc_tree.proofs.view.IvfcView.ready.Goals as goal
+use Rattle.ivfc_tree.proofs.view.IvfcViewSpace.ready.Goals as goal
 
 pub overflow_add-at : goal.overflow_add-at
 overflow_add-at g c =
