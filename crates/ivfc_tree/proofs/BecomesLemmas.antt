@@ -15,12 +15,15 @@ use Rattle.ivfc_tree.specs.Eases.{MarksOne, ZeroesBlock}
 use Rattle.ivfc_tree.proofs.ZeroLemmas.{own_stays, own_zero}
 use Rattle.ivfc_tree.proofs.NameLemmas.{state_marked, state_step, state_top}
 
--- what a block comes to once a blank one is zero and marked: the same; it is that one, and good; or it lies below that one,
+-- what a block comes to once a blank one is zero and marked: the same; it is that one, and good; or it lies below that
+-- one,
 -- and is blank by a block of the next level
 pub data Becomes (difi : Difi) (level block l c : ℕ) (old new : BlockState) : Type 0 where
   Remains : (same : new ≡ old) → Becomes difi level block l c old new
-  TurnsGood : (at : l ≡ level) (is : c ≡ block) (was : old ≡ BlankAt level block) (now : new ≡ Good) → Becomes difi level block l c old new
-  TurnsDeeper : (below : ℕ) (deep : level < l) (under : parent_of difi level below ≡ block) (was : old ≡ BlankAt level block)
+  TurnsGood : (at : l ≡ level) (is : c ≡ block) (was : old ≡ BlankAt level block) (now : new ≡ Good) → Becomes difi
+      level block l c old new
+  TurnsDeeper : (below : ℕ) (deep : level < l) (under : parent_of difi level below ≡ block)
+      (was : old ≡ BlankAt level block)
       (now : new ≡ BlankAt (suc level) below) → Becomes difi level block l c old new
 
 -- the block below, where what it is by itself is the same
@@ -33,7 +36,8 @@ step_below difi level block l c old new own_old own_new own apart (TurnsDeeper b
     TurnsDeeper below (omega (arith, deep)) under (rw was refl) (rw now refl)
 
 module _ (base : Shape) (difi : Difi) (master : List ℕ) (tree : HasTree base difi (length master)) (level block : ℕ)
-    (there : HasBlock difi level block) (one other : ℕ → Cell) (zeroed : ZeroesBlock base.size difi level block one other)
+    (there : HasBlock difi level block) (one other : ℕ → Cell) (zeroed : ZeroesBlock base.size difi level block one
+    other)
     (marked still : ℕ → ℕ → Bool) (marks : MarksOne level block marked still)
     (was : marked_state one master difi marked level block ≡ BlankAt level block) where
   abbrev pub before : ℕ → ℕ → BlockState
@@ -52,7 +56,8 @@ module _ (base : Shape) (difi : Difi) (master : List ℕ) (tree : HasTree base d
   block_before l c at is = subst (λ (n : ℕ). before n c ≡ BlankAt level block) (sym at)
       (subst (λ (b : ℕ). before level b ≡ BlankAt level block) (sym is) was)
 
-  free_step : (l c : ℕ) → HasBlock difi (suc l) c → (suc l ≡ level → c ≢ block) → marked (suc l) c ≡ false → still (suc l) c ≡ false
+  free_step : (l c : ℕ) → HasBlock difi (suc l) c → (suc l ≡ level → c ≢ block) → marked (suc l) c ≡ false → still
+      (suc l) c ≡ false
       → Becomes difi level block l (parent_of difi l c) (before l (parent_of difi l c)) (now l (parent_of difi l c))
       → Becomes difi level block (suc l) c (before (suc l) c) (now (suc l) c)
   free_step l c here apart free free_still above =
@@ -75,7 +80,8 @@ module _ (base : Shape) (difi : Difi) (master : List ℕ) (tree : HasTree base d
       let good = block_now l p same under in
       let blank = block_before l p same under in
       TurnsDeeper c (omega (arith, same)) parent (rw (step, blank) refl)
-      (rw (then_step, good) (subst (λ (n : ℕ). own_state other master difi (suc n) c ≡ BlankAt (suc level) c) (sym same) own))))
+      (rw (then_step, good) (subst (λ (n : ℕ). own_state other master difi (suc n) c ≡ BlankAt (suc level) c)
+      (sym same) own))))
       (λ (elsewhere : p ≢ block). below (λ _. elsewhere))
       (cases_eq p block))
       (λ (elsewhere : l ≢ level). below (λ at. absurd (elsewhere at)))
@@ -87,7 +93,8 @@ module _ (base : Shape) (difi : Difi) (master : List ℕ) (tree : HasTree base d
   becomes zero c here = Remains (rw (state_top one master difi marked c, state_top other master difi still c) refl)
   becomes (suc l) c here =
       let there_c = here (omega arith) in
-      let elsewhere : (suc l ≡ level → c ≢ block) → Becomes difi level block (suc l) c (before (suc l) c) (now (suc l) c) =
+      let elsewhere : (suc l ≡ level → c ≢ block) → Becomes difi level block (suc l) c (before (suc l) c)
+      (now (suc l) c) =
       λ apart.
       (let same = marks.others (suc l) c apart in
       ⊎_elim

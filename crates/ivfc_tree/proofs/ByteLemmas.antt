@@ -39,10 +39,12 @@ entry_block entry k log big small =
     ∙ ap (λ (n : ℕ). n / 2 ^ (log - 5)) (one ∙ sym other)
     ∙ div-div-eq-div-mul (32 * entry) 32 (2 ^ (log - 5)))
 
-module _ (base : Shape) (difi : Difi) (master : List ℕ) (tree : HasTree base difi (length master)) (one other : ℕ → Cell)
+module _ (base : Shape) (difi : Difi) (master : List ℕ) (tree : HasTree base difi (length master))
+    (one other : ℕ → Cell)
     (level block : ℕ) (there : HasBlock difi level block) where
   -- a block whose bytes and whose entry are as before comes to the same by itself
-  padded_kept : ((k : ℕ) → k < len_of difi level block → other (block_begin difi level block + k) ≡ one (block_begin difi level block + k))
+  padded_kept : ((k : ℕ) → k < len_of difi level block → other (block_begin difi level block + k) ≡ one
+      (block_begin difi level block + k))
       → padded_block other difi level block ≡ padded_block one difi level block
   padded_kept bytes =
       let placed = block_placed base difi level block tree.levels there in
@@ -52,7 +54,8 @@ module _ (base : Shape) (difi : Difi) (master : List ℕ) (tree : HasTree base d
       (bytes_in-same other one at at (len_of difi level block) bytes)
       ∙ sym (padded_block-is one difi level block placed.begins)
 
-module _ (base : Shape) (difi : Difi) (master : List ℕ) (tree : HasTree base difi (length master)) (one other : ℕ → Cell) where
+module _ (base : Shape) (difi : Difi) (master : List ℕ) (tree : HasTree base difi (length master))
+    (one other : ℕ → Cell) where
   -- the bytes of a block's entry, where that lies in a level, are as before
   abbrev pub EntryStays : ℕ → ℕ → Type 0
   EntryStays level block = (upper : ℕ) → 1 ≤ upper → level ≡ suc upper → (k : ℕ) → k < 32
@@ -75,7 +78,8 @@ module _ (base : Shape) (difi : Difi) (master : List ℕ) (tree : HasTree base d
       ∙ sym (hash_entry-below one master difi (suc (suc upper)) block (omega arith) inside)
 
   pub own_kept : (level block : ℕ) → HasBlock difi level block
-      → ((k : ℕ) → k < len_of difi level block → other (block_begin difi level block + k) ≡ one (block_begin difi level block + k))
+      → ((k : ℕ) → k < len_of difi level block → other (block_begin difi level block + k) ≡ one
+      (block_begin difi level block + k))
       → EntryStays level block → own_state other master difi level block ≡ own_state one master difi level block
   own_kept level block there bytes entry =
       rw (padded_kept base difi master tree one other level block there bytes, entry_kept level block there entry) refl

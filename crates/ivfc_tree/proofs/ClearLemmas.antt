@@ -1,5 +1,6 @@
 -- A block of level four that became zero below a path that was made ready.
-use Rattle.std.proofs.Common.{◌≡◌, ◌≢◌, ◌⊎◌, ℕ, suc, ◌+◌, ◌*◌, ◌/◌, ◌<◌, ◌≤◌, true, false, Result, Ok, Err, MatchResult, List, length, replicate, get_or, refl, sym, ◌∙◌}
+use Rattle.std.proofs.Common.{◌≡◌, ◌≢◌, ◌⊎◌, ℕ, suc, ◌+◌, ◌*◌, ◌/◌, ◌<◌, ◌≤◌, true, false, Result, Ok, Err, MatchResult}
+use Rattle.std.proofs.Common.{List, length, replicate, get_or, refl, sym, ◌∙◌}
 use Rattle.std.proofs.Common.{ap, subst, arith, inl, inr, ⊎_elim}
 use Rattle.std.proofs.lemmas.Bool.{cases_eq}
 use Rattle.std.proofs.lemmas.List.{get_or-replicate, length-replicate}
@@ -74,11 +75,14 @@ module _ (base : State) (difi : Difi) (master : List ℕ) (tree : HasTree base.s
   upper_stays : (level y : ℕ) → IsLevel level → level < 4 → y < (level_of difi level).size
       → new ((level_of difi level).at + y) ≡ mid ((level_of difi level).at + y)
   upper_stays level y here above inside =
-      level_byte base.shape difi master tree 4 block there mid new zeroed level y here inside (λ last. absurd (omega (arith, last, above)))
+      level_byte base.shape difi master tree 4 block there mid new zeroed level y here inside
+      (λ last. absurd (omega (arith, last, above)))
 
-  contents_stay : (x : ℕ) → x < difi.ivfc4.size → x / size ≢ block → new ((level_of difi 4).at + x) ≡ mid ((level_of difi 4).at + x)
+  contents_stay : (x : ℕ) → x < difi.ivfc4.size → x / size ≢ block → new ((level_of difi 4).at + x) ≡ mid
+      ((level_of difi 4).at + x)
   contents_stay x below apart =
-      level_byte base.shape difi master tree 4 block there mid new zeroed 4 x (omega arith, omega arith) (rw level4_size below)
+      level_byte base.shape difi master tree 4 block there mid new zeroed 4 x (omega arith, omega arith)
+      (rw level4_size below)
       (λ _. rw level4_log apart)
 
   free_stays : (x : ℕ) → x < difi.ivfc4.size → is_marked now 4 (x / size) ≡ false
@@ -93,23 +97,31 @@ module _ (base : State) (difi : Difi) (master : List ℕ) (tree : HasTree base.s
   grows : (level other : ℕ) → is_marked then_state level other ≡ true → is_marked now level other ≡ true
   grows = marks_grow 4 block (is_marked then_state) (is_marked now) one_marked
 
-  cleared_put : (part : ℕ) → HasPut (view_state base part master difi was) begin zeros (cell_of new part master difi now)
+  cleared_put : (part : ℕ) → HasPut (view_state base part master difi was) begin zeros
+      (cell_of new part master difi now)
   cleared_put part =
-      eased_put difi (view_state base part master difi was) begin zeros (marked_cell mid part master difi (is_marked then_state))
-      (marked_cell new part master difi (is_marked now)) refl (λ x. refl) (λ x. refl) fits ((path.prepares begin (length zeros) fits met).eases part)
+      eased_put difi (view_state base part master difi was) begin zeros
+      (marked_cell mid part master difi (is_marked then_state))
+      (marked_cell new part master difi (is_marked now)) refl (λ x. refl) (λ x. refl) fits
+      ((path.prepares begin (length zeros) fits met).eases part)
       (λ k less.
       (let below : begin + k < difi.ivfc4.size = omega (arith, less, fits) in
       let of = of_range (begin + k) (omega arith, omega (arith, less)) in
       let zero : ℕ = 0 in
-      let byte = block_byte base.shape difi master tree 4 block there mid new zeroed (begin + k) (rw level4_size below) (rw level4_log of) in
-      let value : get_or zeros k 0 ≡ 0 = get_or-replicate {A = ℕ} (contents_len difi block) k zero zero (omega (arith, less, long)) in
-      rw value (written_cell base.shape difi master tree mid new (is_marked then_state) (is_marked now) upper_stays free_stays upper_marks grows
+      let byte = block_byte base.shape difi master tree 4 block there mid new zeroed (begin + k)
+      (rw level4_size below) (rw level4_log of) in
+      let value : get_or zeros k 0 ≡ 0 = get_or-replicate {A = ℕ} (contents_len difi block) k zero zero
+      (omega (arith, less, long)) in
+      rw value (written_cell base.shape difi master tree mid new (is_marked then_state) (is_marked now) upper_stays
+      free_stays upper_marks grows
       part (begin + k) below 0 (rw of one_marked.here) byte)))
       (λ x below out.
       (let apart : x / size ≢ block = λ is. out (in_range x below is) in
-      kept_cell base.shape difi master tree mid new (is_marked then_state) (is_marked now) upper_stays free_stays upper_marks grows
+      kept_cell base.shape difi master tree mid new (is_marked then_state) (is_marked now) upper_stays free_stays
+      upper_marks grows
       part x below (λ is. sym (one_marked.others 4 (x / size) (λ _. apart)) ∙ is) (contents_stay x below apart)))
-      (λ x below (k, less, is) out. absurd (out (in_range x below (is ∙ of_range (begin + k) (omega arith, omega (arith, less))))))
+      (λ x below (k, less, is) out. absurd (out (in_range x below (is ∙ of_range (begin + k)
+      (omega arith, omega (arith, less))))))
 
   closed : HasMarkedParents difi now
   closed upper other some here is =
@@ -122,7 +134,8 @@ module _ (base : State) (difi : Difi) (master : List ℕ) (tree : HasTree base.s
       (λ (same : other ≡ block).
       (let three : upper ≡ 3 = omega (arith, last) in
       let up : parent_of difi 3 block ≡ block_above difi 4 block 3 =
-      ap (λ (b : ℕ). parent_of difi 3 b) (sym (block_above-here difi 3 block)) ∙ block_above-parent difi 4 block 3 (omega arith) (omega arith) in
+      ap (λ (b : ℕ). parent_of difi 3 b) (sym (block_above-here difi 3 block)) ∙ block_above-parent difi 4 block 3
+      (omega arith) (omega arith) in
       let marked = grows 3 (block_above difi 4 block 3) (path.marked 3 (omega arith) (omega arith)) in
       rw (three, same, up) marked))
       (λ (apart : other ≢ block). elsewhere (λ _. apart))
@@ -130,7 +143,8 @@ module _ (base : State) (difi : Difi) (master : List ℕ) (tree : HasTree base.s
       (λ (above : suc upper ≢ 4). elsewhere (λ last. absurd (above last)))
       (cases_eq (suc upper) 4)
 
-  put_or_same : (level other : ℕ) → (mark_at now level other ≡ mark_at then_state level other) ⊎ (mark_at now level other ≡ Put)
+  put_or_same : (level other : ℕ) → (mark_at now level other ≡ mark_at then_state level other)
+      ⊎ (mark_at now level other ≡ Put)
   put_or_same level other =
       ⊎_elim
       (λ (last : level ≡ 4).
@@ -148,12 +162,14 @@ module _ (base : State) (difi : Difi) (master : List ℕ) (tree : HasTree base.s
     put = cleared_put;
     remembers = remembers_after master difi mid new then_state now closed put_or_same
         (λ level other here free. StaysUnder-same level _ _
-        (state_kept base.shape difi master tree mid new (is_marked then_state) (is_marked now) upper_stays free_stays upper_marks grows
+        (state_kept base.shape difi master tree mid new (is_marked then_state) (is_marked now) upper_stays free_stays
+        upper_marks grows
         level other (λ _. here) (λ last. free))) path.remembers;
     origins = λ was_cells was_master came.
         CameFrom-more base.shape difi (length master) tree (is_marked then_state) was_cells mid was_master master
         ((path.prepares begin (length zeros) fits met).origins was_cells was_master came) (is_marked now) new master
-        (written_more base.shape difi master tree mid new (is_marked then_state) (is_marked now) upper_stays free_stays upper_marks grows);
+        (written_more base.shape difi master tree mid new (is_marked then_state) (is_marked now) upper_stays
+        free_stays upper_marks grows);
   }
 
 -- what the call that marks it leaves of the marks
@@ -167,4 +183,5 @@ marks_cleared difi block was then_state now (Ok done) marks before = record {
       (is ∙ sym (block_above-here difi 3 block) ∙ ap (λ (m : ℕ). block_above difi 4 block m) (sym last))))
       ∙ before.others level other here apart;
 }
-marks_cleared difi block was then_state now (Err bad) same before = subst (λ (s : IvfcState). MarksWithin (IsInPath difi block) was s) (sym same) before
+marks_cleared difi block was then_state now (Err bad) same before = subst
+    (λ (s : IvfcState). MarksWithin (IsInPath difi block) was s) (sym same) before

@@ -15,7 +15,8 @@ module _ (difi : Difi) (at n : ℕ) where
   EasesFrom-same cells x (Spoilt part level block) new same = same
 
   -- only a cell that was blank is blank
-  eased_blank : (cells : ℕ → Cell) (x : ℕ) (old new : Cell) → EasesFrom difi cells at n x old new → IsBlank new → IsBlank old
+  eased_blank : (cells : ℕ → Cell) (x : ℕ) (old new : Cell) → EasesFrom difi cells at n x old new → IsBlank new
+      → IsBlank old
   eased_blank cells x (Byte value) new eased blank = absurd (rw eased at blank)
   eased_blank cells x (Blank part level block) new eased blank = tt
   eased_blank cells x (Spoilt part level block) new eased blank = absurd (rw eased at blank)
@@ -26,8 +27,10 @@ module _ (difi : Difi) (at n : ℕ) where
     joined = λ x y in_x in_y blank e. sym (same x in_x) ∙ e ∙ same y in_y;
   }
 
-  module _ (fits : at + n ≤ difi.ivfc4.size) (old mid new : ℕ → Cell) (first : Eases difi at n old mid) (second : Eases difi at n mid new) where
-    shows_before : (x part level block : ℕ) → x < difi.ivfc4.size → old x ≡ Blank part level block → mid x ≡ Blank part level block
+  module _ (fits : at + n ≤ difi.ivfc4.size) (old mid new : ℕ → Cell) (first : Eases difi at n old mid)
+      (second : Eases difi at n mid new) where
+    shows_before : (x part level block : ℕ) → x < difi.ivfc4.size → old x ≡ Blank part level block → mid x ≡ Blank
+        part level block
         → ShowsBlank mid at n part level block → ShowsBlank old at n part level block
     shows_before x part level block below was is (k, within, there) =
         (k, within, first.joined (at + k) x (omega (arith, within, fits)) below (rw there tt) (there ∙ sym is) ∙ was)
@@ -55,10 +58,16 @@ module _ (difi : Difi) (at n : ℕ) where
               ⊎_elim
               (λ (stays : new x ≡ Blank part deeper.0 deeper.1). inr (deeper.0, deeper.1, deeper.2, stays))
               (λ (more : ShowsBlank mid at n part deeper.0 deeper.1
-              × ((MeetsBlock difi at n (x / block_size difi.ivfc4) × (new x ≡ Byte 0)) ⊎ IsDeeper part deeper.0 (new x))).
+              × ((MeetsBlock difi at n (x / block_size difi.ivfc4) × (new x ≡ Byte 0)) ⊎ IsDeeper part deeper.0
+              (new x))).
               ⊎_elim
               (λ (zero_byte : MeetsBlock difi at n (x / block_size difi.ivfc4) × (new x ≡ Byte 0)). inl zero_byte)
-              (λ (still : IsDeeper part deeper.0 (new x)). inr (still.0, still.1, omega (arith, deeper.2, still.2), still.3))
+              (λ (still : IsDeeper part deeper.0 (new x)). inr (
+                still.0,
+                still.1,
+                omega (arith, deeper.2, still.2),
+                still.3,
+              ))
               more.1)
               (subst (λ (c : Cell). EasesFrom difi mid at n x c (new x)) deeper.3 two))
               eased.1,
@@ -69,7 +78,8 @@ module _ (difi : Difi) (at n : ℕ) where
         → EasesFrom difi mid at n x (mid x) (new x) → EasesFrom difi old at n x cell (new x)
     join_each x below (Byte value) was one two = subst (λ (c : Cell). EasesFrom difi mid at n x c (new x)) one two
     join_each x below (Blank part level block) was one two = join_blank x part level block below was one two
-    join_each x below (Spoilt part level block) was one two = subst (λ (c : Cell). EasesFrom difi mid at n x c (new x)) one two
+    join_each x below (Spoilt part level block) was one two = subst (λ (c : Cell). EasesFrom difi mid at n x c
+        (new x)) one two
 
     -- cells that eased twice eased
     pub Eases-join : Eases difi at n old new

@@ -27,7 +27,8 @@ own_name : (cells : ℕ → Cell) (master : List ℕ) (difi : Difi) (level block
     → own_state cells master difi level block ≡ BlankAt upper at → (level ≡ upper) × (block ≡ at)
 own_name cells master difi level block upper at =
     let entry = hash_entry cells master difi level block in
-    judged_name level block upper at (bytes_eq entry zero_entry) (bytes_eq entry (sha256 (padded_block cells difi level block)))
+    judged_name level block upper at (bytes_eq entry zero_entry) (bytes_eq entry
+    (sha256 (padded_block cells difi level block)))
 
 after_blank : (above own : BlockState) (upper at : ℕ) → after above own ≡ BlankAt upper at
     → ((above ≡ Good) × (own ≡ BlankAt upper at)) ⊎ (above ≡ BlankAt upper at)
@@ -70,7 +71,8 @@ above_there base difi master_len tree (suc level) block upper there some within 
     (λ (higher : upper < suc level).
     (let parent = parent_there base difi master_len level block tree (omega (arith, some, higher)) there in
     rw (block_above-higher difi level block upper higher)
-    (above_there base difi master_len tree level (parent_of difi level block) upper parent.parent some (omega (arith, higher)))))
+    (above_there base difi master_len tree level (parent_of difi level block) upper parent.parent some
+    (omega (arith, higher)))))
     (λ (last : suc level ≤ upper).
     (let here : upper ≡ suc level = omega (arith, last, within) in
     rw (here, block_above-here difi level block) there))
@@ -85,7 +87,8 @@ module _ (cells : ℕ → Cell) (master : List ℕ) (difi : Difi) (marked : ℕ 
   state_marked level block is = rw is refl
 
   pub state_step : (level block : ℕ) → marked (suc level) block ≡ false
-      → state (suc level) block ≡ after (state level (parent_of difi level block)) (own_state cells master difi (suc level) block)
+      → state (suc level) block ≡ after (state level (parent_of difi level block))
+      (own_state cells master difi (suc level) block)
   unfolding marked_state
   state_step level block is = rw is refl
 
@@ -137,7 +140,8 @@ module _ (cells : ℕ → Cell) (master : List ℕ) (difi : Difi) (marked : ℕ 
       (cases_Bool (marked (suc level) block))
 
 -- a marked block is good, by its own level
-pub marked_here : (cells : ℕ → Cell) (master : List ℕ) (difi : Difi) (marked : ℕ → ℕ → Bool) (level block : ℕ) → 1 ≤ level
+pub marked_here : (cells : ℕ → Cell) (master : List ℕ) (difi : Difi) (marked : ℕ → ℕ → Bool) (level block : ℕ) → 1 ≤
+    level
     → marked level block ≡ true → marked_state cells master difi marked level block ≡ Good
 marked_here cells master difi marked zero block some is = absurd (omega (arith, some))
 marked_here cells master difi marked (suc level) block some is = state_marked cells master difi marked level block is
@@ -147,20 +151,24 @@ module _ (base : Shape) (difi : Difi) (master : List ℕ) (tree : HasTree base d
     (closed : (upper block : ℕ) → 1 ≤ upper → HasBlock difi (suc upper) block → marked (suc upper) block ≡ true
     → marked upper (parent_of difi upper block) ≡ true) where
   -- above a block whose path holds all paths do
-  above_good : (level block : ℕ) → 1 ≤ level → HasBlock difi (suc level) block → marked_state cells master difi marked (suc level) block ≡ Good
+  above_good : (level block : ℕ) → 1 ≤ level → HasBlock difi (suc level) block → marked_state cells master difi marked
+      (suc level) block ≡ Good
       → marked_state cells master difi marked level (parent_of difi level block) ≡ Good
   above_good zero block some there good = absurd (omega (arith, some))
   above_good (suc level) block some there good =
       ⊎_elim
       (λ (yes : marked (suc (suc level)) block ≡ true).
-      state_marked cells master difi marked level (parent_of difi (suc level) block) (closed (suc level) block some there yes))
+      state_marked cells master difi marked level (parent_of difi (suc level) block)
+      (closed (suc level) block some there yes))
       (λ (no : marked (suc (suc level)) block ≡ false).
       above_of_good _ (own_state cells master difi (suc (suc level)) block)
       (sym (state_step cells master difi marked (suc level) block no) ∙ good))
       (cases_Bool (marked (suc (suc level)) block))
 
-  pub path_good : (level block upper : ℕ) → HasBlock difi level block → marked_state cells master difi marked level block ≡ Good
-      → 1 ≤ upper → upper ≤ level → marked_state cells master difi marked upper (block_above difi level block upper) ≡ Good
+  pub path_good : (level block upper : ℕ) → HasBlock difi level block → marked_state cells master difi marked level
+      block ≡ Good
+      → 1 ≤ upper → upper ≤ level → marked_state cells master difi marked upper (block_above difi level block upper) ≡
+      Good
   path_good zero block upper there good some within = absurd (omega (arith, some, within))
   path_good (suc level) block upper there good some within =
       ⊎_elim

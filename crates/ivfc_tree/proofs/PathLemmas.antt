@@ -9,7 +9,8 @@ use Rattle.difi.specs.declared.descriptor.Difi.{Difi}
 use Rattle.ivfc_tree.specs.declared.path.BlockState.{BlockState}
 use Rattle.ivfc_tree.specs.declared.path.BlockState.TheVariants.{Good, Blank as BlankAt, Bad as BadAt}
 use Rattle.ivfc_tree.specs.Levels.{padded_block, hash_entry, zero_entry, parent_of}
-use Rattle.ivfc_tree.specs.Paths.{block_above, IsHashed, HasHashPath, FailsFirst, IsStateOf, own_state, after, marked_state}
+use Rattle.ivfc_tree.specs.Paths.{block_above, IsHashed, HasHashPath, FailsFirst, IsStateOf, own_state, after}
+use Rattle.ivfc_tree.specs.Paths.{marked_state}
 
 differ : (xs ys : List ℕ) → bytes_eq xs ys ≡ false → xs ≢ ys
 differ xs ys other same = both_ways (bytes_eq xs ys) other ((bytes_eq-Decides xs ys).1 same)

@@ -18,7 +18,8 @@ use Rattle.ivfc_tree.specs.Paths.{block_above, block_state, cell_in}
 use Rattle.ivfc_tree.specs.Known.{Remembers}
 use Rattle.ivfc_tree.specs.View.{HasTree}
 use Rattle.ivfc_tree.specs.Eases.{MeetsBlock, ShowsBlank, EasesFrom, marked_cell}
-use Rattle.ivfc_tree.specs.Readies.{IsUnspoiltPath, HasNoSpoilt, PathSites, RangeSites, IsInPath, IsInPaths, MarksWithin, ReadiesPath, ReadiesRange}
+use Rattle.ivfc_tree.specs.Readies.{IsUnspoiltPath, HasNoSpoilt, PathSites, RangeSites, IsInPath, IsInPaths}
+use Rattle.ivfc_tree.specs.Readies.{MarksWithin, ReadiesPath, ReadiesRange}
 use Rattle.ivfc_tree.proofs.ByteLemmas.{block_from}
 use Rattle.ivfc_tree.proofs.PathLemmas.{block_above-here}
 use Rattle.ivfc_tree.proofs.ReadyLemmas.{Prepares-join, prepares_same}
@@ -27,7 +28,8 @@ pub MarksWithin-same : (blocks : ℕ → ℕ → Type 0) (s : IvfcState) → Mar
 MarksWithin-same blocks s = record { many = λ level. refl; others = λ level block here apart. refl }
 
 -- marks behind marks, of some blocks and of more
-pub within_more : (few many : ℕ → ℕ → Type 0) (s t u : IvfcState) → ((level block : ℕ) → few level block → many level block)
+pub within_more : (few many : ℕ → ℕ → Type 0) (s t u : IvfcState) → ((level block : ℕ) → few level block → many level
+    block)
     → MarksWithin many s t → MarksWithin few t u → MarksWithin many s u
 within_more few many s t u wider h k = record {
   many = λ level. k.many level ∙ h.many level;
@@ -46,7 +48,8 @@ cell_unspoilt Good part value h = tt
 cell_unspoilt (BlankAt level block) part value h = tt
 cell_unspoilt (BadAt level block) part value h = absurd h
 
-eased_unspoilt : (difi : Difi) (cells : ℕ → Cell) (at n x : ℕ) (old new : Cell) → EasesFrom difi cells at n x old new → IsUnspoilt old
+eased_unspoilt : (difi : Difi) (cells : ℕ → Cell) (at n x : ℕ) (old new : Cell) → EasesFrom difi cells at n x old new
+    → IsUnspoilt old
     → IsUnspoilt new
 eased_unspoilt difi cells at n x (Byte value) new eased h = rw eased tt
 eased_unspoilt difi cells at n x (Blank part level block) new eased h =
@@ -87,7 +90,8 @@ module _ (base : Shape) (difi : Difi) (master : List ℕ) (tree : HasTree base d
     (fits : at + n ≤ difi.ivfc4.size) (one mid new : ℕ → Cell) (was then_state now : IvfcState) where
   pub range_start : Remembers one master difi was → ReadiesRange master difi at n 0 one was one was
   range_start known = record {
-    prepares = prepares_same base difi master tree at n one one (is_marked was) (is_marked was) (λ level block there. refl) (λ x below. refl)
+    prepares = prepares_same base difi master tree at n one one (is_marked was) (is_marked was)
+        (λ level block there. refl) (λ x below. refl)
         (λ level block is. is);
     remembers = known;
     marked = λ k none. absurd (omega (arith, none));
@@ -96,15 +100,18 @@ module _ (base : Shape) (difi : Difi) (master : List ℕ) (tree : HasTree base d
   module _ (done : ℕ) (less : done < n) (before : ReadiesRange master difi at n done one was mid then_state) where
     -- the next block of the range is not spoilt either
     pub next_unspoilt : HasNoSpoilt one master difi was at n
-        → IsUnspoiltPath (block_state mid master difi then_state 4 (block_above difi 4 ((at + done) / block_size difi.ivfc4) 4))
+        → IsUnspoiltPath (block_state mid master difi then_state 4 (block_above difi 4
+        ((at + done) / block_size difi.ivfc4) 4))
     next_unspoilt ready =
         let x = at + done in
         let block = x / block_size difi.ivfc4 in
         let below : x < difi.ivfc4.size = omega (arith, less, fits) in
         let eased = (before.prepares.eases 0).each x below in
         let cell = eased_unspoilt difi (marked_cell one 0 master difi (is_marked was)) at n x _ _ eased
-        (cell_unspoilt (block_state one master difi was 4 block) 0 (value_of (one ((level_of difi 4).at + x))) (ready done less)) in
-        rw block_above-here (path_unspoilt (block_state mid master difi then_state 4 block) 0 (value_of (mid ((level_of difi 4).at + x))) cell)
+        (cell_unspoilt (block_state one master difi was 4 block) 0 (value_of (one ((level_of difi 4).at + x)))
+        (ready done less)) in
+        rw block_above-here (path_unspoilt (block_state mid master difi then_state 4 block) 0
+        (value_of (mid ((level_of difi 4).at + x))) cell)
 
     pub range_more : (run : ℕ) → run ≤ block_size difi.ivfc4 - (at + done) % block_size difi.ivfc4
         → ReadiesPath master difi ((at + done) / block_size difi.ivfc4) 4 mid then_state new now
@@ -115,14 +122,16 @@ module _ (base : Shape) (difi : Difi) (master : List ℕ) (tree : HasTree base d
         let marked : is_marked now 4 ((at + done) / size) ≡ true =
         rw block_above-here at (path.marked 4 (omega arith) (omega arith)) in
         record {
-          prepares = Prepares-join master difi at n fits one mid new (is_marked was) (is_marked then_state) (is_marked now) before.prepares step;
+          prepares = Prepares-join master difi at n fits one mid new (is_marked was) (is_marked then_state)
+              (is_marked now) before.prepares step;
           remembers = path.remembers;
           marked = λ k within.
               ⊎_elim
               (λ (front : k < done). step.grows 4 ((at + k) / size) (before.marked k front))
               (λ (behind : done ≤ k).
               (let place : at + k ≡ at + done + (k - done) = omega (arith, behind) in
-              let same = same_block_on (at + done) (k - done) size (pow_pos difi.ivfc4.log) (omega (arith, behind, within, short)) in
+              let same = same_block_on (at + done) (k - done) size (pow_pos difi.ivfc4.log)
+              (omega (arith, behind, within, short)) in
               rw (place, same) marked))
               (cases_lt k done);
         }

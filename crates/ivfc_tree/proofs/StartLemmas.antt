@@ -34,11 +34,16 @@ block_above-above difi zero block mid upper low high =
 block_above-above difi (suc level) block mid upper low high =
     ⊎_elim
     (λ (higher : mid < suc level).
-    rw (block_above-higher difi level block mid higher, block_above-higher difi level block upper (omega (arith, low, higher)))
+    rw (
+      block_above-higher difi level block mid higher,
+      block_above-higher difi level block upper
+          (omega (arith, low, higher)),
+    )
     (block_above-above difi level (parent_of difi level block) mid upper low (omega (arith, higher))))
     (λ (last : suc level ≤ mid).
     (let here : mid ≡ suc level = omega (arith, last, high) in
-    subst (λ (m : ℕ). block_above difi m (block_above difi (suc level) block m) upper ≡ block_above difi (suc level) block upper) (sym here)
+    subst (λ (m : ℕ). block_above difi m (block_above difi (suc level) block m) upper ≡ block_above difi (suc level)
+    block upper) (sym here)
     (ap (λ (b : ℕ). block_above difi (suc level) b upper) (block_above-here difi level block))))
     (cases_lt mid (suc level))
 
@@ -57,11 +62,14 @@ module _ (base : Shape) (difi : Difi) (master : List ℕ) (tree : HasTree base d
       (let deep : 1 ≤ level = omega (arith, some, higher) in
       let p = parent_of difi level block in
       let parent = parent_there base difi (length master) level block tree deep there in
-      let above = blank_down level p upper l b parent.parent some (omega (arith, higher)) (rw (block_above-higher difi level block upper higher) at is) in
+      let above = blank_down level p upper l b parent.parent some (omega (arith, higher))
+      (rw (block_above-higher difi level block upper higher) at is) in
       ⊎_elim
       (λ (is_marked : marked (suc level) block ≡ true).
-      absurd (let good = marked_here cells master difi marked level p deep (closed level block deep there is_marked) in cc))
-      (λ (free : marked (suc level) block ≡ false). rw (state_step cells master difi marked level block free, above) refl)
+      absurd (let good = marked_here cells master difi marked level p deep
+      (closed level block deep there is_marked) in cc))
+      (λ (free : marked (suc level) block ≡ false). rw (state_step cells master difi marked level block free, above)
+      refl)
       (cases_Bool (marked (suc level) block))))
       (λ (last : suc level ≤ upper).
       (let here : upper ≡ suc level = omega (arith, last, within) in
@@ -82,7 +90,8 @@ module _ (base : Shape) (difi : Difi) (master : List ℕ) (tree : HasTree base d
     }
     good_start (BlankAt l b) is unspoilt behind =
         let found = blank_by cells master difi marked last (block_above difi 4 block last) l b is in
-        let name : b ≡ block_above difi 4 block l = found.there ∙ block_above-above difi 4 block last l found.within deepest in
+        let name : b ≡ block_above difi 4 block l = found.there ∙ block_above-above difi 4 block last l found.within
+        deepest in
         record {
           some = omega (arith, behind, found.some);
           good = λ level some below within.
@@ -106,15 +115,20 @@ module _ (base : Shape) (difi : Difi) (master : List ℕ) (tree : HasTree base d
     good_start (BadAt l b) is unspoilt behind = absurd unspoilt
 
 -- what a mark says stays true of a block that comes to the same
-agrees_after : (mark : BlockMark) (level block : ℕ) (old new : BlockState) → (is_put mark ≡ false → StaysUnder level old new)
+agrees_after : (mark : BlockMark) (level block : ℕ) (old new : BlockState)
+    → (is_put mark ≡ false → StaysUnder level old new)
     → Agrees mark level block old → Agrees mark level block new
 agrees_after Unknown level block old new stays agrees = tt
 agrees_after Put level block old new stays agrees = tt
-agrees_after KnownGood level block old new stays agrees = subst (λ (s : BlockState). StaysUnder level s new) agrees (stays refl)
-agrees_after KnownBlank level block old new stays agrees = subst (λ (s : BlockState). StaysUnder level s new) agrees (stays refl) refl
-agrees_after KnownBad level block old new stays agrees = subst (λ (s : BlockState). StaysUnder level s new) agrees (stays refl)
+agrees_after KnownGood level block old new stays agrees = subst (λ (s : BlockState). StaysUnder level s new) agrees
+    (stays refl)
+agrees_after KnownBlank level block old new stays agrees = subst (λ (s : BlockState). StaysUnder level s new) agrees
+    (stays refl) refl
+agrees_after KnownBad level block old new stays agrees = subst (λ (s : BlockState). StaysUnder level s new) agrees
+    (stays refl)
 
-pub remembers_after : (master : List ℕ) (difi : Difi) (old new : ℕ → Cell) (was now : IvfcState) → HasMarkedParents difi now
+pub remembers_after : (master : List ℕ) (difi : Difi) (old new : ℕ → Cell) (was now : IvfcState) → HasMarkedParents
+    difi now
     → ((level block : ℕ) → (mark_at now level block ≡ mark_at was level block) ⊎ (mark_at now level block ≡ Put))
     → ((level block : ℕ) → HasBlock difi level block → is_marked now level block ≡ false
     → StaysUnder level (block_state old master difi was level block) (block_state new master difi now level block))
@@ -125,7 +139,8 @@ remembers_after master difi old new was now closed marks stays before = record {
       ⊎_elim
       (λ (same : mark_at now level block ≡ mark_at was level block).
       subst (λ (m : BlockMark). Agrees m level block (block_state new master difi now level block)) (sym same)
-      (agrees_after (mark_at was level block) level block (block_state old master difi was level block) (block_state new master difi now level block)
+      (agrees_after (mark_at was level block) level block (block_state old master difi was level block)
+      (block_state new master difi now level block)
       (λ free. stays level block there (ap is_put same ∙ free)) (before.agrees level block there)))
       (λ (put : mark_at now level block ≡ Put).
       subst (λ (m : BlockMark). Agrees m level block (block_state new master difi now level block)) (sym put) tt)
@@ -135,25 +150,30 @@ remembers_after master difi old new was now closed marks stays before = record {
 -- the marks of a path that was made ready go up to the top
 pub path_closed : (difi : Difi) (block last : ℕ) (was now : IvfcState) → last ≤ 4 → PutsPath difi block last was now
     → ((level : ℕ) → 1 ≤ level → level ≤ last → is_marked now level (block_above difi 4 block level) ≡ true)
-    → HasMarkedParents difi was → ((level other : ℕ) → is_marked was level other ≡ true → is_marked now level other ≡ true)
+    → HasMarkedParents difi was → ((level other : ℕ) → is_marked was level other ≡ true → is_marked now level other ≡
+    true)
     → HasMarkedParents difi now
 path_closed difi block last was now deepest puts marked closed grows upper other some there is =
     ⊎_elim
     (λ (same : mark_at now (suc upper) other ≡ mark_at was (suc upper) other).
     grows upper (parent_of difi upper other) (closed upper other some there (sym (ap is_put same) ∙ is)))
-    (λ (put : (mark_at now (suc upper) other ≡ Put) × ((1 ≤ suc upper) × (suc upper ≤ 4)) × (suc upper ≤ last) × IsInPath difi block (suc upper) other).
+    (λ (put : (mark_at now (suc upper) other ≡ Put) × ((1 ≤ suc upper) × (suc upper ≤ 4)) × (suc upper ≤ last)
+    × IsInPath difi block (suc upper) other).
     (let up : parent_of difi upper other ≡ block_above difi 4 block upper =
-    ap (λ (n : ℕ). parent_of difi upper n) put.3 ∙ block_above-parent difi 4 block upper some (omega (arith, put.2, deepest)) in
+    ap (λ (n : ℕ). parent_of difi upper n) put.3 ∙ block_above-parent difi 4 block upper some
+    (omega (arith, put.2, deepest)) in
     rw up (marked upper some (omega (arith, put.2)))))
     (puts.each (suc upper) other)
 
 -- and no block is freed
-pub path_grows : (difi : Difi) (block last : ℕ) (was now : IvfcState) → PutsPath difi block last was now → (level other : ℕ)
+pub path_grows : (difi : Difi) (block last : ℕ) (was now : IvfcState) → PutsPath difi block last was now
+    → (level other : ℕ)
     → is_marked was level other ≡ true → is_marked now level other ≡ true
 path_grows difi block last was now puts level other is =
     ⊎_elim
     (λ (same : mark_at now level other ≡ mark_at was level other). ap is_put same ∙ is)
-    (λ (put : (mark_at now level other ≡ Put) × ((1 ≤ level) × (level ≤ 4)) × (level ≤ last) × IsInPath difi block level other). ap is_put put.0)
+    (λ (put : (mark_at now level other ≡ Put) × ((1 ≤ level) × (level ≤ 4)) × (level ≤ last) × IsInPath difi block
+    level other). ap is_put put.0)
     (puts.each level other)
 
 -- where the block of a place of level four begins, that meets the block alone
@@ -182,17 +202,21 @@ module _ (base : Shape) (difi : Difi) (master : List ℕ) (tree : HasTree base d
   path_ready known puts marked readied =
       let look : (at n : ℕ) → Prepares master difi at n old (is_marked was) mid (is_marked looked) =
       λ at n. prepares_same base difi master tree at n old mid (is_marked was) (is_marked looked)
-      (λ level other here. state-same base difi master tree mid old same (is_marked looked) (is_marked was) marks level other here) same
+      (λ level other here. state-same base difi master tree mid old same (is_marked looked) (is_marked was) marks
+      level other here) same
       (λ level other is. marks level other ∙ is) in
       let alone = met_alone difi block there in
       let one = readied (block * block_size difi.ivfc4) 1 alone.fits alone.met in
-      let closed = path_closed difi block last looked now deepest puts marked known.closed (path_grows difi block last looked now puts) in
+      let closed = path_closed difi block last looked now deepest puts marked known.closed
+      (path_grows difi block last looked now puts) in
       record {
-        prepares = λ at n fits met. Prepares-join master difi at n fits old mid new (is_marked was) (is_marked looked) (is_marked now)
+        prepares = λ at n fits met. Prepares-join master difi at n fits old mid new (is_marked was) (is_marked looked)
+            (is_marked now)
             (look at n) (readied at n fits met);
         remembers = remembers_after master difi mid new looked now closed
             (λ level other. ⊎_elim (λ (stays : mark_at now level other ≡ mark_at looked level other). inl stays)
-            (λ (put : (mark_at now level other ≡ Put) × IsLevel level × (level ≤ last) × IsInPath difi block level other). inr put.0)
+            (λ (put : (mark_at now level other ≡ Put) × IsLevel level × (level ≤ last) × IsInPath difi block level
+            other). inr put.0)
             (puts.each level other))
             one.stays known;
         marked = marked;

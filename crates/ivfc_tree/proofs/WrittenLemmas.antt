@@ -1,5 +1,6 @@
 -- Bytes of level four that were written where each block is marked.
-use Rattle.std.proofs.Common.{◌≡◌, ◌⊎◌, ℕ, zero, suc, ◌+◌, ◌-◌, ◌*◌, ◌/◌, ◌<◌, ◌≤◌, Bool, true, false, List, length, get_or}
+use Rattle.std.proofs.Common.{◌≡◌, ◌⊎◌, ℕ, zero, suc, ◌+◌, ◌-◌, ◌*◌, ◌/◌, ◌<◌, ◌≤◌, Bool, true, false, List, length}
+use Rattle.std.proofs.Common.{get_or}
 use Rattle.std.proofs.Common.{refl, sym, ◌∙◌, ap, subst, arith, inl, inr, ⊎_elim}
 use Rattle.std.proofs.lemmas.Bool.{cases_Bool, cases_lt}
 use Rattle.std.proofs.lemmas.Nat.{shl-shr}
@@ -20,7 +21,8 @@ use Rattle.ivfc_tree.proofs.LevelLemmas.{block_placed}
 use Rattle.ivfc_tree.proofs.ReadyLemmas.{not_before}
 use Rattle.ivfc_tree.proofs.NameLemmas.{state_marked, state_step, state_top}
 
-module _ (base : Shape) (difi : Difi) (master : List ℕ) (tree : HasTree base difi (length master)) (one other : ℕ → Cell)
+module _ (base : Shape) (difi : Difi) (master : List ℕ) (tree : HasTree base difi (length master))
+    (one other : ℕ → Cell)
     (marked still : ℕ → ℕ → Bool)
     (upper : (level y : ℕ) → IsLevel level → level < 4 → y < (level_of difi level).size
     → other ((level_of difi level).at + y) ≡ one ((level_of difi level).at + y))
@@ -29,18 +31,22 @@ module _ (base : Shape) (difi : Difi) (master : List ℕ) (tree : HasTree base d
     (marks : (level block : ℕ) → level < 4 → still level block ≡ marked level block)
     (grows : (level block : ℕ) → marked level block ≡ true → still level block ≡ true) where
   -- the bytes of an unmarked block, and of each entry
-  byte_kept : (level block y : ℕ) → HasBlock difi level block → still level block ≡ false → y < (level_of difi level).size
-      → y / block_size (level_of difi level) ≡ block → other ((level_of difi level).at + y) ≡ one ((level_of difi level).at + y)
+  byte_kept : (level block y : ℕ) → HasBlock difi level block → still level block ≡ false → y <
+      (level_of difi level).size
+      → y / block_size (level_of difi level) ≡ block → other ((level_of difi level).at + y) ≡ one
+      ((level_of difi level).at + y)
   byte_kept level block y there free inside of =
       ⊎_elim
       (λ (above : level < 4). upper level y there.in_tree above inside)
       (λ (last : 4 ≤ level).
       (let is : level ≡ 4 = omega (arith, last, there.in_tree.1) in
       let in_four : y < (level_of difi 4).size = subst (λ (m : ℕ). y < (level_of difi m).size) is inside in
-      let of_four : y / block_size (level_of difi 4) ≡ block = subst (λ (m : ℕ). y / block_size (level_of difi m) ≡ block) is of in
+      let of_four : y / block_size (level_of difi 4) ≡ block = subst (λ (m : ℕ). y / block_size (level_of difi m) ≡
+      block) is of in
       let free_four : still 4 block ≡ false = subst (λ (m : ℕ). still m block ≡ false) is free in
       subst (λ (m : ℕ). other ((level_of difi m).at + y) ≡ one ((level_of difi m).at + y)) (sym is)
-      (fourth y (rw level4_size at in_four) (subst (λ (b : ℕ). still 4 b ≡ false) (sym (rw level4_log at of_four)) free_four))))
+      (fourth y (rw level4_size at in_four) (subst (λ (b : ℕ). still 4 b ≡ false) (sym (rw level4_log at of_four))
+      free_four))))
       (cases_lt level 4)
 
   own_same_where : (level block : ℕ) → HasBlock difi level block → still level block ≡ false
@@ -54,19 +60,23 @@ module _ (base : Shape) (difi : Difi) (master : List ℕ) (tree : HasTree base d
       rw at (byte_kept level block (block * block_size place + k) there free (omega (arith, less, begins))
       (block_from (block * block_size place + k) block (block_size place) (omega arith) (omega (arith, less))))))
       (λ above some next k less.
-      (let parent = parent_there base difi (length master) above block tree some (subst (λ (n : ℕ). HasBlock difi n block) next there) in
-      upper above (32 * block + k) parent.parent.in_tree (omega (arith, next, there.in_tree.1)) (omega (arith, less, parent.inside))))
+      (let parent = parent_there base difi (length master) above block tree some
+      (subst (λ (n : ℕ). HasBlock difi n block) next there) in
+      upper above (32 * block + k) parent.parent.in_tree (omega (arith, next, there.in_tree.1))
+      (omega (arith, less, parent.inside))))
 
   -- each block above level four, and each that is not marked, comes to the same
   pub state_kept : (level block : ℕ) → (1 ≤ level → HasBlock difi level block) → (level ≡ 4 → still level block ≡ false)
       → marked_state other master difi still level block ≡ marked_state one master difi marked level block
-  state_kept zero block there free = state_top other master difi still block ∙ sym (state_top one master difi marked block)
+  state_kept zero block there free = state_top other master difi still block ∙ sym
+      (state_top one master difi marked block)
   state_kept (suc level) block there free =
       let here = there (omega arith) in
       ⊎_elim
       (λ (yes : still (suc level) block ≡ true).
       (let above : suc level < 4 = ⊎_elim (λ (less : suc level < 4). less)
-      (λ (last : 4 ≤ suc level). absurd (let free_here = free (omega (arith, last, here.in_tree.1)) in cc)) (cases_lt (suc level) 4) in
+      (λ (last : 4 ≤ suc level). absurd (let free_here = free (omega (arith, last, here.in_tree.1)) in cc))
+      (cases_lt (suc level) 4) in
       state_marked other master difi still level block yes
       ∙ sym (state_marked one master difi marked level block (sym (marks (suc level) block above) ∙ yes))))
       (λ (is_free : still (suc level) block ≡ false).
@@ -86,7 +96,13 @@ module _ (base : Shape) (difi : Difi) (master : List ℕ) (tree : HasTree base d
       (λ some. (parent_there base difi (length master) level block tree some here).parent)
       (λ last. absurd (omega (arith, last, here.in_tree.1))) in
       let own = own_same_where (suc level) block here is_free in
-      rw (state_step other master difi still level block is_free, state_step one master difi marked level block was_free, parent, own) refl))
+      rw (
+        state_step other master difi still level block is_free,
+        state_step one master difi marked level block
+            was_free,
+        parent,
+        own,
+      ) refl))
       (cases_Bool (still (suc level) block))
 
   -- no block that is not marked tells anything else
@@ -103,9 +119,14 @@ module _ (base : Shape) (difi : Difi) (master : List ℕ) (tree : HasTree base d
 
   module _ (part x : ℕ) (below : x < difi.ivfc4.size) where
     -- a byte that was written is one of the view, and any other cell stays where its block is not newly marked
-    pub written_cell : (value : ℕ) → still 4 (x / block_size difi.ivfc4) ≡ true → other ((level_of difi 4).at + x) ≡ Byte value
+    pub written_cell : (value : ℕ) → still 4 (x / block_size difi.ivfc4) ≡ true → other ((level_of difi 4).at + x) ≡
+        Byte value
         → marked_cell other part master difi still x ≡ Byte value
-    written_cell value is_marked is = rw (state_marked other master difi still 3 (x / block_size difi.ivfc4) is_marked, is) refl
+    written_cell value is_marked is = rw (
+      state_marked other master difi still 3 (x / block_size difi.ivfc4)
+          is_marked,
+      is,
+    ) refl
 
     pub kept_cell : (still 4 (x / block_size difi.ivfc4) ≡ true → marked 4 (x / block_size difi.ivfc4) ≡ true)
         → other ((level_of difi 4).at + x) ≡ one ((level_of difi 4).at + x)
@@ -114,13 +135,18 @@ module _ (base : Shape) (difi : Difi) (master : List ℕ) (tree : HasTree base d
         let block = x / block_size difi.ivfc4 in
         ⊎_elim
         (λ (yes : still 4 block ≡ true).
-        rw (state_marked other master difi still 3 block yes, state_marked one master difi marked 3 block (was yes), same) refl)
+        rw (
+          state_marked other master difi still 3 block yes,
+          state_marked one master difi marked 3 block (was yes),
+          same,
+        ) refl)
         (λ (free : still 4 block ≡ false).
         rw (state_kept 4 block (λ _. block_of_there difi x below) (λ _. free), same) refl)
         (cases_Bool (still 4 block))
 
 -- Bytes were put behind the blocks that were made ready for them: each other cell of these blocks was a byte by then.
-module _ (difi : Difi) (was : State) (at : ℕ) (bytes : List ℕ) (mid new : ℕ → Cell) (size : was.shape.size ≡ difi.ivfc4.size)
+module _ (difi : Difi) (was : State) (at : ℕ) (bytes : List ℕ) (mid new : ℕ → Cell)
+    (size : was.shape.size ≡ difi.ivfc4.size)
     (start : (x : ℕ) → was.shape.block_start x ≡ x / block_size difi.ivfc4 * block_size difi.ivfc4)
     (bottom : (x : ℕ) → was.bottom x ≡ x)
     (fits : at + length bytes ≤ difi.ivfc4.size) (eases : Eases difi at (length bytes) was.cells mid)
@@ -131,8 +157,10 @@ module _ (difi : Difi) (was : State) (at : ℕ) (bytes : List ℕ) (mid new : �
   -- a place that the range meets lies in a block that it meets
   meets : (x : ℕ) → IsMet was at (length bytes) x → MeetsBlock difi at (length bytes) (x / block_size difi.ivfc4)
   meets x (k, less, same) =
-      let blocks : x / block_size difi.ivfc4 * block_size difi.ivfc4 ≡ (at + k) / block_size difi.ivfc4 * block_size difi.ivfc4 =
-      sym (start x) ∙ sym (ap was.shape.block_start (bottom x)) ∙ same ∙ ap was.shape.block_start (bottom (at + k)) ∙ start (at + k) in (
+      let blocks : x / block_size difi.ivfc4 * block_size difi.ivfc4 ≡ (at + k) / block_size difi.ivfc4 * block_size
+      difi.ivfc4 =
+      sym (start x) ∙ sym (ap was.shape.block_start (bottom x)) ∙ same ∙ ap was.shape.block_start (bottom (at + k))
+      ∙ start (at + k) in (
         k,
         less,
         sym (shl-shr (x / block_size difi.ivfc4) difi.ivfc4.log) ∙ ap (λ (m : ℕ). m / block_size difi.ivfc4) blocks
@@ -143,11 +171,13 @@ module _ (difi : Difi) (was : State) (at : ℕ) (bytes : List ℕ) (mid new : �
   met x (k, less, same) = (
     k,
     less,
-    ap was.shape.block_start (bottom x) ∙ start x ∙ ap (λ (m : ℕ). m * block_size difi.ivfc4) same ∙ sym (start (at + k))
+    ap was.shape.block_start (bottom x) ∙ start x ∙ ap (λ (m : ℕ). m * block_size difi.ivfc4) same ∙ sym
+        (start (at + k))
         ∙ sym (ap was.shape.block_start (bottom (at + k))),
   )
 
-  blank_met : (x part level block : ℕ) (cell : Cell) → EasesFrom difi was.cells at (length bytes) x (Blank part level block) cell
+  blank_met : (x part level block : ℕ) (cell : Cell) → EasesFrom difi was.cells at (length bytes) x
+      (Blank part level block) cell
       → IsByte cell → cell ≡ Byte 0
   blank_met x part level block cell eased byte =
       ⊎_elim
@@ -160,7 +190,8 @@ module _ (difi : Difi) (was : State) (at : ℕ) (bytes : List ℕ) (mid new : �
       more.1)
       eased
 
-  blank_unmet : (x part level block : ℕ) (cell : Cell) → EasesFrom difi was.cells at (length bytes) x (Blank part level block) cell
+  blank_unmet : (x part level block : ℕ) (cell : Cell) → EasesFrom difi was.cells at (length bytes) x
+      (Blank part level block) cell
       → ¬ IsMet was at (length bytes) x
       → (cell ≡ Blank part level block) ⊎ (HasBlank was at (length bytes) part level block × IsDeeper part level cell)
   blank_unmet x part level block cell eased unmet =
@@ -169,7 +200,8 @@ module _ (difi : Difi) (was : State) (at : ℕ) (bytes : List ℕ) (mid new : �
       (λ (more : ShowsBlank was.cells at (length bytes) part level block
       × ((MeetsBlock difi at (length bytes) (x / block_size difi.ivfc4) × (cell ≡ Byte 0)) ⊎ IsDeeper part level cell)).
       ⊎_elim
-      (λ (zeros : MeetsBlock difi at (length bytes) (x / block_size difi.ivfc4) × (cell ≡ Byte 0)). absurd (unmet (met x zeros.0)))
+      (λ (zeros : MeetsBlock difi at (length bytes) (x / block_size difi.ivfc4) × (cell ≡ Byte 0)). absurd
+      (unmet (met x zeros.0)))
       (λ (deeper : IsDeeper part level cell). inr (more.0, deeper))
       more.1)
       eased

@@ -25,21 +25,24 @@ module _ (base : Shape) (difi : Difi) (master : List ℕ) (tree : HasTree base d
   -- a byte of a level that lies in the block lies in its level there
   within_block : (l y : ℕ) → IsLevel l → y < (level_of difi l).size
       → IsWithin (block_begin difi level block) (len_of difi level block) ((level_of difi l).at + y)
-      → (l ≡ level) × (block * block_size (level_of difi level) ≤ y) × (y < block * block_size (level_of difi level) + block_size (level_of difi level))
+      → (l ≡ level) × (block * block_size (level_of difi level) ≤ y) × (y < block * block_size (level_of difi level) +
+      block_size (level_of difi level))
   within_block l y here inside within =
       let place = level_of difi level in
       let begins = (block_placed base difi level block tree.levels there).begins in
       ⊎_elim
       (λ (same : l ≡ level).
       let in_level : IsWithin (block_begin difi level block) (len_of difi level block) (place.at + y) =
-      subst (λ (n : ℕ). IsWithin (block_begin difi level block) (len_of difi level block) ((level_of difi n).at + y)) same within in
+      subst (λ (n : ℕ). IsWithin (block_begin difi level block) (len_of difi level block) ((level_of difi n).at + y))
+      same within in
       (same, omega (arith, in_level.0), omega (arith, in_level.1)))
       (λ (other : l ≢ level).
       absurd (⊎_elim
       (λ (above : l < level). tree.levels.apart l level here.0 above there.in_tree.1 ((level_of difi l).at + y)
       (omega arith) (omega (arith, inside)) (omega (arith, within.0)) (omega (arith, within.1, begins)))
       (λ (behind : level ≤ l). tree.levels.apart level l there.in_tree.0 (omega (arith, behind, other)) here.1
-      ((level_of difi l).at + y) (omega (arith, within.0)) (omega (arith, within.1, begins)) (omega arith) (omega (arith, inside)))
+      ((level_of difi l).at + y) (omega (arith, within.0)) (omega (arith, within.1, begins)) (omega arith)
+      (omega (arith, inside)))
       (cases_lt l level)))
       (cases_eq l level)
 
@@ -57,7 +60,8 @@ module _ (base : Shape) (difi : Difi) (master : List ℕ) (tree : HasTree base d
   module _ (one other : ℕ → Cell) (zeroed : ZeroesBlock base.size difi level block one other) where
     -- any other byte of a level is as before
     pub level_byte : (l y : ℕ) → IsLevel l → y < (level_of difi l).size
-        → (l ≡ level → y / block_size (level_of difi l) ≢ block) → other ((level_of difi l).at + y) ≡ one ((level_of difi l).at + y)
+        → (l ≡ level → y / block_size (level_of difi l) ≢ block) → other ((level_of difi l).at + y) ≡ one
+        ((level_of difi l).at + y)
     level_byte l y here inside apart =
         zeroed.others ((level_of difi l).at + y) (omega (arith, inside, tree.levels.inside l here))
         (λ within.
@@ -72,7 +76,8 @@ module _ (base : Shape) (difi : Difi) (master : List ℕ) (tree : HasTree base d
         let found = of_block y inside is in
         ap other (sym found.2) ∙ zeroed.zeros found.0 found.1
 
-    pub own_stays : (l c : ℕ) → HasBlock difi l c → (l ≡ level → c ≢ block) → (l ≡ suc level → parent_of difi level c ≢ block)
+    pub own_stays : (l c : ℕ) → HasBlock difi l c → (l ≡ level → c ≢ block)
+        → (l ≡ suc level → parent_of difi level c ≢ block)
         → own_state other master difi l c ≡ own_state one master difi l c
     own_stays l c here apart unentered =
         let place = level_of difi l in
@@ -85,11 +90,13 @@ module _ (base : Shape) (difi : Difi) (master : List ℕ) (tree : HasTree base d
         rw at (level_byte l (c * block_size place + k) here.in_tree (omega (arith, less, begins))
         (λ same in_block. apart same (sym of ∙ in_block)))))
         (λ upper some next k less.
-        (let parent = parent_there base difi (length master) upper c tree some (subst (λ (n : ℕ). HasBlock difi n c) next here) in
+        (let parent = parent_there base difi (length master) upper c tree some
+        (subst (λ (n : ℕ). HasBlock difi n c) next here) in
         let log = (tree.levels.logs upper parent.parent.in_tree).0 in
         level_byte upper (32 * c + k) parent.parent.in_tree (omega (arith, less, parent.inside))
         (λ same in_block. unentered (next ∙ ap suc same)
-        (subst (λ (n : ℕ). parent_of difi n c ≡ block) same (sym (entry_block c k (level_of difi upper).log log less) ∙ in_block)))))
+        (subst (λ (n : ℕ). parent_of difi n c ≡ block) same (sym (entry_block c k (level_of difi upper).log log less)
+        ∙ in_block)))))
 
     -- a block whose entry lies in it was never written
     pub own_zero : (c : ℕ) → HasBlock difi (suc level) c → parent_of difi level c ≡ block
@@ -105,7 +112,8 @@ module _ (base : Shape) (difi : Difi) (master : List ℕ) (tree : HasTree base d
         (let small : k < 32 = omega (arith, less, length-replicate {A = ℕ} 32 0) in
         let at : place.at + 32 * c + k ≡ place.at + (32 * c + k) = omega arith in
         rw (at, get_or-replicate {A = ℕ} 32 k 0 0 small)
-        (block_byte (32 * c + k) (omega (arith, small, parent.inside)) (entry_block c k place.log log small ∙ under))) in
+        (block_byte (32 * c + k) (omega (arith, small, parent.inside))
+        (entry_block c k place.log log small ∙ under))) in
         let entry : hash_entry other master difi (suc level) c ≡ zero_entry =
         hash_entry-below other master difi (suc level) c (omega (arith, there.in_tree.0)) (rw above parent.inside)
         ∙ rw above (bytes_in-is other (place.at + 32 * c) zeros are) in

@@ -31,14 +31,17 @@ returns-in-Ok-clause-clears g c = λ told unspoilt.
     done_both (result_err c.zero_and_mark.result)
     (λ (zeroed : ZeroesBlock mid.shape.size c.args.difi.now 4 c.args.block mid.cells new.cells)
     (marks : MarksBlock 4 c.args.block c.prepare.new.state c.zero_and_mark.new.state).
-    clears_contents old c.args.difi.now c.args.master.now c.requires.tree c.args.block c.requires.there mid.cells new.cells c.args.state.now
+    clears_contents old c.args.difi.now c.args.master.now c.requires.tree c.args.block c.requires.there mid.cells
+    new.cells c.args.state.now
     c.prepare.new.state c.zero_and_mark.new.state path (rw size at zeroed) marks)
-    (c.zero_and_mark.ensures.zeroed (writes.space.told (and_parts _ _ told).0)) (done_of (MarksBlock 4 c.args.block c.prepare.new.state c.zero_and_mark.new.state)
+    (c.zero_and_mark.ensures.zeroed (writes.space.told (and_parts _ _ told).0))
+    (done_of (MarksBlock 4 c.args.block c.prepare.new.state c.zero_and_mark.new.state)
     (λ bad. c.zero_and_mark.new.state ≡ c.prepare.new.state) c.zero_and_mark.result c.zero_and_mark.ensures.marks)
 
 pub returns-in-Ok-clause-marks : goal.returns-in-Ok-clause-marks
 returns-in-Ok-clause-marks g c =
-    marks_cleared c.args.difi.now c.args.block c.args.state.now c.prepare.new.state c.zero_and_mark.new.state c.zero_and_mark.result
+    marks_cleared c.args.difi.now c.args.block c.args.state.now c.prepare.new.state c.zero_and_mark.new.state
+    c.zero_and_mark.result
     c.zero_and_mark.ensures.marks c.in-Ok.ensures.marks
 
 pub returns-in-Ok-clause-writes : goal.returns-in-Ok-clause-writes
@@ -50,9 +53,12 @@ returns-in-Ok-clause-writes g c =
     let here = block_above-here difi 3 block in
     let there = subst (λ (b : ℕ). HasBlock difi 4 b) (sym here) c.requires.there in
     let sites = block_sites (space.state c.args.base.now).shape difi block 4 c.requires.tree.levels there in
-    Writes-join space.state space.keeps space.lands g.met.S.Space.keeps_join (PathSites difi block) c.args.base.now c.prepare.new.base
+    Writes-join space.state space.keeps space.lands g.met.S.Space.keeps_join (PathSites difi block) c.args.base.now
+    c.prepare.new.base
     c.zero_and_mark.new.base refusal c.in-Ok.ensures.writes
-    (Writes-wider space.state space.keeps space.lands (IsWithin (block_begin difi 4 block) (len_of difi 4 block)) (PathSites difi block)
+    (Writes-wider space.state space.keeps space.lands (IsWithin (block_begin difi 4 block) (len_of difi 4 block))
+    (PathSites difi block)
     c.prepare.new.base c.zero_and_mark.new.base refusal
     (λ told x below site. sites x
-    (subst (λ (b : ℕ). IsWithin (block_begin difi 4 b) (len_of difi 4 b) x) (sym here) site)) c.zero_and_mark.ensures.writes)
+    (subst (λ (b : ℕ). IsWithin (block_begin difi 4 b) (len_of difi 4 b) x) (sym here) site))
+    c.zero_and_mark.ensures.writes)

@@ -16,7 +16,8 @@ record IsUp (difi : Difi) (block upper : ℕ) (above : ℕ) : Type 0 where
   is : parent_of difi upper above ≡ block_above difi 4 block upper
   there : HasBlock difi upper (parent_of difi upper above)
 
-up : (base : Shape) (difi : Difi) (master_len block upper below above : ℕ) → HasTree base difi master_len → 1 ≤ upper → below ≡ suc upper
+up : (base : Shape) (difi : Difi) (master_len block upper below above : ℕ) → HasTree base difi master_len → 1 ≤ upper
+    → below ≡ suc upper
     → below ≤ 4 → above ≡ block_above difi 4 block below → HasBlock difi below above → IsUp difi block upper above
 up base difi master_len block upper below above tree some next deep is there =
     let here = subst (λ (n : ℕ). HasBlock difi n above) next there in
@@ -43,7 +44,8 @@ loop-upper-preserved c =
     let upper : ℕ = c.loop-upper.upper - 1 in
     let tree = c.requires.tree in
     let step = up tree.0 c.args.difi.now tree.1 c.args.block upper c.loop-upper.upper c.loop-upper.above tree.2
-    (omega (arith, c.requires.level.0, c.loop-upper-test.true)) (omega (arith, c.loop-upper-test.true)) before.high before.is before.there in
+    (omega (arith, c.requires.level.0, c.loop-upper-test.true)) (omega (arith, c.loop-upper-test.true)) before.high
+    before.is before.there in
     record {
       low = omega (arith, c.loop-upper-test.true);
       high = omega (arith, before.high);

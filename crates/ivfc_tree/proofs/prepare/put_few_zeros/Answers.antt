@@ -12,7 +12,8 @@ returns-clause-zeros g c = λ told.
     let piece = take-replicate {X = ℕ} n 512 0 c.requires.few in
     IfDone-map (result_err c.put_bytes.result)
     (λ (are : AreBytesAt cells c.args.at (take n (replicate 512 0))). λ k less.
-    (let zeros : AreBytesAt cells c.args.at (replicate n 0) = subst (λ (l : List ℕ). AreBytesAt cells c.args.at l) piece are in
+    (let zeros : AreBytesAt cells c.args.at (replicate n 0) = subst (λ (l : List ℕ). AreBytesAt cells c.args.at l)
+    piece are in
     let zero : ℕ = 0 in
     subst (λ (v : ℕ). cells (c.args.at + k) ≡ Byte v) (get_or-replicate {A = ℕ} n k zero zero less)
     (zeros k (omega (arith, less, length-replicate {A = ℕ} n zero)))))

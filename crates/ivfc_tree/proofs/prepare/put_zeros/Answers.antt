@@ -19,10 +19,12 @@ loop-done-preserved g c =
       within = fits;
       zeros = λ told.
           (let now_told = before.writes.space.told told in
-          zeros_more (space.state c.loop-done.base).cells (space.state c.put_few_zeros.new.base).cells old.shape.size c.args.at done part
+          zeros_more (space.state c.loop-done.base).cells (space.state c.put_few_zeros.new.base).cells old.shape.size
+          c.args.at done part
           c.args.n c.requires.writable.inside.inside fits (before.zeros told)
           (λ x below out. step.writes.others now_told x (omega (arith, below, size)) out) (step.zeros now_told));
       writes = writes_both space.state space.keeps space.lands g.met.S.Space.keeps_join (IsWithin c.args.at c.args.n)
-          (IsWithin (c.args.at + done) part) (IsWithin c.args.at c.args.n) c.args.base.now c.loop-done.base c.put_few_zeros.new.base None
+          (IsWithin (c.args.at + done) part) (IsWithin c.args.at c.args.n) c.args.base.now c.loop-done.base
+          c.put_few_zeros.new.base None
           (λ x there. there) (within_part c.args.at c.args.n done part fits) before.writes step.writes;
     }

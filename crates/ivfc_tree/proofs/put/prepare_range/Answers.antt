@@ -6,7 +6,8 @@ use Rattle.ivfc_tree.specs.ViewLaws.{level4_size, level4_log, block_of_there}
 use Rattle.ivfc_tree.specs.KnownLaws.{true-remembers, remembers-true}
 use Rattle.ivfc_tree.specs.Readies.{PathSites, RangeSites, IsInPath, IsInPaths}
 use Rattle.ivfc_tree.proofs.LearnLemmas.{made_later}
-use Rattle.ivfc_tree.proofs.RangeLemmas.{MarksWithin-same, within_more, path_sites, path_blocks, range_start, next_unspoilt, range_more}
+use Rattle.ivfc_tree.proofs.RangeLemmas.{MarksWithin-same, within_more, path_sites, path_blocks, range_start}
+use Rattle.ivfc_tree.proofs.RangeLemmas.{next_unspoilt, range_more}
 use Rattle.ivfc_tree.proofs.put.prepare_range.Goals as goal
 
 pub block_size-size-requires : goal.block_size-size-requires
@@ -20,11 +21,13 @@ loop-done-init g c =
     record {
       within = omega arith;
       readied = λ told ready.
-          range_start base.shape c.args.difi.now c.args.master.now c.requires.tree c.args.at c.args.n c.requires.inside base.cells base.cells base.cells
+          range_start base.shape c.args.difi.now c.args.master.now c.requires.tree c.args.at c.args.n
+          c.requires.inside base.cells base.cells base.cells
           c.args.state.now c.args.state.now c.args.state.now
           (true-remembers base.cells c.args.master.now c.args.difi.now c.args.state.now (and_parts _ _ told).1);
       marks = MarksWithin-same (IsInPaths c.args.difi.now c.args.at c.args.n) c.args.state.now;
-      writes = Writes-read space.state space.keeps space.lands (RangeSites c.args.difi.now c.args.at c.args.n) c.args.base.now c.args.base.now
+      writes = Writes-read space.state space.keeps space.lands (RangeSites c.args.difi.now c.args.at c.args.n)
+          c.args.base.now c.args.base.now
           None
           (g.met.S.Space.keeps_hold c.args.base.now c.args.base.now) tt
           (Reads-same space.state space.keeps space.lands g.met.S.Space.keeps_same c.args.base.now);
@@ -38,21 +41,25 @@ overflow_add-place g c =
     omega (arith, c.loop-done-test.true, c.requires.inside, level4_size difi, inside, c.requires.tree.levels.small)
 
 pub prepare-requires-clause-made : goal.prepare-requires-clause-made
-prepare-requires-clause-made g c = made_later c.args.difi.now c.args.state.now c.loop-done.state c.loop-done.invariant.marks.many c.requires.made
+prepare-requires-clause-made g c = made_later c.args.difi.now c.args.state.now c.loop-done.state
+    c.loop-done.invariant.marks.many c.requires.made
 
 pub prepare-requires-clause-there : goal.prepare-requires-clause-there
 prepare-requires-clause-there g c =
     rw c.block_size-size.ensures
-    (block_of_there c.args.difi.now (c.args.at + c.loop-done.done) (omega (arith, c.loop-done-test.true, c.requires.inside)))
+    (block_of_there c.args.difi.now (c.args.at + c.loop-done.done) (omega
+    (arith, c.loop-done-test.true, c.requires.inside)))
 
 pub returns-in-Err-clause-marks : goal.returns-in-Err-clause-marks
 returns-in-Err-clause-marks g c =
     let difi = c.args.difi.now in
     let size = c.block_size-size.result in
     let is = ap (λ (m : ℕ). (c.args.at + c.loop-done.done) / m) c.block_size-size.ensures in
-    within_more (IsInPath difi ((c.args.at + c.loop-done.done) / size)) (IsInPaths difi c.args.at c.args.n) c.args.state.now c.loop-done.state
+    within_more (IsInPath difi ((c.args.at + c.loop-done.done) / size)) (IsInPaths difi c.args.at c.args.n)
+    c.args.state.now c.loop-done.state
     c.prepare.new.state
-    (path_blocks difi c.args.at c.args.n c.loop-done.done ((c.args.at + c.loop-done.done) / size) c.loop-done-test.true is)
+    (path_blocks difi c.args.at c.args.n c.loop-done.done ((c.args.at + c.loop-done.done) / size)
+    c.loop-done-test.true is)
     c.loop-done.invariant.marks c.in-Err.ensures.marks
 
 pub returns-in-Err-clause-writes : goal.returns-in-Err-clause-writes
@@ -63,9 +70,11 @@ returns-in-Err-clause-writes g c =
     let block = (c.args.at + c.loop-done.done) / size in
     let is = ap (λ (m : ℕ). (c.args.at + c.loop-done.done) / m) c.block_size-size.ensures in
     let sites = path_sites difi c.args.at c.args.n c.loop-done.done block c.loop-done-test.true is in
-    Writes-join space.state space.keeps space.lands g.met.S.Space.keeps_join (RangeSites difi c.args.at c.args.n) c.args.base.now
+    Writes-join space.state space.keeps space.lands g.met.S.Space.keeps_join (RangeSites difi c.args.at c.args.n)
+    c.args.base.now
     c.loop-done.base c.prepare.new.base (Some c.in-Err.bad) c.loop-done.invariant.writes
-    (Writes-wider space.state space.keeps space.lands (PathSites difi block) (RangeSites difi c.args.at c.args.n) c.loop-done.base
+    (Writes-wider space.state space.keeps space.lands (PathSites difi block) (RangeSites difi c.args.at c.args.n)
+    c.loop-done.base
     c.prepare.new.base (Some c.in-Err.bad) (λ told x below site. sites x site) c.in-Err.ensures.writes)
 
 pub loop-done-preserved : goal.loop-done-preserved
@@ -92,16 +101,21 @@ loop-done-preserved g c =
           (let range = before.readied told ready in
           let known = remembers-true mid.cells master difi c.loop-done.state range.remembers in
           let mid_told = and_from _ _ (before.writes.space.told (and_parts _ _ told).0) known in
-          let unspoilt = next_unspoilt old.shape difi master c.requires.tree at n c.requires.inside old.cells mid.cells new.cells
+          let unspoilt = next_unspoilt old.shape difi master c.requires.tree at n c.requires.inside old.cells
+          mid.cells new.cells
           c.args.state.now c.loop-done.state c.prepare.new.state done less range ready in
           let path = rw is at (c.in-Ok.ensures.readied mid_told) in
           range_more old.shape difi master c.requires.tree at n c.requires.inside old.cells mid.cells new.cells
           c.args.state.now c.loop-done.state c.prepare.new.state done less range run (omega (arith, short))
           (path unspoilt));
-      marks = within_more (IsInPath difi block) (IsInPaths difi at n) c.args.state.now c.loop-done.state c.prepare.new.state
+      marks = within_more (IsInPath difi block) (IsInPaths difi at n) c.args.state.now c.loop-done.state
+          c.prepare.new.state
           (path_blocks difi at n done block less is) before.marks c.in-Ok.ensures.marks;
-      writes = Writes-join space.state space.keeps space.lands g.met.S.Space.keeps_join (RangeSites difi at n) c.args.base.now
+      writes = Writes-join space.state space.keeps space.lands g.met.S.Space.keeps_join (RangeSites difi at n)
+          c.args.base.now
           c.loop-done.base c.prepare.new.base None before.writes
-          (Writes-wider space.state space.keeps space.lands (PathSites difi block) (RangeSites difi at n) c.loop-done.base
-          c.prepare.new.base None (λ told x below site. path_sites difi at n done block less is x site) c.in-Ok.ensures.writes);
+          (Writes-wider space.state space.keeps space.lands (PathSites difi block) (RangeSites difi at n)
+          c.loop-done.base
+          c.prepare.new.base None (λ told x below site. path_sites difi at n done block less is x site)
+          c.in-Ok.ensures.writes);
     }

@@ -9,7 +9,8 @@ invariant-loop-done g l = record {
   within : l.done ≤ l.n;
   readied : IsTrue (is_told (g.S.Space.state l.fn.base) l.master l.difi l.fn.state)
       → HasNoSpoilt (g.S.Space.state l.fn.base).cells l.master l.difi l.fn.state l.at l.n
-      → ReadiesRange l.master l.difi l.at l.n l.done (g.S.Space.state l.fn.base).cells l.fn.state (g.S.Space.state l.base).cells l.state;
+      → ReadiesRange l.master l.difi l.at l.n l.done (g.S.Space.state l.fn.base).cells l.fn.state
+      (g.S.Space.state l.base).cells l.state;
   marks : MarksWithin (IsInPaths l.difi l.at l.n) l.fn.state l.state;
   writes : Writes g.S.Space.state g.S.Space.keeps g.S.Space.lands (RangeSites l.difi l.at l.n) l.fn.base l.base None;
 }

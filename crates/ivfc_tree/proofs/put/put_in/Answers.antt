@@ -23,7 +23,8 @@ put_bytes-requires-clause-writable g c =
     let old = g.S.Space.state c.args.base.now in
     let n = length c.args.bytes.now in
     rw c.level_of.ensures
-    (subst (λ (shape : Shape). IsWritable shape ((level_of c.args.difi.now 4).at + c.args.at) n) (sym c.in-Ok.ensures.writes.space.shape)
+    (subst (λ (shape : Shape). IsWritable shape ((level_of c.args.difi.now 4).at + c.args.at) n)
+    (sym c.in-Ok.ensures.writes.space.shape)
     (range_writable old.shape c.args.difi.now (length c.args.master.now) c.args.at n c.requires.tree c.requires.inside))
 
 pub returns-in-Ok-clause-puts : goal.returns-in-Ok-clause-puts
@@ -41,8 +42,10 @@ returns-in-Ok-clause-puts g c = λ told ready.
     let place = ap (λ (level : LevelPlace). level.at) c.level_of.ensures in
     let range = c.in-Ok.ensures.readied told ready in
     IfDone-both (result_err c.put_bytes.result)
-    (λ are others. puts_contents old difi c.args.master.now c.requires.tree at bytes c.requires.inside mid.cells new.cells c.args.state.now
-    c.prepare_range.new.state range (rw place at are) (λ x below out. others x (omega (arith, below, size)) (rw place out)))
+    (λ are others. puts_contents old difi c.args.master.now c.requires.tree at bytes c.requires.inside mid.cells
+    new.cells c.args.state.now
+    c.prepare_range.new.state range (rw place at are) (λ x below out. others x (omega (arith, below, size))
+    (rw place out)))
     (c.put_bytes.ensures.bytes mid_told) (c.put_bytes.ensures.writes.others mid_told)
 
 pub returns-in-Ok-clause-writes : goal.returns-in-Ok-clause-writes
@@ -53,7 +56,10 @@ returns-in-Ok-clause-writes g c =
     let n = length c.args.bytes.now in
     let place = ap (λ (level : LevelPlace). level.at) c.level_of.ensures in
     let refusal = result_err c.put_bytes.result in
-    Writes-join space.state space.keeps space.lands g.met.S.Space.keeps_join (RangeSites difi at n) c.args.base.now c.prepare_range.new.base
+    Writes-join space.state space.keeps space.lands g.met.S.Space.keeps_join (RangeSites difi at n) c.args.base.now
+    c.prepare_range.new.base
     c.put_bytes.new.base refusal c.in-Ok.ensures.writes
-    (Writes-wider space.state space.keeps space.lands (IsWithin (c.level_of.result.at + at) n) (RangeSites difi at n) c.prepare_range.new.base
-    c.put_bytes.new.base refusal (λ told x below site. range_sites difi at n c.requires.inside x (rw place at site)) c.put_bytes.ensures.writes)
+    (Writes-wider space.state space.keeps space.lands (IsWithin (c.level_of.result.at + at) n) (RangeSites difi at n)
+    c.prepare_range.new.base
+    c.put_bytes.new.base refusal (λ told x below site. range_sites difi at n c.requires.inside x (rw place at site))
+    c.put_bytes.ensures.writes)
