@@ -20,6 +20,7 @@ pub mod StepLemmas
 pub mod LearnLemmas
 pub mod ViewLemmas
 pub mod PutViewLemmas
+pub mod CameLemmas
 pub mod MarkLemmas
 pub mod EntryLemmas
 pub mod SealLemmas

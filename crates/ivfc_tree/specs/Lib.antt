@@ -15,3 +15,4 @@ pub mod Seals
 pub mod Origins
 pub mod Settles
 pub mod SealViews
+pub mod PutViews

@@ -9,6 +9,7 @@ ghost use Rattle.save_bytes.specs.Reads.{Reads};
 ghost use Rattle.difi.specs.Contents.{view_size};
 ghost use Rattle.difi.specs.Sound.{HasBlockSizes, HasHashLevels};
 ghost use Rattle.ivfc_tree.specs.Levels.{HasBlock};
+ghost use Rattle.ivfc_tree.specs.Marks.{SameMarks};
 ghost use Rattle.ivfc_tree.specs.View.{CanViewHashes, IsVerified, view_state};
 ghost use Rattle.ivfc_tree.specs.Held.{shown, HashKeeps, hash_lands};
 
@@ -22,7 +23,7 @@ use std::process::Abort;
 use std::test::Fail;
 
 /// The number of the part that each view is made for.
-const PART: u8 = 3;
+pub(crate) const PART: u8 = 3;
 
 /// A range of bytes, and the place of the digest of the block that they are.
 type Hashed = (usize, usize, usize);
@@ -43,7 +44,7 @@ const WIDE: [Hashed; 9] = [
 /// Blocks of 512 bytes, and two or more of them at each level. The last block of level four has 5 bytes, and of each
 /// other level one entry.
 #[tactic(auto, unfolding(crate::specs::Levels::level_of))]
-fn wide_tree() -> Difi
+pub(crate) fn wide_tree() -> Difi
     ensures logs { HasBlockSizes result }
     ensures levels { HasHashLevels result }
     ensures size { view_size result ≡ 2250000 }
@@ -143,7 +144,7 @@ fn master_of(base: &[u8]) -> [u8; 32]
 
 /// Hashes three blocks of the wide tree's level four, 0, 4,095 and 4,096, and those above them up to the master hash;
 /// or only these from one of them on.
-fn hash_wide(rt: &impl Abort, base: &mut [u8], master: &mut [u8; 64], first: usize)
+pub(crate) fn hash_wide(rt: &impl Abort, base: &mut [u8], master: &mut [u8; 64], first: usize)
     requires base { length base.old ≡ 2250000 }
     requires first { first ≤ 9 }
     ensures { length base.new ≡ 2250000 }
@@ -156,7 +157,7 @@ fn hash_wide(rt: &impl Abort, base: &mut [u8], master: &mut [u8; 64], first: usi
 }
 
 /// The base of the wide tree, with zeros for its levels 1 to 3.
-fn wide_base(alloc: Global) -> Result<Vec<u8>, AllocError>
+pub(crate) fn wide_base(alloc: Global) -> Result<Vec<u8>, AllocError>
     ensures { IfOk result (λ base. vec_len base ≡ 2250000) }
 {
     let mut base = patterned(alloc, 2_250_000)?;
@@ -344,7 +345,7 @@ fn good_in<S: Space>(
     ensures verified { IsVerified (view_state (S.state base.old) PART master.old difi.now state.old) at most result }
     ensures reads { Reads S.state S.keeps S.lands base.old base.new (result_err result) }
     ensures master { master.new ≡ master.old }
-    ensures state { state.new ≡ state.old }
+    ensures marks { SameMarks state.old state.new }
 {
     let mut view = IvfcView::new(base, PART, difi, master, state);
     view.verify(at, most)
@@ -440,7 +441,7 @@ fn fault_at(
 }
 
 /// What names a level and a block.
-fn damaged((level, block): (u8, u64)) -> Bad {
+pub(crate) fn damaged((level, block): (u8, u64)) -> Bad {
     Bad::Damaged {
         part: PART,
         level,
@@ -473,7 +474,7 @@ fn fill_range(rt: &impl Abort, base: &mut [u8], at: usize, size: usize, byte: u8
 }
 
 /// Turns the lowest bit of the byte at each place, and back where it is called again.
-fn flip(rt: &impl Abort, bytes: &mut [u8], places: &[usize])
+pub(crate) fn flip(rt: &impl Abort, bytes: &mut [u8], places: &[usize])
     ensures { length bytes.new ≡ length bytes.old }
 {
     for &place in places {

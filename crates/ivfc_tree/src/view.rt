@@ -4,10 +4,11 @@ ghost use Rattle.std.specs.Prelude.{refl, ◌≡◌, ℕ, ◌/◌, ◌<◌, ◌�
 ghost use Rattle.std.specs.Borrow.{sem};
 ghost use Rattle.std.specs.Io.BufRead.{Rests};
 ghost use Rattle.std.specs.Result.{result_err};
-ghost use Rattle.save_bytes.specs.State.{IsInside};
+ghost use Rattle.save_bytes.specs.State.{IsInside, IsWritable, CanPut};
 ghost use Rattle.save_bytes.specs.Refusals.{NeverDamaged};
 ghost use Rattle.save_bytes.specs.Answers.{IsPiece, IsReady, IsClearReady};
 ghost use Rattle.save_bytes.specs.Cells.{IsClearable};
+ghost use Rattle.ivfc_tree.specs.PutViews.{KeepsOrigins};
 ghost use Rattle.ivfc_tree.specs.FloorLaws.{view_ground, view_blocks, view_alike};
 ghost use Rattle.save_bytes.specs.Stays.{SameSpace};
 ghost use Rattle.save_bytes.specs.Puts.{Puts};
@@ -128,6 +129,7 @@ impl<'a, S: Space> IvfcView<'a, S> {
         ensures space { SameSpace ⊥ (shown S.state self.old) (shown S.state self.new) (result_err result) }
         ensures puts { let block = (shown S.state self.old).shape in IsClearable ((shown S.state self.old).cells at)
             → Puts (shown S.state self.old) (block.block_start at) (replicate (block.block_len at) 0) (shown S.state self.new) (result_err result) }
+        ensures came { IsClearable ((shown S.state self.old).cells at) → KeepsOrigins S.state self.old self.new (result_err result) }
         ensures moves { let block = (shown S.state self.old).shape in
             MovesOnly (HashKeeps S.keeps) (hash_lands S.lands) (shown S.state self.old) self.old (block.block_start at) (block.block_len at) self.new (result_err result) }
     {
@@ -168,6 +170,7 @@ impl<'a, S: Space> IvfcView<'a, S> {
         ensures space { SameSpace ⊥ (shown S.state self.old) (shown S.state self.new) (result_err result) }
         ensures puts { AreUnspoilt (shown S.state self.old) at (length bytes.now)
             → Puts (shown S.state self.old) at bytes.now (shown S.state self.new) (result_err result) }
+        ensures came { AreUnspoilt (shown S.state self.old) at (length bytes.now) → KeepsOrigins S.state self.old self.new (result_err result) }
         ensures moves { MovesOnly (HashKeeps S.keeps) (hash_lands S.lands) (shown S.state self.old) self.old at (length bytes.now)
             self.new (result_err result) }
     {
@@ -276,7 +279,17 @@ impl<S: Space> Space for IvfcView<'_, S> {
         Ok(())
     }
 
-    fn put(&mut self, at: u64, bytes: &[u8]) -> Result<(), Bad> {
+    /// Beside what each space promises: a tree that the view's came from as the transaction began is one that it comes from.
+    fn put(&mut self, at: u64, bytes: &[u8]) -> Result<(), Bad>
+        requires { IsWritable (shown S.state self.old).shape at (length bytes.now) }
+        ensures ready { CanPut (shown S.state self.old) at (length bytes.now)
+            → IsReady (shown S.state self.old) at (length bytes.now) (result_err result) }
+        ensures plain { IsTrue (shown S.state self.old).shape.plain → NeverDamaged (result_err result) }
+        ensures puts { Puts (shown S.state self.old) at bytes.now (shown S.state self.new) (result_err result) }
+        ensures moves { MovesOnly (HashKeeps S.keeps) (hash_lands S.lands) (shown S.state self.old) self.old at (length bytes.now)
+            self.new (result_err result) }
+        ensures came { KeepsOrigins S.state self.old self.new (result_err result) }
+    {
         match self.ready(at, bytes.len() as u64) {
             Ok(()) => self.put_ready(at, bytes),
             Err(bad) => Err(bad),
@@ -315,7 +328,17 @@ impl<S: Space> Floor for IvfcView<'_, S> {
         }
     }
 
-    fn clear(&mut self, at: u64) -> Result<(), Bad> {
+    /// Beside what each floor promises: a tree that the view's came from as the transaction began is one that it comes from.
+    fn clear(&mut self, at: u64) -> Result<(), Bad>
+        requires { IsInside (shown S.state self.old).shape at 1 }
+        ensures ready { IsClearReady (shown S.state self.old) at (result_err result) }
+        ensures puts { let block = (shown S.state self.old).shape in
+            Puts (shown S.state self.old) (block.block_start at) (replicate (block.block_len at) 0) (shown S.state self.new) (result_err result) }
+        ensures moves { let block = (shown S.state self.old).shape in
+            MovesOnly (HashKeeps S.keeps) (hash_lands S.lands) (shown S.state self.old) self.old (block.block_start at) (block.block_len at)
+            self.new (result_err result) }
+        ensures came { KeepsOrigins S.state self.old self.new (result_err result) }
+    {
         match self.clear_ready(at) {
             Ok(()) => self.clear_block(at),
             Err(bad) => Err(bad),

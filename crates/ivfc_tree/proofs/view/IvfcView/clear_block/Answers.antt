@@ -12,6 +12,7 @@ use Rattle.ivfc_tree.specs.KeepLaws.{shown_can, shown_tree}
 use Rattle.ivfc_tree.specs.Readies.{PathSites, RangeSites}
 use Rattle.save_bytes.proofs.WriteLemmas.{Writes-wider}
 use Rattle.ivfc_tree.proofs.PutViewLemmas.{clear_path, marks_in_range, sites_in_range, put_space_alone, put_moves, put_puts}
+use Rattle.ivfc_tree.proofs.CameLemmas.{came_put}
 use Rattle.ivfc_tree.proofs.view.IvfcView.clear_block.Goals as goal
 
 pub block_size-requires : goal.block_size-requires
@@ -67,6 +68,9 @@ returns g c =
       space = put_space_alone space.state space.keeps space.lands view _ refusal hold refl (block * size) n marks writes;
       puts = λ clearable. put_puts space.state space.keeps space.lands view _ refusal hold refl (block * size) n marks writes
           (replicate n 0) (length-replicate n 0)
+          (λ told. did.clears told (clear_path cells view.master.now difi view.state.now block view.part _
+          (true-remembers cells view.master.now difi view.state.now (and_parts _ _ told).1).closed there clearable));
+      came = λ clearable. came_put space.state space.keeps space.lands view _ hold refl refusal did.writes.plain (block * size) (replicate n 0)
           (λ told. did.clears told (clear_path cells view.master.now difi view.state.now block view.part _
           (true-remembers cells view.master.now difi view.state.now (and_parts _ _ told).1).closed there clearable));
       moves = put_moves space.state space.keeps space.lands view _ refusal hold refl (block * size) n marks writes tree;

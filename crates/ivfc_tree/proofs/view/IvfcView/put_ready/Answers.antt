@@ -3,6 +3,7 @@ use Rattle.std.specs.Result.{result_err}
 use Rattle.ivfc_tree.specs.Held.{SameHold}
 use Rattle.ivfc_tree.specs.KeepLaws.{shown_can, shown_tree}
 use Rattle.ivfc_tree.proofs.PutViewLemmas.{no_spoilt, put_space_alone, put_moves, put_puts}
+use Rattle.ivfc_tree.proofs.CameLemmas.{came_put}
 use Rattle.ivfc_tree.proofs.view.IvfcView.put_ready.Goals as goal
 
 pub put_in-requires-clause-tree : goal.put_in-requires-clause-tree
@@ -40,6 +41,9 @@ returns g c =
       space = put_space_alone space.state space.keeps space.lands view _ refusal hold refl c.args.at (length bytes) did.marks did.writes;
       puts = λ unspoilt. put_puts space.state space.keeps space.lands view _ refusal hold refl c.args.at (length bytes) did.marks did.writes
           bytes refl
+          (λ told. did.puts told (no_spoilt (space.state view.base.now) view.part view.master.now view.difi.now view.state.now
+          c.args.at (length bytes) unspoilt));
+      came = λ unspoilt. came_put space.state space.keeps space.lands view _ hold refl refusal did.writes.plain c.args.at bytes
           (λ told. did.puts told (no_spoilt (space.state view.base.now) view.part view.master.now view.difi.now view.state.now
           c.args.at (length bytes) unspoilt));
       moves = put_moves space.state space.keeps space.lands view _ refusal hold refl c.args.at (length bytes) did.marks did.writes tree;

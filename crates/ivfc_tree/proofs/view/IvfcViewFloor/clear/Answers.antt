@@ -1,4 +1,4 @@
-use Rattle.std.proofs.Common.{◌*◌, ◌/◌, ◌-◌, min, replicate, subst, arith}
+use Rattle.std.proofs.Common.{None, Some, ◌*◌, ◌/◌, ◌-◌, min, replicate, subst, arith}
 use Rattle.std.proofs.lemmas.List.{length-replicate}
 use Rattle.std.proofs.Math.Nat.{div-mul-le_self}
 use Rattle.std.specs.Result.{result_err}
@@ -9,7 +9,8 @@ use Rattle.save_bytes.specs.Puts.{Puts}
 use Rattle.save_bytes.specs.Spots.{MovesOnly}
 use Rattle.save_bytes.proofs.JoinLemmas.{MovesOnly-after}
 use Rattle.ivfc_tree.specs.Held.{shown, HashKeeps, hash_lands}
-use Rattle.ivfc_tree.specs.KeepLaws.{HashKeeps-join, HashKeeps-hold}
+use Rattle.ivfc_tree.specs.KeepLaws.{HashKeeps-join, HashKeeps-hold, shown_tree}
+use Rattle.ivfc_tree.proofs.CameLemmas.{came_read, came_then}
 use Rattle.ivfc_tree.proofs.PutViewLemmas.{inside_after, clearable_after, Puts-behind}
 use Rattle.ivfc_tree.proofs.view.IvfcViewFloor.clear.Goals as goal
 
@@ -55,3 +56,24 @@ returns-in-Ok-clause-moves g c =
     (HashKeeps-hold space.keeps g.met.S.Space.keeps_hold c.args.self.now c.clear_ready.new.self)
     (omega (arith, c.requires.inside, div-mul-le_self c.args.at size)) c.in-Ok.ensures.reads
     (subst Moved c.in-Ok.ensures.reads.stays.space.shape c.clear_block.ensures.moves)
+
+pub returns-in-Ok-clause-came : goal.returns-in-Ok-clause-came
+returns-in-Ok-clause-came g c told =
+    let space = g.S.Space in
+    let states = shown space.state in
+    let view = c.args.self.now in
+    let ready = c.in-Ok.ensures in
+    let read = came_read space.state space.keeps space.lands view c.clear_ready.new.self
+    (shown_tree space.state g.met.S.Space.size_fits view c.requires.sound) g.met.S.Space.keeps_cells None ready.reads in
+    let cleared = c.clear_block.ensures.came (clearable_after (states view) (states c.clear_ready.new.self) c.args.at
+    (omega (arith, c.requires.inside)) ready.ready ready.reads.stays told) in
+    came_then space.state view c.clear_ready.new.self c.clear_block.new.self (result_err c.clear_block.result)
+    ready.reads.stays.space.told read cleared told
+
+pub returns-in-Err-clause-came : goal.returns-in-Err-clause-came
+returns-in-Err-clause-came g c =
+    let space = g.S.Space in
+    let view = c.args.self.now in
+    came_read space.state space.keeps space.lands view c.clear_ready.new.self
+    (shown_tree space.state g.met.S.Space.size_fits view c.requires.sound) g.met.S.Space.keeps_cells (Some c.in-Err.bad)
+    c.in-Err.ensures.reads
