@@ -4,6 +4,7 @@ use Rattle.std.proofs.Common.{length, map, get_or, refl, sym, ◌∙◌, ap, sub
 use Rattle.std.proofs.lemmas.Bool.{cases_eq}
 use Rattle.std.proofs.lemmas.Nat.{div-mul-add}
 use Rattle.std.proofs.Math.ListN.{get_or-map}
+use Rattle.std.proofs.lemmas.List.{length-map}
 use Rattle.save_bytes.specs.Cells.{Cell}
 use Rattle.save_bytes.specs.State.{Shape}
 use Rattle.difi.specs.declared.descriptor.Difi.{Difi}
@@ -13,13 +14,14 @@ use Rattle.ivfc_tree.specs.declared.path.BlockState.{BlockState}
 use Rattle.ivfc_tree.specs.declared.path.BlockState.TheVariants.{Good}
 use Rattle.ivfc_tree.specs.declared.state.IvfcState.{IvfcState}
 use Rattle.ivfc_tree.specs.Levels.{IsLevel, level_of, HasBlock, parent_of}
-use Rattle.ivfc_tree.specs.Marks.{mark_in, mark_at, level_marks, is_put, is_marked}
+use Rattle.ivfc_tree.specs.Marks.{mark_in, mark_at, level_marks, is_put, is_marked, IsMadeFor}
 use Rattle.ivfc_tree.specs.Paths.{own_state, path_state, block_state}
 use Rattle.ivfc_tree.specs.View.{HasTree}
 use Rattle.ivfc_tree.specs.ViewLaws.{parent_there, level4_size, level4_log}
 use Rattle.ivfc_tree.specs.Known.{Agrees}
 use Rattle.ivfc_tree.specs.Origins.{InMarkedContents, IsBack}
 use Rattle.ivfc_tree.specs.Settles.{settled, dropped, TurnsMarks, SettlesHashed, RemembersOrigin}
+use Rattle.ivfc_tree.proofs.LearnLemmas.{made_later}
 use Rattle.ivfc_tree.proofs.StepLemmas.{step-marked}
 use Rattle.ivfc_tree.proofs.EntryLemmas.{IsInBlock, apart_levels, entry_inside, block_inside, entry_stays}
 use Rattle.ivfc_tree.proofs.EntryLemmas.{block_stays, ChangesAt-same}
@@ -110,6 +112,13 @@ module _ (turn : BlockMark → BlockMark) (nothing : turn Unknown ≡ Unknown) (
   unfolding mark_in
   turned_mark level block = rw (turns.marks level) (ap (λ (d : BlockMark). get_or (map turn (level_marks
       old.marks level)) block d) (sym nothing) ∙ get_or-map turn (level_marks old.marks level) block Unknown)
+
+-- as many of them
+pub turned_made : (turn : BlockMark → BlockMark) (old new : IvfcState) → TurnsMarks turn old new → (difi : Difi)
+    → IsMadeFor difi old → IsMadeFor difi new
+turned_made turn old new turns difi =
+    made_later difi old new
+    (λ level. ap (λ (l : List BlockMark). length l) (turns.marks level) ∙ length-map (level_marks old.marks level) turn)
 
 settled_unput : (mark : BlockMark) → is_put (settled mark) ≡ false
 settled_unput Unknown = refl

@@ -109,6 +109,7 @@ impl IvfcState {
     /// hashes, and known to be so. No cell of a view changes where these hashes hold.
     pub fn settle(&mut self)
         ensures turned { TurnsMarks settled self.old self.new }
+        ensures made { (difi : Difi) → IsMadeFor difi self.old → IsMadeFor difi self.new }
         ensures unmarked { HasNoMarks self.new }
         ensures settles { SettlesHashed self.old self.new }
     {
@@ -119,6 +120,7 @@ impl IvfcState {
     /// What is still remembered is true of the base as it was before them, whatever is now in those of level four.
     pub fn drop_changes(&mut self)
         ensures turned { TurnsMarks dropped self.old self.new }
+        ensures made { (difi : Difi) → IsMadeFor difi self.old → IsMadeFor difi self.new }
         ensures unmarked { HasNoMarks self.new }
         ensures paths { (cells : ℕ → Cell) (master : List ℕ) (difi : Difi) (level block : ℕ)
             → IsStateOf cells master difi level block (block_state cells master difi self.new level block) }

@@ -2,7 +2,8 @@ use Rattle.std.proofs.Common.{refl}
 use Rattle.ivfc_tree.specs.declared.state.IvfcState.{IvfcState}
 use Rattle.ivfc_tree.specs.Marks.{is_marked}
 use Rattle.ivfc_tree.proofs.PathLemmas.{state_is}
-use Rattle.ivfc_tree.proofs.SettleLemmas.{dropped_unmarked, remembers_origin}
+use Rattle.ivfc_tree.specs.Settles.{dropped}
+use Rattle.ivfc_tree.proofs.SettleLemmas.{turned_made, dropped_unmarked, remembers_origin}
 use Rattle.ivfc_tree.proofs.state.IvfcState.drop_changes.Goals as goal
 
 pub returns-clause-unmarked : goal.returns-clause-unmarked
@@ -18,4 +19,9 @@ returns-clause-paths c = λ cells master difi.
 pub returns-clause-remembers : goal.returns-clause-remembers
 returns-clause-remembers c =
     remembers_origin c.args.self.now (record c.args.self.now { marks = c.end.new.self })
+    (record { marks = c.end.ensures; hashed = refl })
+
+pub returns-clause-made : goal.returns-clause-made
+returns-clause-made c =
+    turned_made dropped c.args.self.now (record c.args.self.now { marks = c.end.new.self })
     (record { marks = c.end.ensures; hashed = refl })
