@@ -18,4 +18,6 @@ pub use state::IvfcState;
 pub use view::{IvfcView, Status};
 
 #[cfg(test)]
+mod seal_tests;
+#[cfg(test)]
 mod tests;

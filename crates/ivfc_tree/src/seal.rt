@@ -93,8 +93,8 @@ fn seal_marked<S: Space>(
     seal_block(base, difi, master, level, block)
 }
 
-// How many blocks a level has.
-fn blocks_in(difi: &Difi, level: u8) -> u64
+/// How many blocks a level has.
+pub(crate) fn blocks_in(difi: &Difi, level: u8) -> u64
     requires { (level_of difi.now level).log ≤ 16 }
     ensures { result ≡ blocks_of (level_of difi.now level) }
 {

@@ -177,7 +177,7 @@ fn clear(base: &mut [u8], start: usize, end: usize)
 
 /// One block of 512 bytes at each level, level four's of 5 bytes.
 #[tactic(auto, unfolding(crate::specs::Levels::level_of))]
-fn small_tree() -> Difi
+pub(crate) fn small_tree() -> Difi
     ensures logs { HasBlockSizes result }
     ensures levels { HasHashLevels result }
     ensures size { view_size result ≡ 101 }
@@ -196,7 +196,7 @@ fn small_tree() -> Difi
 }
 
 /// The base of the small tree, with digests that Python's hashlib made.
-fn small_base() -> [u8; 101] {
+pub(crate) fn small_base() -> [u8; 101] {
     let mut base = [0; 101];
     base[..32].copy_from_slice(
         b"\xba\xa5\x74\xf3\x83\x99\xb2\x83\x6d\x05\x02\x40\xb2\x0f\x96\xf1\x94\x81\xba\x3c\xcb\x70\x59\xc9\x29\x94\xbe\x03\x5b\x4d\x4a\xc4",
@@ -212,7 +212,7 @@ fn small_base() -> [u8; 101] {
 }
 
 /// The master hash of the small tree, by hashlib too.
-const SMALL_MASTER: [u8; 32] =
+pub(crate) const SMALL_MASTER: [u8; 32] =
     *b"\xbb\x06\x07\x79\xa3\x44\x7c\x4f\xfe\x39\x2a\x5d\x15\x7e\x42\x1e\x6d\xa5\x0b\x04\x2b\x88\x85\xd0\xef\xe6\x26\x16\xce\x8b\xe8\x4f";
 
 /// Blocks of 65,536 bytes, two at level four and one at each other level.
@@ -322,7 +322,7 @@ fn raise(bytes: &mut [u8], at: usize)
     bytes[at] = bytes[at].wrapping_add(1);
 }
 
-fn range<'b>(bytes: &'b &mut [u8], start: usize, end: usize) -> &'b [u8]
+pub(crate) fn range<'b>(bytes: &'b &mut [u8], start: usize, end: usize) -> &'b [u8]
     requires order { start ≤ end }
     requires inside { end ≤ length bytes.now.now }
     ensures { length result.now ≡ end - start }
@@ -424,7 +424,7 @@ fn lent(
 }
 
 /// Why the byte at a place is not lent.
-fn fault_at(
+pub(crate) fn fault_at(
     alloc: Global,
     difi: &Difi,
     base: &mut [u8],
@@ -450,7 +450,11 @@ pub(crate) fn damaged((level, block): (u8, u64)) -> Bad {
 }
 
 /// The status of the last block of each level of the wide tree, of which each lies above the next.
-fn last_statuses(alloc: Global, base: &mut [u8], master: &mut [u8]) -> Result<[Status; 4], Fail>
+pub(crate) fn last_statuses(
+    alloc: Global,
+    base: &mut [u8],
+    master: &mut [u8],
+) -> Result<[Status; 4], Fail>
     requires base { length base.old ≡ 2250000 }
     requires master { length master.old ≡ 64 }
 {
