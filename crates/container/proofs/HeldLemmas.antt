@@ -1,18 +1,17 @@
 -- A store over its image and disk.
-use Rattle.std.proofs.Common.{◌≡◌, ◌^◌, ◌+◌, ◌<◌, ◌≤◌, List, length, Option, Some, None, Ok, Err, IsTrue, ℕ, refl, sym, ◌∙◌, ap, subst, arith}
+use Rattle.std.proofs.Common.{◌≡◌, ◌^◌, ◌+◌, ◌<◌, List, length, Option, Some, None, Ok, Err, IsTrue, ℕ, refl, sym}
+use Rattle.std.proofs.Common.{◌∙◌, ap, subst, arith}
 use Rattle.std.specs.Borrow.{Bor}
 use Rattle.save_bytes.specs.declared.space.Bad.{Bad}
 use Rattle.save_bytes.specs.declared.space.Bad.TheVariants.{Disk}
 use Rattle.save_bytes.specs.Cells.{Byte}
-use Rattle.save_bytes.specs.Refusals.{Rose}
 use Rattle.save_bytes.specs.Answers.{IsPiece}
-use Rattle.save_bytes.specs.State.{State}
+use Rattle.save_bytes.specs.State.{Shape, State}
 use Rattle.save_bytes.specs.Spots.{Spot, Place, Sector, Mark, Frame, LandsAsBefore}
 use Rattle.save_bytes.specs.Stays.{SameCells, Stays}
 use Rattle.save_bytes.specs.Reads.{Reads}
 use Rattle.save_bytes.proofs.SpaceLemmas.{UnlessDisk-map, Stays-join}
 use Rattle.save_disk.specs.State as disks
-use Rattle.save_disk.specs.Tells.{tells}
 use Rattle.page_image.specs.declared.state.ImageState.{ImageState}
 use Rattle.page_image.specs.Images.{IsDiskOf, IsHeldPiece, image_state}
 use Rattle.page_image.specs.Laws.{image_size_fits, Leaves-join}
@@ -21,17 +20,21 @@ use Rattle.page_image.specs.Spots.{Leaves, ImageLands, LeavesTold}
 use Rattle.page_image.specs.Held.{ImageKeeps}
 use Rattle.page_image.specs.Held.{shown as shown_image}
 use Rattle.page_image.proofs.DiskLemmas.{disk_of-true}
-use Rattle.page_image.proofs.PieceLemmas.{image_piece, brought_stays, failed_stays, asked}
+use Rattle.page_image.proofs.PieceLemmas.{image_piece, asked}
+use Rattle.dpfs_tree.specs.Picks.{bytes_of}
 use Rattle.part_store.specs.declared.part.Part.{Part}
 use Rattle.part_store.specs.Parts.{IsFound}
-use Rattle.part_store.specs.Spots.{SamePart, PartSpot}
-use Rattle.part_store.specs.SpotLaws.{SamePart-same, PartSpot-same, SamePart-join, PartSpot-join}
+use Rattle.part_store.specs.Spots.{SamePart, KeepsMarks, PartSpot}
+use Rattle.part_store.specs.SpotLaws.{KeepsMarks-part, KeepsMarks-spot, KeepsMarks-join, SamePart-join, PartSpot-join}
 use Rattle.part_store.proofs.PartLemmas.{found_piece}
 use Rattle.container.specs.declared.open.Container.{Container}
 use Rattle.container.specs.declared.store.Store.{Store}
+use Rattle.container.specs.Parts.{SameSecond}
 use Rattle.container.specs.Stores.{state_of}
-use Rattle.container.specs.StoreHeld.{shown, SameStore, SameSecond, IsKept, ReadsImage, ContainerSpot, StoreKeeps, store_lands}
-use Rattle.container.proofs.StoreLemmas.{sound_base, store_told, store_fits, store_stays, store_lands_before}
+use Rattle.container.specs.StoreHeld.{store_of, shown, SameStore, IsKept, ReadsImage, ContainerSpot, StoreKeeps}
+use Rattle.container.specs.StoreHeld.{store_lands}
+use Rattle.container.proofs.StoreLemmas.{sound_base, told_below, store_fits, store_stays, store_lands_before}
+use Rattle.container.proofs.StoreLemmas.{parts_land}
 
 module _ (disk : disks.State) (image : ImageState) (first : Part) (second : Option Part) (table : List ℕ)
     (sound : IsTrue (state_of (image_state disk image) first second table).shape.sound) where
@@ -59,96 +62,111 @@ pub held_piece : (s : State) (disk : disks.State) (image : ImageState) (at most 
 held_piece s disk image at most place m piece told found held =
     found_piece s (image_state disk image) at most place m refl told found (Ok piece) (image_piece disk image place m piece held)
 
--- bytes that were found are found where their page was brought
-module _ (s : State) (d e f : disks.State) (i j k : ImageState) (leaves : LeavesTold e j f k) where
-  pub found_brought : (at most place m : ℕ) → (IsTrue s.told → IsTrue (image_state e j).told) → IsFound s (image_state e j) at most (Ok (place, m))
-      → IsFound s (image_state f k) at most (Ok (place, m))
-  found_brought at most place m told found = record {
-    some = found.some;
-    bounded = found.bounded;
-    inside = found.inside;
-    in_base = omega (arith, found.in_base, (leaves Frame tt).0.len);
-    cells = λ is n below.
-        found.cells is n below ∙ sym (ap Byte ((leaves (Place (place + n)) (told is)).1 (omega (arith, found.in_base))).0);
-    damaged = λ is. tt;
-  }
+-- a call that brings a page, behind one that read
+module _ (d e f : disks.State) (old mid : Container) (k : ImageState)
+    (stays : Stays (store_of d old) (store_of e mid) None)
+    (leaves : LeavesTold e mid.image f k) where
+  pub found_brought : (at most place m : ℕ) → IsFound (store_of d old) (image_state e mid.image) at most (Ok (place, m))
+      → IsFound (store_of d old) (image_state f k) at most (Ok (place, m))
+  found_brought at most place m found =
+      let told : IsTrue (store_of d old).told → IsTrue (image_state e mid.image).told =
+      λ is. told_below (image_state e mid.image) mid.parts.first mid.table.items mid.parts.second
+      (stays.space.told is) in
+      record {
+        some = found.some;
+        bounded = found.bounded;
+        inside = found.inside;
+        in_base = omega (arith, found.in_base, (leaves Frame tt).0.len);
+        cells = λ is n below.
+            found.cells is n below ∙ sym
+            (ap Byte ((leaves (Place (place + n)) (told is)).1 (omega (arith, found.in_base))).0);
+        damaged = λ is. tt;
+      }
 
-  pub reads_brought : ReadsImage d i e j None → tells f ≡ tells e → ReadsImage d i f k None
-  reads_brought reads told = record {
-    stays = Stays-join (image_state d i) (image_state e j) (image_state f k) None reads.stays (brought_stays e f j k leaves told);
-    frame = Leaves-join d e f i j k Frame reads.frame (leaves Frame tt);
-    sectors = λ number. Leaves-join d e f i j k (Sector number) (reads.sectors number) (leaves (Sector number) tt);
-    spots = λ is spot. Leaves-join d e f i j k spot (reads.spots is spot) (leaves spot (asked e (reads.stays.space.told is) spot));
-  }
-
-  pub reads_not_brought : ReadsImage d i e j None → Rose e.counts.disk f.counts.disk → ReadsImage d i f k (Some Disk)
-  reads_not_brought reads rose = record {
-    stays = Stays-join (image_state d i) (image_state e j) (image_state f k) (Some Disk) reads.stays (failed_stays e f j k leaves rose);
-    frame = Leaves-join d e f i j k Frame reads.frame (leaves Frame tt);
-    sectors = λ number. Leaves-join d e f i j k (Sector number) (reads.sectors number) (leaves (Sector number) tt);
-    spots = λ is spot. Leaves-join d e f i j k spot (reads.spots is spot) (leaves spot (asked e (reads.stays.space.told is) spot));
-  }
+  pub both_read : (refusal : Option Bad) → IsTrue (store_of d old).shape.sound → ReadsImage d old.image e mid.image None
+      → Stays (image_state e mid.image) (image_state f k) refusal
+      → Stays (store_of d old) (store_of f (record mid { image = k })) refusal × ReadsImage d old.image f k refusal
+  both_read refusal sound reads later =
+      let still = subst (λ (shape : Shape). IsTrue shape.sound) (sym stays.space.shape) sound in (
+        Stays-join (store_of d old) (store_of e mid) (store_of f (record mid { image = k })) refusal stays
+            (image_stays e mid.image mid.parts.first mid.parts.second mid.table.items still f k refusal later),
+        record {
+          stays = Stays-join (image_state d old.image) (image_state e mid.image)
+              (image_state f k) refusal reads.stays later;
+          frame = Leaves-join d e f old.image mid.image k Frame reads.frame (leaves Frame tt);
+          sectors = λ number. Leaves-join d e f old.image mid.image k (Sector number) (reads.sectors number)
+              (leaves (Sector number) tt);
+          spots = λ is spot. Leaves-join d e f old.image mid.image k spot (reads.spots is spot)
+              (leaves spot (asked e (reads.stays.space.told is) spot));
+        },
+      )
 
 -- none are found where the disk failed
 pub found_nowhere : (s base : State) (at most : ℕ) → IsFound s base at most (Err Disk)
 found_nowhere s base at most =
     record { some = tt; bounded = tt; inside = tt; in_base = tt; cells = λ is. tt; damaged = λ is. tt }
 
-second_same : (P : Part → Part → Type 0) → ((part : Part) → P part part) → (second : Option Part) → SameSecond P second second
-second_same P same None = tt
-second_same P same (Some part) = same part
+second_map : (P Q : Part → Part → Type 0) → ((old new : Part) → P old new → Q old new) → (old new : Option Part)
+    → SameSecond P old new → SameSecond Q old new
+second_map P Q map None None same = tt
+second_map P Q map None (Some new) same = same
+second_map P Q map (Some old) None same = same
+second_map P Q map (Some old) (Some new) same = map old new same
 
--- a call that reads the image, and keeps all else of the container, reads the store
+-- a call that reads the image, and keeps all else of the container but what its parts remember, reads the store
 module _ {D : Type 0} (states : D → disks.State) (s t : Store D) (refusal : Option Bad)
     (same_container : t.container.ghost_name ≡ s.container.ghost_name) (same_disk : t.disk.ghost_name ≡ s.disk.ghost_name)
     (kept : IsKept s.container.now t.container.now)
     (reads : ReadsImage (states s.disk.now) s.container.now.image (states t.disk.now) t.container.now.image refusal)
-    (sound : IsTrue (shown states s).shape.sound) where
+    (stays : Stays (shown states s) (shown states t) refusal) (sound : IsTrue (shown states s).shape.sound) where
   same_store : SameStore s t
-  same_store = record {
-    same_container = same_container;
-    same_disk = same_disk;
-    header = kept.header;
-    first = rw kept.parts (SamePart-same s.container.now.parts.first);
-    second = rw kept.parts (second_same SamePart SamePart-same s.container.now.parts.second);
-    table_len = ap length kept.table;
-  }
+  same_store =
+      let parts = kept.parts in
+      record {
+        same_container = same_container;
+        same_disk = same_disk;
+        header = kept.header;
+        first = KeepsMarks-part s.container.now.parts.first t.container.now.parts.first parts.first;
+        second = second_map KeepsMarks SamePart KeepsMarks-part s.container.now.parts.second
+            t.container.now.parts.second parts.second;
+        table_len = ap length kept.table;
+      }
 
   same_spot : (spot : Spot) → ContainerSpot spot s.container.now t.container.now
-  same_spot (Mark part level block) = rw kept.parts (
-    PartSpot-same (Mark part level block) s.container.now.parts.first,
-    second_same (PartSpot (Mark part level block)) (PartSpot-same (Mark part level block)) s.container.now.parts.second,
+  same_spot (Mark part level block) = (
+    KeepsMarks-spot (Mark part level block) s.container.now.parts.first t.container.now.parts.first kept.parts.first,
+    second_map KeepsMarks (PartSpot (Mark part level block))
+        (KeepsMarks-spot (Mark part level block)) s.container.now.parts.second
+        t.container.now.parts.second kept.parts.second,
   )
   same_spot Frame = kept
   same_spot spot = tt
 
-  stays_in_store : Stays (shown states s) (shown states t) refusal
-  stays_in_store =
-      let container = s.container.now in
-      rw (kept.parts, kept.table)
-      (image_stays (states s.disk.now) container.image container.parts.first container.parts.second container.table.items sound
-      (states t.disk.now) t.container.now.image refusal reads.stays)
-
   lands_before : SameCells (image_state (states s.disk.now) s.container.now.image) (image_state (states t.disk.now) t.container.now.image)
       → LandsAsBefore (shown states s).shape.size (store_lands states s) (store_lands states t)
-  lands_before cells =
+  lands_before cells x below spot there =
       let container = s.container.now in
+      let parts = container.parts in
+      let later = t.container.now.parts in
       let base = image_state (states s.disk.now) container.image in
       let new = image_state (states t.disk.now) t.container.now.image in
-      rw kept.parts
-      (store_lands_before base new container.table.items refusal (image_size_fits (states s.disk.now) container.image) reads.stays cells
+      store_lands_before base new container.table.items refusal
+      (image_size_fits (states s.disk.now) container.image) reads.stays cells
       (ImageLands container.image.grain) (ImageLands t.container.now.image.grain)
-      (λ x below spot. subst (λ (grain : ℕ). ImageLands grain x spot) reads.frame.0.grain)
-      container.parts.first container.parts.second sound)
+      (λ x below spot. subst (λ (grain : ℕ). ImageLands grain x spot) reads.frame.0.grain) parts.first parts.second
+      sound x below spot
+      (parts_land (bytes_of new.cells)
+      (ImageLands t.container.now.image.grain) parts.first later.first parts.second later.second kept.parts.first
+      kept.parts.second x spot there)
 
   pub store_reads : Reads (shown states) (StoreKeeps states) (store_lands states) s t refusal
   store_reads =
       let container = s.container.now in
       let base = image_state (states s.disk.now) container.image in
       let told : IsTrue (shown states s).told → IsTrue base.told =
-      λ is. sym (store_told base container.parts.first container.table.items container.parts.second) ∙ is in
+      told_below base container.parts.first container.table.items container.parts.second in
       record {
-        stays = stays_in_store;
+        stays = stays;
         frame = (same_store, kept, reads.frame);
         sectors = λ number. (same_store, tt, reads.sectors number);
         spots = λ is spot. (same_store, same_spot spot, reads.spots (told is) spot);
@@ -206,7 +224,19 @@ module _ {D : Type 0} (states : D → disks.State) where
     second_join spot None (Some b) z same h k = absurd h
     second_join spot (Some a) None z same h k = absurd h
     second_join spot (Some a) (Some b) None same h k = k
-  spot_join Frame s t u same h k = record { header = k.header ∙ h.header; parts = k.parts ∙ h.parts; table = k.table ∙ h.table }
+  spot_join Frame s t u same h k =
+      let one = s.container.now.parts in
+      let two = t.container.now.parts in
+      let three = u.container.now.parts in
+      record {
+        header = k.header ∙ h.header;
+        parts = record {
+          first = KeepsMarks-join one.first two.first three.first h.parts.first k.parts.first;
+          second = SameSecond-join KeepsMarks KeepsMarks-join one.second two.second three.second h.parts.second
+              k.parts.second;
+        };
+        table = k.table ∙ h.table;
+      }
   spot_join spot s t u same h k = tt
 
   pub StoreKeeps-join : (spot : Spot) (s t u : Store D) → StoreKeeps states spot s t → StoreKeeps states spot t u → StoreKeeps states spot s u

@@ -22,7 +22,7 @@ use Rattle.save_bytes.specs.CellNumbers.{value_of}
 use Rattle.ivfc_tree.specs.View.{status_of}
 use Rattle.part_store.specs.declared.part.Part.{Part}
 use Rattle.part_store.specs.Parts.{CanViewPart, contents_of, master_of, part_state, status_in}
-use Rattle.part_store.proofs.PartLemmas.{hashes_there, contents_there, can_view_part-true}
+use Rattle.part_store.specs.PartLaws.{hashes_there, contents_there, can_view_part-true}
 use Rattle.page_image.specs.declared.state.ImageState.{ImageState}
 use Rattle.page_image.specs.Images.{IsDiskOf, image_state}
 use Rattle.page_image.specs.Laws.{image_size_fits}

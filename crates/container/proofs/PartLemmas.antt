@@ -1,5 +1,6 @@
 -- Parts and their descriptors.
-use Rattle.std.proofs.Common.{◌≡◌, ℕ, ◌<◌, ◌≤◌, List, Option, Some, None, IfSome, refl, sym, ◌∙◌, ap, subst, arith, ⊎_elim}
+use Rattle.std.proofs.Common.{◌≡◌, ℕ, ◌<◌, ◌≤◌, Bool, true, false, ◌&&◌, List, Option, Some, None, IfSome, Ok}
+use Rattle.std.proofs.Common.{refl, sym, ◌∙◌, ap, subst, arith, ⊎_elim}
 use Rattle.std.proofs.lemmas.Bool.{cases_lt}
 use Rattle.save_bytes.specs.declared.extent.Extent.{Extent}
 use Rattle.container_header.specs.declared.header.Header.{Header}
@@ -10,7 +11,13 @@ use Rattle.difi.specs.Sound.{IsSoundDifi}
 use Rattle.difi.specs.Conditions.{reading}
 use Rattle.container.specs.Openings.{descriptor_of, partition_of, part_reading}
 use Rattle.part_store.specs.declared.part.Part.{Part}
-use Rattle.container.specs.Parts.{HasDescriptors, IsPartOf, IsPartRead}
+use Rattle.part_store.specs.Parts.{HasNoMemory}
+use Rattle.part_store.specs.Spots.{KeepsMarks}
+use Rattle.part_store.specs.SpotLaws.{IsMadeFor-many}
+use Rattle.container.specs.declared.parts.Parts.{Parts}
+use Rattle.container.specs.Parts.{part_count, HasDescriptors, IsPartOf, IsPartRead, AreRead, IsWhole, SameSecond}
+use Rattle.container.specs.Parts.{KeepsParts}
+use Rattle.container.specs.Stores.{HaveNoMemory}
 
 -- a descriptor is read at its place
 pub fields_place : (table : List ℕ) (place : ℕ) → (fields table place).place ≡ place
@@ -51,3 +58,71 @@ sound_descriptors header image_len sound = record {
 pub second_of : (table : List ℕ) (header : Header) (second : Option Part) → IfSome second (IsPartRead table header 1) → IfSome second (IsPartOf header 1)
 second_of table header None read = tt
 second_of table header (Some part) read = read.part_of
+
+-- a part that keeps its marks is that of its partition still, and what its descriptor says
+kept_part : (header : Header) (number : ℕ) (old new : Part) → KeepsMarks old new → IsPartOf header number old
+    → IsPartOf header number new
+kept_part header number old new kept is = record {
+  number_is = kept.number ∙ is.number_is;
+  place = kept.place ∙ is.place;
+  in_table = ap (λ (difi : Difi). difi.place) kept.descriptor ∙ is.in_table;
+  sound = rw kept.descriptor is.sound;
+  contents = rw (kept.descriptor, kept.copies) is.contents;
+  hashes = rw kept.descriptor (IsMadeFor-many old.difi old.ivfc new.ivfc kept.hashes.many is.hashes);
+}
+
+kept_read : (table : List ℕ) (header : Header) (number : ℕ) (old new : Part) → KeepsMarks old new
+    → IsPartRead table header number old
+    → IsPartRead table header number new
+kept_read table header number old new kept is = record {
+  part_of = kept_part header number old new kept is.part_of;
+  descriptor = is.descriptor ∙ ap Ok (sym kept.descriptor);
+  untouched = record {
+    contents = rw (kept.descriptor, kept.copies) is.untouched.contents;
+    hashes = λ level block. kept.hashes.marks level block ∙ is.untouched.hashes level block;
+  };
+}
+
+-- what holds of a second part holds of one that keeps its marks
+kept_second : (P : Part → Type 0) → ((old new : Part) → KeepsMarks old new → P old → P new) → (old new : Option Part)
+    → SameSecond KeepsMarks old new → IfSome old P → IfSome new P
+kept_second P keep None None kept is = tt
+kept_second P keep None (Some new) kept is = absurd kept
+kept_second P keep (Some old) None kept is = tt
+kept_second P keep (Some old) (Some new) kept is = keep old new kept is
+
+same_count : (old new : Option Part) → SameSecond KeepsMarks old new → part_count new ≡ part_count old
+same_count None None kept = refl
+same_count None (Some new) kept = absurd kept
+same_count (Some old) None kept = absurd kept
+same_count (Some old) (Some new) kept = refl
+
+pub kept_whole : (header : Header) (image_len : ℕ) (table : List ℕ) (old new : Parts) → KeepsParts old new
+    → IsWhole header image_len table old
+    → IsWhole header image_len table new
+kept_whole header image_len table old new kept is = record {
+  sound = is.sound;
+  table_len = is.table_len;
+  count = same_count old.second new.second kept.second ∙ is.count;
+  first = kept_part header 0 old.first new.first kept.first is.first;
+  second = kept_second (IsPartOf header 1) (kept_part header 1) old.second new.second kept.second is.second;
+}
+
+pub kept_as_read : (table : List ℕ) (header : Header) (old new : Parts) → KeepsParts old new
+    → AreRead table header old → AreRead table header new
+kept_as_read table header old new kept is = record {
+  count = same_count old.second new.second kept.second ∙ is.count;
+  first = kept_read table header 0 old.first new.first kept.first is.first;
+  second = kept_second (IsPartRead table header 1)
+      (kept_read table header 1) old.second new.second kept.second is.second;
+}
+
+-- where nothing is remembered of each part, nothing is of all
+pub none_remembered : (first : Part) (second : Option Part) → HasNoMemory first → IfSome second HasNoMemory
+    → HaveNoMemory (record { first = first; second = second })
+none_remembered first None one other base table = one base table
+none_remembered first (Some part) one other base table = rw (one base table, other base table) (and_same base.told)
+  where
+    and_same : (b : Bool) → (b && b) ≡ b
+    and_same true = refl
+    and_same false = refl

@@ -7,6 +7,7 @@ use Rattle.difi.specs.Sound.{IsSoundDifi}
 use Rattle.dpfs_tree.specs.Marks.{IsFreshContents, IsMadeForContents}
 use Rattle.ivfc_tree.specs.Marks.{IsMadeFor, HasNoMarks}
 use Rattle.part_store.specs.declared.part.Part.{Part}
+use Rattle.part_store.specs.Spots.{KeepsMarks}
 use Rattle.container.specs.declared.parts.Parts.{Parts}
 use Rattle.container.specs.Openings.{descriptor_of, partition_of, part_reading}
 
@@ -63,3 +64,15 @@ pub record IsWhole (header : Header) (image_len : ℕ) (table : List ℕ) (parts
   pub count : part_count parts.second ≡ header.parts
   pub first : IsPartOf header 0 parts.first
   pub second : IfSome parts.second (IsPartOf header 1)
+
+-- a second part stays one, or none
+abbrev pub SameSecond : (Part → Part → Type 0) → Option Part → Option Part → Type 0
+SameSecond P None None = Unit {0}
+SameSecond P None (Some new) = ⊥
+SameSecond P (Some old) None = ⊥
+SameSecond P (Some old) (Some new) = P old new
+
+-- of each part all that its cells hang on is as before
+pub record KeepsParts (old new : Parts) : Type 0 where
+  pub first : KeepsMarks old.first new.first
+  pub second : SameSecond KeepsMarks old.second new.second

@@ -1,5 +1,5 @@
 -- What a store holds, which spots a call on it leaves alone, and which a put may touch.
-use Rattle.std.specs.Prelude.{◌≡◌, ℕ, IsTrue, length, Option, Some, None}
+use Rattle.std.specs.Prelude.{◌≡◌, ℕ, IsTrue, length, Option}
 use Rattle.std.specs.Borrow.{MutBor}
 use Rattle.save_bytes.specs.declared.space.Bad.{Bad}
 use Rattle.save_bytes.specs.State.{State}
@@ -7,13 +7,13 @@ use Rattle.save_bytes.specs.Stays.{Stays}
 use Rattle.save_bytes.specs.Spots.{Spot, Sector, Mark, Frame}
 use Rattle.save_disk.specs.State as disks
 use Rattle.dpfs_tree.specs.Picks.{bytes_of}
-use Rattle.part_store.specs.declared.part.Part.{Part}
 use Rattle.part_store.specs.Spots.{SamePart, PartSpot}
 use Rattle.page_image.specs.declared.state.ImageState.{ImageState}
 use Rattle.page_image.specs.Images.{image_state}
 use Rattle.page_image.specs.Spots.{Leaves, ImageLands}
 use Rattle.container.specs.declared.open.Container.{Container}
 use Rattle.container.specs.declared.store.Store.{Store}
+use Rattle.container.specs.Parts.{SameSecond, KeepsParts}
 use Rattle.container.specs.Stores.{store_state, PartsLand}
 
 -- what a contract sees of the store that a container gives over a disk of which this is seen
@@ -30,10 +30,10 @@ pub record IsStoreOf {D : Type 0} (store : Store D) (container : MutBor Containe
   pub same_disk : store.disk.ghost_name ≡ disk.ghost_name
   pub disk_now : store.disk.now ≡ disk.now
 
--- all of a container but its image is as before
+-- all of a container but its image, and what its parts remember, is as before
 pub record IsKept (old new : Container) : Type 0 where
   pub header : new.header ≡ old.header
-  pub parts : new.parts ≡ old.parts
+  pub parts : KeepsParts old.parts new.parts
   pub table : new.table.items ≡ old.table.items
 
 -- what a call that reads leaves of an image and its disk
@@ -42,13 +42,6 @@ pub record ReadsImage (disk : disks.State) (image : ImageState) (disk_new : disk
   pub frame : Leaves Frame disk image disk_new image_new
   pub sectors : (number : ℕ) → Leaves (Sector number) disk image disk_new image_new
   pub spots : IsTrue (image_state disk image).told → (spot : Spot) → Leaves spot disk image disk_new image_new
-
--- a second part stays one, or none
-abbrev pub SameSecond : (Part → Part → Type 0) → Option Part → Option Part → Type 0
-SameSecond P None None = Unit {0}
-SameSecond P None (Some new) = ⊥
-SameSecond P (Some old) None = ⊥
-SameSecond P (Some old) (Some new) = P old new
 
 -- the same references, header, parts and length of the table; marks, the table's bytes, the image and the disk may have changed
 pub record SameStore {D : Type 0} (old new : Store D) : Type 0 where

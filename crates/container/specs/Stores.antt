@@ -1,12 +1,17 @@
 -- The store of an open image: part 0's level four, followed by part 1's.
-use Rattle.std.specs.Prelude.{ℕ, ◌+◌, ◌-◌, ◌^◌, Bool, ◌&&◌, false, not, ◌==◌, nat_lt, List, Option, Some, None, if◌then◌else◌}
+use Rattle.std.specs.Prelude.{◌≡◌, ℕ, ◌+◌, ◌-◌, ◌^◌, Bool, ◌&&◌, false, not, ◌==◌, nat_lt, List, Option, Some}
+use Rattle.std.specs.Prelude.{None, if◌then◌else◌}
 use Rattle.std.specs.Bool.{MatchBool}
 use Rattle.save_bytes.specs.State.{State}
+use Rattle.save_bytes.specs.declared.space.Bad.{Bad}
 use Rattle.save_bytes.specs.Spots.{Spot}
+use Rattle.save_bytes.specs.Stays.{Stays}
+use Rattle.save_bytes.specs.Reads.{Reads}
 use Rattle.part_store.specs.declared.part.Part.{Part}
 use Rattle.part_store.specs.Parts.{part_state}
 use Rattle.part_store.specs.Spots.{PartLands}
 use Rattle.container.specs.declared.parts.Parts.{Parts}
+use Rattle.container.specs.Parts.{KeepsParts}
 
 -- the cells of one space followed by those of another, whose damaged blocks are told apart where a test passes
 abbrev pub joined : Bool → State → State → State
@@ -35,6 +40,19 @@ state_of base first (Some second) table =
 -- what a contract sees of a store of these parts over an image of which this is seen
 abbrev pub store_state : State → Parts → List ℕ → State
 store_state base parts table = state_of base parts.first parts.second table
+
+-- nothing is remembered of the parts: their cells are told wherever those of an image are
+abbrev pub HaveNoMemory : Parts → Type 0
+HaveNoMemory parts = (base : State) (table : List ℕ) → (store_state base parts table).told ≡ base.told
+
+-- What a call on the parts leaves that only reads: the cells stay, and so do the image, the table and the marks. What
+-- is remembered stays true.
+pub record ReadsParts {A : Type 0} (states : A → State) (keeps : Spot → A → A → Type 0) (lands : A → ℕ → Spot → Type 0)
+    (old new : A) (parts parts_new : Parts) (table table_new : List ℕ) (refusal : Option Bad) : Type 0 where
+  pub stays : Stays (store_state (states old) parts table) (store_state (states new) parts_new table_new) refusal
+  pub reads : Reads states keeps lands old new refusal
+  pub kept : KeepsParts parts parts_new
+  pub same_table : table_new ≡ table
 
 -- a put at a place of the store touches what it touches in the part that has it
 abbrev pub PartsLand : (ℕ → ℕ) → (ℕ → Spot → Type 0) → Part → Option Part → ℕ → Spot → Type 0

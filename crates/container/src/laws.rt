@@ -5,9 +5,19 @@ ghost use Rattle.std.specs.Prelude.{◌≡◌, ◌↔◌, ℕ, List, Bool, None}
 ghost use Rattle.container.specs.Signers.{Signing};
 ghost use Rattle.container.specs.Openings.{fault_of};
 ghost use Rattle.container.specs.Opens.{Opens};
+ghost use Rattle.container.specs.declared.open.Container.{Container};
+ghost use Rattle.container.specs.Containers.{IsOpenOf, IsWholeContainer};
+ghost use Rattle.container.specs.StoreHeld.{IsKept};
 
 /// An image opens under a signer exactly where no fault of it is found, whichever condition is tried first.
 pub fn opens_exactly_where_no_fault_is_found()
     ensures { (sign : Signing) (image : List ℕ)
         → Opens sign image ↔ (fault_of sign image ≡ None) }
+{}
+
+/// A container of which a call only read is as whole as before, and holds what it held as it was opened.
+pub fn what_was_only_read_stays_open()
+    ensures whole { (old new : Container) → IsKept old new → new.image.len ≡ old.image.len → IsWholeContainer old → IsWholeContainer new }
+    ensures opened { (old new : Container) → IsKept old new → (sign : Signing) (image : List ℕ) → IsOpenOf sign image old
+        → IsOpenOf sign image new }
 {}

@@ -14,7 +14,7 @@ mod table;
 mod within;
 
 pub use fault::OpenFault;
-pub use laws::opens_exactly_where_no_fault_is_found;
+pub use laws::{opens_exactly_where_no_fault_is_found, what_was_only_read_stays_open};
 pub use open::Container;
 pub use store::Store;
 

@@ -59,6 +59,7 @@ fn open_image<D: Disk>(alloc: Global, disk: &mut D, len: u64) -> Result<ImageSta
 
 impl Container {
     ghost use Rattle.container.specs.Containers.{IsOpenOf, IsWholeContainer};
+    ghost use Rattle.container.specs.Stores.{HaveNoMemory};
 
     /// Opens the image of a disk: its header and the signer's tag, the digest of the active table, and the
     /// descriptors in that table. The inactive table is not looked at, and nothing is written.
@@ -76,6 +77,7 @@ impl Container {
             → IsOpenOf (signing G.tag_of G.is_demanding signer.now) (image_told (D.state disk.old)) container) }
         ensures image { IfOk result (λ container. IsOpened (D.state disk.new) container.image) }
         ensures whole { IfOk result IsWholeContainer }
+        ensures told { IfOk result (λ container. HaveNoMemory container.parts) }
         ensures caused { IfErr result (λ fault. IsTrue (tells (D.state disk.old))
             → IsCaused (fault_of (signing G.tag_of G.is_demanding signer.now) (image_told (D.state disk.old))) fault) }
         ensures disk { IfErr result (λ fault. fault ≡ OpenFault.Disk → Rose (D.state disk.old).counts.disk (D.state disk.new).counts.disk) }

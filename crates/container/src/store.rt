@@ -7,6 +7,7 @@ ghost use Rattle.std.specs.Result.{result_err};
 ghost use Rattle.save_bytes.specs.State.{IsInside};
 ghost use Rattle.save_bytes.specs.Refusals.{NeverDamaged};
 ghost use Rattle.save_bytes.specs.Answers.{IsPiece};
+ghost use Rattle.save_bytes.specs.Stays.{Stays};
 ghost use Rattle.save_bytes.specs.Reads.{Reads};
 ghost use Rattle.ivfc_tree.specs.Levels.{HasBlock};
 ghost use Rattle.part_store.specs.Parts.{IsFound, status_in};
@@ -64,6 +65,7 @@ fn find_in<D: Disk>(
     requires inside { IsInside (store_of (D.state disk.old) container.old).shape at 1 }
     requires some { 1 ≤ most }
     ensures found { IsFound (store_of (D.state disk.old) container.old) (image_state (D.state disk.new) container.new.image) at most result }
+    ensures stays { Stays (store_of (D.state disk.old) container.old) (store_of (D.state disk.new) container.new) (result_err result) }
     ensures reads { ReadsImage (D.state disk.old) container.old.image (D.state disk.new) container.new.image (result_err result) }
     ensures kept { IsKept container.old container.new }
 {
@@ -84,6 +86,7 @@ fn locate_in<D: Disk>(
     requires inside { IsInside (store_of (D.state disk.old) container.old).shape at 1 }
     requires some { 1 ≤ most }
     ensures found { IsFound (store_of (D.state disk.old) container.old) (image_state (D.state disk.new) container.new.image) at most result }
+    ensures stays { Stays (store_of (D.state disk.old) container.old) (store_of (D.state disk.new) container.new) (result_err result) }
     ensures reads { ReadsImage (D.state disk.old) container.old.image (D.state disk.new) container.new.image (result_err result) }
     ensures kept { IsKept container.old container.new }
     ensures held { IfOk result (λ run. is_held container.new.image (run.0 / 4096) ≡ true) }
@@ -112,6 +115,7 @@ fn tell_status<D: Disk>(
     ensures status { IsTrue (store_of (D.state disk.old) container.old).told → IfOk result (λ status. IfSome (part_at container.old.parts part)
         (λ found. status ≡ status_in (image_state (D.state disk.old) container.old.image) found container.old.table.items level block)) }
     ensures plain { NeverDamaged (result_err result) }
+    ensures stays { Stays (store_of (D.state disk.old) container.old) (store_of (D.state disk.new) container.new) (result_err result) }
     ensures reads { ReadsImage (D.state disk.old) container.old.image (D.state disk.new) container.new.image (result_err result) }
     ensures kept { IsKept container.old container.new }
 {

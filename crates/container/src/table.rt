@@ -5,7 +5,9 @@ ghost use Rattle.save_disk.specs.State.{IsQuiet, IsSteady, Rose};
 ghost use Rattle.save_disk.specs.Tells.{tells, image_told};
 ghost use Rattle.container_header.specs.Sound.{active_at, IsDescriptorPlace};
 ghost use Rattle.container.specs.Openings.{active_table, IsCaused, part_reading, second_fault, parts_fault, descriptor_of, partition_of, descriptor_fault};
+ghost use Rattle.part_store.specs.Parts.{HasNoMemory};
 ghost use Rattle.container.specs.Parts.{part_count, HasDescriptors, IsPartRead, AreRead};
+ghost use Rattle.container.specs.Stores.{HaveNoMemory};
 
 use crate::fault::OpenFault;
 use crate::parts::Parts;
@@ -65,6 +67,7 @@ fn partition(header: &Header, number: u8) -> Extent
 fn open_part(alloc: Global, header: &Header, table: &[u8], number: u8) -> Result<Part, OpenFault>
     requires { IsDescriptorPlace (descriptor_of header.now number) (length table.now) }
     ensures part { IfOk result (IsPartRead table.now header.now number) }
+    ensures told { IfOk result HasNoMemory }
     ensures none { OnOk result (descriptor_fault number (part_reading table.now header.now number) ≡ None) }
     ensures caused { IfErr result (IsCaused (descriptor_fault number (part_reading table.now header.now number))) }
     ensures not_disk { IfErr result (λ fault. fault ≢ OpenFault.Disk) }
@@ -91,6 +94,7 @@ fn open_second(alloc: Global, header: &Header, table: &[u8]) -> Result<Option<Pa
     requires { HasDescriptors header.now (length table.now) }
     ensures count { IfOk result (λ second. part_count second ≡ header.now.parts) }
     ensures part { IfOk result (λ second. IfSome second (IsPartRead table.now header.now 1)) }
+    ensures told { IfOk result (λ second. IfSome second HasNoMemory) }
     ensures none { OnOk result (second_fault table.now header.now ≡ None) }
     ensures caused { IfErr result (IsCaused (second_fault table.now header.now)) }
     ensures not_disk { IfErr result (λ fault. fault ≢ OpenFault.Disk) }
@@ -106,6 +110,7 @@ fn open_second(alloc: Global, header: &Header, table: &[u8]) -> Result<Option<Pa
 pub(crate) fn open_parts(alloc: Global, header: &Header, table: &[u8]) -> Result<Parts, OpenFault>
     requires { HasDescriptors header.now (length table.now) }
     ensures parts { IfOk result (AreRead table.now header.now) }
+    ensures told { IfOk result HaveNoMemory }
     ensures none { OnOk result (parts_fault table.now header.now ≡ None) }
     ensures caused { IfErr result (IsCaused (parts_fault table.now header.now)) }
     ensures not_disk { IfErr result (λ fault. fault ≢ OpenFault.Disk) }

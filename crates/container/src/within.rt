@@ -4,11 +4,11 @@ ghost use Rattle.std.specs.Prelude.{◌≡◌, ℕ, ◌<◌, ◌≤◌, length, 
 ghost use Rattle.std.specs.Result.{result_err};
 ghost use Rattle.save_bytes.specs.State.{IsInside};
 ghost use Rattle.save_bytes.specs.Refusals.{NeverDamaged};
-ghost use Rattle.save_bytes.specs.Reads.{Reads};
 ghost use Rattle.ivfc_tree.specs.Levels.{HasBlock};
 ghost use Rattle.part_store.specs.Parts.{CanViewPart, part_state, status_in, IsFound};
 ghost use Rattle.container.specs.Parts.{part_count, part_at};
-ghost use Rattle.container.specs.Stores.{store_state};
+ghost use Rattle.part_store.specs.Calls.{ReadsPart};
+ghost use Rattle.container.specs.Stores.{store_state, ReadsParts};
 
 use crate::parts::Parts;
 use ivfc_tree::Status;
@@ -27,9 +27,7 @@ fn find_in<S: Space>(
     requires inside { at < part.old.difi.ivfc4.size }
     requires some { 1 ≤ most }
     ensures found { IsFound (part_state (S.state image.old) part.old table.old) (S.state image.new) at most result }
-    ensures reads { Reads S.state S.keeps S.lands image.old image.new (result_err result) }
-    ensures part { part.new ≡ part.old }
-    ensures table { table.new ≡ table.old }
+    ensures left { ReadsPart S.state S.keeps S.lands image.old image.new part.old part.new table.old table.new (result_err result) }
 {
     let mut view = PartView::new(image, part, table);
     view.locate(at, most)
@@ -46,9 +44,7 @@ pub(crate) fn find<S: Space>(
     requires inside { IsInside (store_state (S.state image.old) parts.old table.old).shape at 1 }
     requires some { 1 ≤ most }
     ensures found { IsFound (store_state (S.state image.old) parts.old table.old) (S.state image.new) at most result }
-    ensures reads { Reads S.state S.keeps S.lands image.old image.new (result_err result) }
-    ensures parts { parts.new ≡ parts.old }
-    ensures table { table.new ≡ table.old }
+    ensures left { ReadsParts S.state S.keeps S.lands image.old image.new parts.old parts.new table.old table.new (result_err result) }
 {
     let split = parts.first.difi().ivfc4.size;
     if at < split {
@@ -70,11 +66,9 @@ fn tell_in<S: Space>(
 ) -> Result<Status, Bad>
     requires view { CanViewPart (S.state image.old).shape part.old (length table.old) }
     requires there { HasBlock part.old.difi level block }
-    ensures status { IsTrue (S.state image.old).told → IfOk result (λ status. status ≡ status_in (S.state image.old) part.old table.old level block) }
+    ensures status { IsTrue (part_state (S.state image.old) part.old table.old).told → IfOk result (λ status. status ≡ status_in (S.state image.old) part.old table.old level block) }
     ensures plain { NeverDamaged (result_err result) }
-    ensures reads { Reads S.state S.keeps S.lands image.old image.new (result_err result) }
-    ensures part { part.new ≡ part.old }
-    ensures table { table.new ≡ table.old }
+    ensures left { ReadsPart S.state S.keeps S.lands image.old image.new part.old part.new table.old table.new (result_err result) }
 {
     let mut view = PartView::new(image, part, table);
     view.status(level, block)
@@ -92,12 +86,10 @@ pub(crate) fn tell<S: Space>(
     requires sound { IsTrue (store_state (S.state image.old) parts.old table.old).shape.sound }
     requires part { number < part_count parts.old.second }
     requires there { IfSome (part_at parts.old number) (λ part. HasBlock part.difi level block) }
-    ensures status { IsTrue (S.state image.old).told → IfOk result (λ status. IfSome (part_at parts.old number)
+    ensures status { IsTrue (store_state (S.state image.old) parts.old table.old).told → IfOk result (λ status. IfSome (part_at parts.old number)
         (λ part. status ≡ status_in (S.state image.old) part table.old level block)) }
     ensures plain { NeverDamaged (result_err result) }
-    ensures reads { Reads S.state S.keeps S.lands image.old image.new (result_err result) }
-    ensures parts { parts.new ≡ parts.old }
-    ensures table { table.new ≡ table.old }
+    ensures left { ReadsParts S.state S.keeps S.lands image.old image.new parts.old parts.new table.old table.new (result_err result) }
 {
     if number == 0 {
         return tell_in(image, &mut parts.first, table, level, block);

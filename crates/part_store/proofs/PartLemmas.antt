@@ -1,73 +1,35 @@
 -- A partition's cells through both of its trees.
-use Rattle.std.proofs.Common.{◌≡◌, ℕ, ◌+◌, ◌^◌, ◌<◌, true, not, IsTrue, IsFalse, List, length, drop}
+use Rattle.std.proofs.Common.{◌≡◌, ℕ, ◌+◌, ◌^◌, ◌<◌, IsTrue, List, length}
 use Rattle.std.proofs.Common.{Option, Some, None, Result, Ok, Err, refl, sym, ◌∙◌, ap, subst, arith}
-use Rattle.std.proofs.lemmas.Bool.{not-true, and_parts, and_from, le-leb, leb-true}
 use Rattle.save_bytes.specs.declared.space.Bad.{Bad}
 use Rattle.save_bytes.specs.Cells.{Cell, Byte, Blank, Spoilt, IsByte}
 use Rattle.save_bytes.specs.CellNumbers.{value_of}
 use Rattle.save_bytes.specs.State.{Shape, State, IsInside}
 use Rattle.difi.specs.declared.places.LevelPlace.{LevelPlace}
 use Rattle.difi.specs.declared.descriptor.Difi.{Difi}
-use Rattle.difi.specs.Sound.{difi_part}
 use Rattle.std.specs.Borrow.{Bor}
 use Rattle.std.specs.Result.{result_err}
-use Rattle.std.proofs.lemmas.List.{length-take-le, length-drop}
 use Rattle.save_bytes.specs.declared.space.Bad.TheVariants.{Disk, Damaged}
 use Rattle.save_bytes.specs.Refusals.{NeverDamaged}
 use Rattle.save_bytes.specs.Answers.{IsPiece}
-use Rattle.save_bytes.specs.Stays.{SameCells, SameTwins, Stays}
+use Rattle.save_bytes.specs.Stays.{Stays}
 use Rattle.save_bytes.proofs.SpaceLemmas.{UnlessDisk-map}
-use Rattle.save_bytes.proofs.ExtentLemmas.{apart, overlap-apart}
 use Rattle.difi.specs.Contents.{view_size}
-use Rattle.save_bytes.specs.Reads.{Reads}
-use Rattle.save_bytes.specs.Spots.{Spot, Frame, Hold, LandsAsBefore}
-use Rattle.dpfs_tree.specs.declared.view.DpfsView.{DpfsView}
-use Rattle.dpfs_tree.specs.Held.{shown_contents, ContentsKeep, contents_land}
 use Rattle.dpfs_tree.specs.declared.state.DpfsState.{DpfsState}
-use Rattle.dpfs_tree.specs.View.{HasContents, contents_state, IsLocated}
-use Rattle.dpfs_tree.specs.ViewLaws.{can_view_contents-true as contents_pass, true-can_view_contents as contents_hold, tree_of as contents_of_base}
+use Rattle.dpfs_tree.specs.View.{contents_state, IsLocated}
 use Rattle.dpfs_tree.proofs.SameLemmas.{view_stays as contents_stay}
 use Rattle.ivfc_tree.specs.Levels.{level_of, level4_of}
 use Rattle.ivfc_tree.specs.declared.state.IvfcState.{IvfcState}
-use Rattle.ivfc_tree.specs.View.{CanViewHashes, HasTree as HasHashes, IsVerified}
+use Rattle.ivfc_tree.specs.View.{HasTree as HasHashes, IsVerified}
 use Rattle.ivfc_tree.specs.View.{view_state as hashed_state}
-use Rattle.ivfc_tree.specs.ViewLaws.{tree_of as hashes_of, place_inside, is_made_for-true, true-is_made_for}
+use Rattle.ivfc_tree.specs.ViewLaws.{place_inside}
 use Rattle.ivfc_tree.proofs.LevelLemmas.{level4_is}
 use Rattle.ivfc_tree.proofs.ViewLemmas.{byte_cell, view_stays as hashed_stay}
 use Rattle.part_store.specs.declared.part.Part.{Part}
+use Rattle.part_store.specs.Spots.{SamePart, KeepsMarks}
+use Rattle.part_store.specs.SpotLaws.{SamePart-same, KeepsMarks-part, can_view_part-same}
+use Rattle.part_store.specs.PartLaws.{contents_there, hashes_there, can_view_part-true, true-can_view_part}
 use Rattle.part_store.specs.Parts.{master_of, contents_of, hashed_of, part_state, CanViewPart, can_view_part, IsFound}
-
--- a part that can be viewed has its contents in the base
-pub contents_there : (base : State) (part : Part) (n : ℕ) → base.shape.size < 2 ^ 64 → CanViewPart base.shape part n
-    → HasContents base.shape part.at part.difi part.dpfs.selector
-contents_there base part n small view = contents_of_base base.shape part.at part.difi part.dpfs small view.contents
-
--- and its hash tree in the contents
-pub hash_view : (base : State) (part : Part) (table : List ℕ) → CanViewPart base.shape part (length table)
-    → CanViewHashes (contents_of base part).shape part.difi (length (master_of table part.difi)) part.ivfc
-hash_view base part table view =
-    let difi = part.difi in
-    let from = difi.place + difi.master.at in
-    let levels = view.contents.partition.levels in
-    record {
-      sound = contents_pass base.shape part.at difi part.dpfs view.contents;
-      plain = view.contents.plain;
-      single = refl;
-      first = refl;
-      base_len = refl;
-      whole_master = length-take-le difi.master.size (drop from table) (omega (arith, length-drop from table, view.master));
-      block_sizes = levels.block_sizes;
-      hash_levels = levels.hash_levels;
-      made = view.made;
-    }
-
-pub hashes_there : (base : State) (part : Part) (table : List ℕ) → base.shape.size < 2 ^ 64
-    → CanViewPart base.shape part (length table)
-    → HasHashes (contents_of base part).shape part.difi (length (master_of table part.difi))
-hashes_there base part table small view =
-    let contents = contents_there base part (length table) small view in
-    hashes_of (contents_of base part).shape part.difi (length (master_of table part.difi)) part.ivfc
-    (omega (arith, contents.view_fits, contents.small)) (hash_view base part table view)
 
 -- the place of a byte of level four in the contents
 pub place_there : (base : State) (part : Part) (table : List ℕ) (at : ℕ) → base.shape.size < 2 ^ 64
@@ -153,69 +115,30 @@ found_piece s base at most place m plain same_told found (Err Disk) h =
     record { some = tt; bounded = tt; inside = tt; bytes = λ told. tt; damaged = λ told. tt; plain = λ plain. tt }
 found_piece s base at most place m plain same_told found (Err (Damaged part level block)) h = absurd (h.plain plain)
 
--- What is known of a base from its contents, after a call that left alone each of their spots.
-module _ {S : Type 0} (states : S → State) (keeps : Spot → S → S → Type 0) (lands : S → ℕ → Spot → Type 0)
-    (keeps_hold : (s t : S) → keeps Frame s t → keeps Hold s t)
-    (keeps_shape : (s t : S) → keeps Hold s t → (states t).shape ≡ (states s).shape)
-    (keeps_cells : (s t : S) → IsTrue (states s).shape.sound → IsFalse (states s).shape.doubled → IsTrue (states s).told
-    → IsTrue (states t).told → ((spot : Spot) → keeps spot s t) → SameCells (states s) (states t) × SameTwins (states s) (states t))
-    (keeps_lands : (s t : S) → IsTrue (states s).shape.sound → IsFalse (states s).shape.doubled → IsTrue (states s).told
-    → IsTrue (states t).told → ((spot : Spot) → keeps spot s t) → LandsAsBefore (states s).shape.size (lands s) (lands t)) where
-  reads_below : (old new : DpfsView S) (refusal : Option Bad) → IsTrue (states old.base.now).shape.sound
-      → IsFalse (states old.base.now).shape.doubled
-      → Reads (shown_contents states) (ContentsKeep keeps) (contents_land states lands) old new refusal
-      → Reads states keeps lands old.base.now new.base.now refusal
-  reads_below old new refusal sound single reads =
-      let one = old.base.now in
-      let two = new.base.now in
-      let kept : IsTrue (states one).told → (spot : Spot) → keeps spot one two = λ told spot. (reads.spots told spot).2 in
-      let space = reads.stays.space in
-      record {
-        stays = record {
-          space = record {
-            shape = keeps_shape one two (keeps_hold one two reads.frame.2);
-            faults = space.faults;
-            cause = space.cause;
-            told = space.told;
-            twins = λ told. UnlessDisk-map refusal (λ still. (keeps_cells one two sound single told still (kept told)).1) (space.told told);
-          };
-          cells = λ told. UnlessDisk-map refusal (λ still. (keeps_cells one two sound single told still (kept told)).0) (space.told told);
-        };
-        frame = reads.frame.2;
-        sectors = λ number. (reads.sectors number).2;
-        spots = kept;
-        reach = λ told. UnlessDisk-map refusal (λ still. keeps_lands one two sound single told still (kept told)) (space.told told);
-      }
-
-  -- a call that reads the contents reads their base
-  pub base_reads : (base : S) (old new : DpfsView S) (refusal : Option Bad) → old.base.now ≡ base
-      → IsTrue (states base).shape.sound → IsFalse (states base).shape.doubled
-      → Reads (shown_contents states) (ContentsKeep keeps) (contents_land states lands) old new refusal
-      → Reads states keeps lands base new.base.now refusal
-  base_reads base old new refusal is sound single reads =
-      subst (λ (s : S). Reads states keeps lands s new.base.now refusal) is
-      (reads_below old new refusal (rw is sound) (rw is single) reads)
-
--- what stays in the contents stays in the partition
-pub part_stays : (first last : State) (part : Part) (table : List ℕ) (refusal : Option Bad)
-    → first.shape.size < 2 ^ 64 → CanViewPart first.shape part (length table) → last.shape ≡ first.shape
-    → Stays (contents_of first part) (contents_of last part) refusal
-    → Stays (part_state first part table) (part_state last part table) refusal
-part_stays first last part table refusal small view shape stays =
-    let hashed = hashed_stay (contents_of first part) (contents_of last part) part.number (master_of table part.difi)
-    part.difi part.ivfc refusal (hashes_there first part table small view) stays in
+-- what stays under the hash tree stays in the partition
+pub part_stays : (base last : State) (part new : Part) (table : List ℕ) (refusal : Option Bad)
+    → last.shape ≡ base.shape → SamePart part new
+    → Stays (hashed_of base part table) (hashed_of last new table) refusal
+    → Stays (part_state base part table) (part_state last new table) refusal
+part_stays base last part new table refusal same_base same stays =
+    let sound = can_view_part-same base.shape last.shape part new (length table) same_base same in
     record {
       space = record {
-        shape = rw shape refl;
-        faults = hashed.space.faults;
-        cause = hashed.space.cause;
-        told =
-            hashed.space.told;
-        twins = λ told. UnlessDisk-map refusal
-            (λ _. record { bottom = λ x h. refl; is_fixed = λ x h. refl }) (hashed.space.twins told);
+        shape = rw sound (ap (λ (shape : Shape). record shape
+            { sound = can_view_part base.shape part (length table) }) stays.space.shape);
+        faults = stays.space.faults;
+        cause = stays.space.cause;
+        told = stays.space.told;
+        twins = λ told. UnlessDisk-map refusal (λ same. record { bottom = same.bottom; is_fixed = same.is_fixed })
+            (stays.space.twins told);
       };
-      cells = hashed.cells;
+      cells = stays.cells;
     }
+
+-- a part is told only where its base is
+pub told_below : (base : State) (part : Part) (table : List ℕ) → IsTrue (part_state base part table).told
+    → IsTrue base.told
+told_below base part table told = told
 
 -- what stays in the base stays in the partition
 pub part_from_base : (base last : State) (part : Part) (table : List ℕ) (refusal : Option Bad)
@@ -223,35 +146,22 @@ pub part_from_base : (base last : State) (part : Part) (table : List ℕ) (refus
     → Stays (part_state base part table) (part_state last part table) refusal
 part_from_base base last part table refusal small view stays =
     let tree = contents_there base part (length table) small view in
-    part_stays base last part table refusal small view stays.space.shape (contents_stay base last part.at part.difi part.dpfs refusal tree stays)
+    let contents = contents_stay base last part.at part.difi part.dpfs refusal tree stays in
+    part_stays base last part part table refusal stays.space.shape (SamePart-same part)
+    (hashed_stay (contents_of base part) (contents_of last part) part.number
+    (master_of table part.difi) part.difi part.ivfc refusal
+    (hashes_there base part table small view) contents)
 
 -- where bytes were found there is one
 pub found_inside : (s base : State) (at most place m : ℕ) → IsTrue base.shape.sound → IsFound s base at most (Ok (place, m))
     → IsInside base.shape place 1
 found_inside s base at most place m sound found = record { sound = sound; inside = omega (arith, found.some, found.in_base) }
 
--- the test passes where a view can be made
-pub can_view_part-true : (base : Shape) (part : Part) (n : ℕ) → CanViewPart base part n → can_view_part base part n ≡ true
-unfolding can_view_part
-can_view_part-true base part n view =
-    and_from _ _ (contents_pass base part.at part.difi part.dpfs view.contents)
-    (and_from _ _ (le-leb _ _ view.difi)
-    (and_from _ _ (le-leb _ _ view.master)
-    (and_from _ _ (ap not (overlap-apart difi_part part.difi.master view.apart))
-    (is_made_for-true part.difi part.ivfc view.made))))
-
--- and only there
-pub true-can_view_part : (base : Shape) (part : Part) (n : ℕ) → can_view_part base part n ≡ true → CanViewPart base part n
-unfolding can_view_part
-true-can_view_part base part n test =
-    let contents = and_parts _ _ test in
-    let difi = and_parts _ _ contents.1 in
-    let master = and_parts _ _ difi.1 in
-    let apart_from_it = and_parts _ _ master.1 in
-    record {
-      contents = contents_hold base part.at part.difi part.dpfs contents.0;
-      difi = leb-true _ _ difi.0;
-      master = leb-true _ _ master.0;
-      apart = apart difi_part part.difi.master (not-true _ apart_from_it.0);
-      made = true-is_made_for part.difi part.ivfc apart_from_it.1;
-    }
+-- a part that hangs on the same can be viewed over a base of the same shape
+pub kept_view : (base last : Shape) (part new : Part) (table later : List ℕ) → last ≡ base → KeepsMarks part new
+    → later ≡ table
+    → CanViewPart base part (length table) → CanViewPart last new (length later)
+kept_view base last part new table later shape kept same view =
+    true-can_view_part last new (length later)
+    (rw same (can_view_part-same base last part new (length table) shape (KeepsMarks-part part new kept)
+    ∙ can_view_part-true base part (length table) view))

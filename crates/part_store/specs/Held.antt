@@ -1,10 +1,13 @@
--- What a view of a partition holds.
-use Rattle.std.specs.Prelude.{◌≡◌, ℕ, List}
+-- What a view of a partition holds, which spots a call on it leaves alone, and which a put may touch.
+use Rattle.std.specs.Prelude.{◌≡◌, ℕ, List, length}
 use Rattle.std.specs.Borrow.{MutBor}
 use Rattle.save_bytes.specs.State.{State}
+use Rattle.save_bytes.specs.Spots.{Spot, Frame}
+use Rattle.dpfs_tree.specs.Picks.{bytes_of}
 use Rattle.part_store.specs.declared.part.Part.{Part}
 use Rattle.part_store.specs.declared.view.PartView.{PartView}
 use Rattle.part_store.specs.Parts.{part_state}
+use Rattle.part_store.specs.Spots.{SamePart, KeepsMarks, PartSpot, PartLands}
 
 -- what a contract sees of a view over a base of which this is seen
 abbrev pub shown : {S : Type 0} → (S → State) → PartView S → State
@@ -19,10 +22,23 @@ pub record IsPartViewOf {S : Type 0} (view : PartView S) (base : MutBor S) (part
   pub same_table : view.table.ghost_name ≡ table.ghost_name
   pub table_now : view.table.now ≡ table.now
 
--- the same references; the base may have changed, and the part and the table have not
+-- the same references, as many marks, and a table as long; the base, the marks and the table's bytes may have changed
 pub record SamePartView {S : Type 0} (old new : PartView S) : Type 0 where
   pub same_base : new.base.ghost_name ≡ old.base.ghost_name
   pub same_part : new.part.ghost_name ≡ old.part.ghost_name
-  pub part_now : new.part.now ≡ old.part.now
+  pub part : SamePart old.part.now new.part.now
   pub same_table : new.table.ghost_name ≡ old.table.ghost_name
-  pub table_now : new.table.now ≡ old.table.now
+  pub table_len : length new.table.now ≡ length old.table.now
+
+-- a block's mark was left alone, or the table and all of the part but what it remembers
+abbrev pub PartOwn : {S : Type 0} → Spot → PartView S → PartView S → Type 0
+PartOwn Frame old new = KeepsMarks old.part.now new.part.now × (new.table.now ≡ old.table.now)
+PartOwn spot old new = PartSpot spot old.part.now new.part.now
+
+-- from the one view to the other this spot was left alone
+abbrev pub PartKeeps : {S : Type 0} → (Spot → S → S → Type 0) → Spot → PartView S → PartView S → Type 0
+PartKeeps keeps spot old new = SamePartView old new × PartOwn spot old new × keeps spot old.base.now new.base.now
+
+-- which spots a put into a view may touch
+abbrev pub part_lands : {S : Type 0} → (S → State) → (S → ℕ → Spot → Type 0) → PartView S → ℕ → Spot → Type 0
+part_lands states lands view = PartLands (bytes_of (states view.base.now).cells) (lands view.base.now) view.part.now

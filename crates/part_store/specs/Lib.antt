@@ -1,4 +1,7 @@
 pub mod Parts
-pub mod Held
+pub mod PartLaws
 pub mod Spots
 pub mod SpotLaws
+pub mod Calls
+pub mod Held
+pub mod ViewLaws

@@ -47,6 +47,10 @@ abbrev pub part_state : State → Part → List ℕ → State
 part_state base part table =
     record (hashed_of base part table) { shape = record (hashed_of base part table).shape { sound = can_view_part base.shape part (length table) } }
 
+-- nothing is remembered of a part: its cells are told wherever those of a base are
+abbrev pub HasNoMemory : Part → Type 0
+HasNoMemory part = (base : State) (table : List ℕ) → (part_state base part table).told ≡ base.told
+
 -- what is told of a block of the partition
 abbrev pub status_in : State → Part → List ℕ → ℕ → ℕ → Status
 status_in base part table level block =

@@ -6,12 +6,12 @@ ghost use Rattle.std.specs.Io.BufRead.{Rests};
 ghost use Rattle.std.specs.Result.{result_err};
 ghost use Rattle.save_bytes.specs.Refusals.{NeverDamaged};
 ghost use Rattle.save_bytes.specs.Answers.{IsPiece};
-ghost use Rattle.save_bytes.specs.Reads.{Reads};
 ghost use Rattle.ivfc_tree.specs.Levels.{HasBlock, level4_of};
 ghost use Rattle.ivfc_tree.specs.Paths.{block_state};
 ghost use Rattle.ivfc_tree.specs.View.{CanViewHashes, view_state, IsVerified, status_of};
 ghost use Rattle.dpfs_tree.specs.Held.{shown_contents, ContentsKeep, contents_land};
 ghost use Rattle.part_store.specs.Parts.{CanViewPart, part_state, status_in, IsFound};
+ghost use Rattle.part_store.specs.Calls.{ReadsHashed, ReadsPart};
 
 use crate::part::Part;
 use difi::Difi;
@@ -33,9 +33,8 @@ fn verify_in<S: Space>(
     requires inside { at + 1 ≤ difi.now.ivfc4.size }
     requires some { 1 ≤ most }
     ensures verified { IsVerified (view_state (S.state contents.old) number master.old difi.now state.old) at most result }
-    ensures reads { Reads S.state S.keeps S.lands contents.old contents.new (result_err result) }
-    ensures master { master.new ≡ master.old }
-    ensures state { state.new ≡ state.old }
+    ensures left { ReadsHashed S.state S.keeps S.lands number difi.now contents.old contents.new master.old master.new state.old state.new
+        (result_err result) }
 {
     let mut view = IvfcView::new(contents, number, difi, master, state);
     view.verify(at, most)
@@ -53,12 +52,11 @@ fn status_over<S: Space>(
 ) -> Result<Status, Bad>
     requires view { CanViewHashes (S.state contents.old).shape difi.now (length master.old) state.old }
     requires there { HasBlock difi.now level block }
-    ensures status { IsTrue (S.state contents.old).told → IfOk result (λ status. status
+    ensures status { IsTrue (view_state (S.state contents.old) number master.old difi.now state.old).told → IfOk result (λ status. status
         ≡ status_of (block_state (S.state contents.old).cells master.old difi.now state.old level block)) }
     ensures plain { NeverDamaged (result_err result) }
-    ensures reads { Reads S.state S.keeps S.lands contents.old contents.new (result_err result) }
-    ensures master { master.new ≡ master.old }
-    ensures state { state.new ≡ state.old }
+    ensures left { ReadsHashed S.state S.keeps S.lands number difi.now contents.old contents.new master.old master.new state.old state.new
+        (result_err result) }
 {
     let mut view = IvfcView::new(contents, number, difi, master, state);
     view.status(level, block)
@@ -74,12 +72,10 @@ pub(crate) fn status<S: Space>(
 ) -> Result<Status, Bad>
     requires view { CanViewPart (S.state base.old).shape part.old (length table.old) }
     requires there { HasBlock part.old.difi level block }
-    ensures status { IsTrue (S.state base.old).told
+    ensures status { IsTrue (part_state (S.state base.old) part.old table.old).told
         → IfOk result (λ status. status ≡ status_in (S.state base.old) part.old table.old level block) }
     ensures plain { NeverDamaged (result_err result) }
-    ensures reads { Reads S.state S.keeps S.lands base.old base.new (result_err result) }
-    ensures part { part.new ≡ part.old }
-    ensures table { table.new ≡ table.old }
+    ensures left { ReadsPart S.state S.keeps S.lands base.old base.new part.old part.new table.old table.new (result_err result) }
 {
     let start = (part.difi.place + part.difi.master.at) as usize;
     let end = start + part.difi.master.size as usize;
@@ -123,9 +119,8 @@ fn find_in<S: Space>(
     requires some { 1 ≤ most }
     ensures found { IsFound (view_state (shown_contents S.state contents.old) number master.old difi.now state.old)
         (S.state contents.new.base.now) at most result }
-    ensures reads { Reads (shown_contents S.state) (ContentsKeep S.keeps) (contents_land S.state S.lands) contents.old contents.new (result_err result) }
-    ensures master { master.new ≡ master.old }
-    ensures state { state.new ≡ state.old }
+    ensures left { ReadsHashed (shown_contents S.state) (ContentsKeep S.keeps) (contents_land S.state S.lands) number difi.now contents.old contents.new
+        master.old master.new state.old state.new (result_err result) }
 {
     let most = match verify_in(contents, number, difi, master, state, at, most) {
         Ok(most) => most,
@@ -147,9 +142,7 @@ pub(crate) fn find<S: Space>(
     requires inside { at + 1 ≤ part.old.difi.ivfc4.size }
     requires some { 1 ≤ most }
     ensures found { IsFound (part_state (S.state base.old) part.old table.old) (S.state base.new) at most result }
-    ensures reads { Reads S.state S.keeps S.lands base.old base.new (result_err result) }
-    ensures part { part.new ≡ part.old }
-    ensures table { table.new ≡ table.old }
+    ensures left { ReadsPart S.state S.keeps S.lands base.old base.new part.old part.new table.old table.new (result_err result) }
 {
     let start = (part.difi.place + part.difi.master.at) as usize;
     let end = start + part.difi.master.size as usize;
@@ -177,9 +170,8 @@ pub fn lend<'a, S: Space>(
     requires inside { at + 1 ≤ part.old.difi.ivfc4.size }
     requires some { 1 ≤ most }
     ensures piece { IsPiece (part_state (S.state base.old) part.old table.old) at most result }
-    ensures part { part.new ≡ part.old }
-    ensures table { table.new ≡ table.old }
-    ensures* after { sem 𝓛 (Rests S.row base.entry (λ new. Reads S.state S.keeps S.lands base.old new (result_err result))) }
+    ensures* after { sem 𝓛 (Rests S.row base.entry (λ new.
+        ReadsPart S.state S.keeps S.lands base.old new part.old part.new table.old table.new (result_err result))) }
 {
     let (place, most) = match find(&mut *base, part, table, at, most) {
         Ok(run) => run,

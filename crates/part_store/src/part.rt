@@ -25,6 +25,8 @@ pub struct Part {
 }
 
 impl Part {
+    ghost use Rattle.part_store.specs.Parts.{HasNoMemory};
+
     /// The partition that begins at `part_at` in the image, with nothing changed.
     ///
     /// # Errors
@@ -44,6 +46,7 @@ impl Part {
         // A block is good exactly where it has a hash path, and is otherwise named by the topmost level that fails.
         ensures paths { IfOk result (λ part. (cells : ℕ → Cell) (master : List ℕ) (level block : ℕ)
             → IsStateOf cells master difi.now level block (block_state cells master difi.now part.ivfc level block)) }
+        ensures told { IfOk result HasNoMemory }
     {
         Ok(Part {
             number,

@@ -7,11 +7,10 @@ ghost use Rattle.std.specs.Result.{result_err};
 ghost use Rattle.save_bytes.specs.State.{IsInside};
 ghost use Rattle.save_bytes.specs.Refusals.{NeverDamaged};
 ghost use Rattle.save_bytes.specs.Answers.{IsPiece};
-ghost use Rattle.save_bytes.specs.Stays.{Stays};
 ghost use Rattle.save_bytes.specs.Reads.{Reads};
 ghost use Rattle.ivfc_tree.specs.Levels.{HasBlock};
 ghost use Rattle.part_store.specs.Parts.{CanViewPart, status_in, IsFound};
-ghost use Rattle.part_store.specs.Held.{shown, IsPartViewOf, SamePartView};
+ghost use Rattle.part_store.specs.Held.{shown, IsPartViewOf, PartKeeps, part_lands};
 ghost use Rattle.part_store.specs.contracts.view.PartView.{the_row};
 ghost use mir.Syntax.{named};
 
@@ -51,9 +50,8 @@ impl<'a, S: Space> PartView<'a, S> {
         requires inside { IsInside (shown S.state self.old).shape at 1 }
         requires some { 1 ≤ most }
         ensures found { IsFound (shown S.state self.old) (S.state self.new.base.now) at most result }
-        ensures stays { Stays (shown S.state self.old) (shown S.state self.new) (result_err result) }
+        ensures reads { Reads (shown S.state) (PartKeeps S.keeps) (part_lands S.state S.lands) self.old self.new (result_err result) }
         ensures base { Reads S.state S.keeps S.lands self.old.base.now self.new.base.now (result_err result) }
-        ensures same { SamePartView self.old self.new }
     {
         let base = &mut *self.base;
         let part = &mut *self.part;
@@ -68,9 +66,8 @@ impl<'a, S: Space> PartView<'a, S> {
         requires some { 1 ≤ most }
         ensures piece { IsPiece (shown S.state self.old) at most result }
         ensures* after { sem 𝓛 (Rests (the_row (record { mir = named 0; lft = [] }) S.row) self.entry (λ new.
-            Stays (shown S.state self.old) (shown S.state new) (result_err result)
-            × Reads S.state S.keeps S.lands self.old.base.now new.base.now (result_err result)
-            × SamePartView self.old new)) }
+            Reads (shown S.state) (PartKeeps S.keeps) (part_lands S.state S.lands) self.old new (result_err result)
+            × Reads S.state S.keeps S.lands self.old.base.now new.base.now (result_err result))) }
     {
         let (place, most) = match self.locate(at, most) {
             Ok(run) => run,
@@ -88,9 +85,8 @@ impl<'a, S: Space> PartView<'a, S> {
         ensures status { IsTrue (shown S.state self.old).told → IfOk result (λ status. status
             ≡ status_in (S.state self.old.base.now) self.old.part.now self.old.table.now level block) }
         ensures plain { NeverDamaged (result_err result) }
-        ensures stays { Stays (shown S.state self.old) (shown S.state self.new) (result_err result) }
+        ensures reads { Reads (shown S.state) (PartKeeps S.keeps) (part_lands S.state S.lands) self.old self.new (result_err result) }
         ensures base { Reads S.state S.keeps S.lands self.old.base.now self.new.base.now (result_err result) }
-        ensures same { SamePartView self.old self.new }
     {
         let base = &mut *self.base;
         let part = &mut *self.part;

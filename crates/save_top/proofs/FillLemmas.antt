@@ -1,5 +1,5 @@
 -- What copying out of a store leaves of its disk.
-use Rattle.std.proofs.Common.{◌≡◌, ℕ, Option, refl}
+use Rattle.std.proofs.Common.{◌≡◌, ◌∙◌, ℕ, IsTrue, Option, refl}
 use Rattle.save_bytes.specs.declared.space.Bad.{Bad}
 use Rattle.save_bytes.specs.Spots.{Spot}
 use Rattle.save_bytes.specs.Reads.{Reads}
@@ -11,12 +11,13 @@ use Rattle.page_image.proofs.QuietLemmas.{quiet_where_clean}
 use Rattle.container.specs.declared.open.Container.{Container}
 use Rattle.container.specs.declared.store.Store.{Store}
 use Rattle.container.specs.StoreHeld.{shown, store_of, IsStoreOf, StoreKeeps}
-use Rattle.container.proofs.StoreLemmas.{store_told}
+use Rattle.container.specs.Stores.{HaveNoMemory}
 use Rattle.std.specs.Borrow.{MutBor}
 
--- a store tells its cells where its disk tells its trace
-pub store_told_by : (disk : disks.State) (container : Container) → (store_of disk container).told ≡ tells disk
-store_told_by disk container = store_told (image_state disk container.image) container.parts.first container.table.items container.parts.second
+-- of a container that remembers nothing the store tells its cells where its disk tells its trace
+pub told_unread : (disk : disks.State) (container : Container) → HaveNoMemory container.parts → IsTrue (tells disk)
+    → IsTrue (store_of disk container).told
+told_unread disk container none told = none (image_state disk container.image) container.table.items ∙ told
 
 module _ {D : Type 0} (states : D → disks.State) where
   -- a store shows what its container's store shows

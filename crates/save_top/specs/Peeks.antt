@@ -1,10 +1,11 @@
 -- A block of an open image's store.
-use Rattle.std.specs.Prelude.{◌≡◌, ℕ, ◌+◌, ◌-◌, ◌*◌, ◌<◌, ◌≤◌, min, ◌==◌, List, if◌then◌else◌, ⊤}
+use Rattle.std.specs.Prelude.{◌≡◌, ℕ, ◌+◌, ◌-◌, ◌*◌, ◌<◌, ◌≤◌, min, ◌==◌, List, IsTrue, if◌then◌else◌, ⊤}
 use Rattle.save_bytes.specs.declared.space.Bad.{Bad}
 use Rattle.save_bytes.specs.declared.space.Bad.TheVariants.{Disk as DiskFailed, Damaged as DamagedAt}
 use Rattle.difi.specs.declared.descriptor.Difi.{Difi}
 use Rattle.difi.specs.Places.{block_size, blocks_of}
 use Rattle.save_disk.specs.State as disks
+use Rattle.save_disk.specs.Tells.{tells}
 use Rattle.page_image.specs.WriteOuts.{IsClean}
 use Rattle.container.specs.Signers.{Signing}
 use Rattle.container.specs.declared.open.Container.{Container}
@@ -12,18 +13,21 @@ use Rattle.container.specs.declared.parts.Parts.{Parts}
 use Rattle.container.specs.Parts.{part_count}
 use Rattle.container.specs.Containers.{IsOpenOf, IsWholeContainer, OfPart}
 use Rattle.container.specs.ImageCells.{IsHeld}
+use Rattle.container.specs.StoreHeld.{store_of}
 use Rattle.save_top.specs.declared.peek.Miss.{Miss}
 use Rattle.save_top.specs.declared.peek.Miss.TheVariants.{Memory, Disk, NoPart, NoBlock, Damaged}
 use Rattle.save_top.specs.declared.peek.Place.{Place}
 use Rattle.save_top.specs.Texts.{no_part_line, no_block_line, damaged_line}
 use Rattle.save_top.specs.Replies.{Reply, refused}
 
--- a container over its disk holds this image, as it was opened under a signer, and nothing of it was changed
+-- a container over its disk holds this image, as it was opened under a signer, nothing of it was changed, and what is
+-- remembered of it is true
 pub record Holds (sign : Signing) (image : List ℕ) (disk : disks.State) (container : Container) : Type 0 where
   pub whole : IsWholeContainer container
   pub opened : IsOpenOf sign image container
   pub held : IsHeld image disk container.image
   pub clean : IsClean container.image
+  pub told : IsTrue (tells disk) → IsTrue (store_of disk container).told
 
 -- where a part's level four begins in the store
 abbrev pub part_start : Parts → ℕ → ℕ

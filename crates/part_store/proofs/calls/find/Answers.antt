@@ -1,6 +1,7 @@
 use Rattle.std.proofs.Common.{◌≡◌, ◌+◌, ◌-◌, arith, rules}
 use Rattle.std.specs.Result.{result_err}
-use Rattle.part_store.proofs.PartLemmas.{base_reads, found_part}
+use Rattle.part_store.proofs.PartLemmas.{found_part}
+use Rattle.part_store.proofs.AboveLemmas.{reads_part}
 use Rattle.part_store.proofs.calls.find.Goals as goal
 
 pub returns-clause-found : goal.returns-clause-found
@@ -14,12 +15,16 @@ returns-clause-found g c =
     (rw (holds.base_now, holds.same_place, holds.same_difi, holds.state_now, size) at c.find_in.ensures.found) in
     search rules
 
-pub returns-clause-reads : goal.returns-clause-reads
-returns-clause-reads g c =
+pub returns-clause-left : goal.returns-clause-left
+returns-clause-left g c =
     let space = g.S.Space in
     let laws = g.met.S.Space in
-    let contents = c.requires.view.contents in
-    let reads = base_reads space.state space.keeps space.lands laws.keeps_hold laws.keeps_shape laws.keeps_cells laws.keeps_lands
-    c.args.base.now c.new-contents.result c.find_in.new.contents (result_err c.find_in.result)
-    c.new-contents.ensures.holds.base_now contents.sound contents.single c.find_in.ensures.reads in
+    let holds = c.new-contents.ensures.holds in
+    let left = reads_part space.state space.keeps space.lands laws.keeps_hold laws.keeps_shape laws.keeps_cells
+    laws.keeps_lands
+    c.args.base.now c.args.part.now c.args.table.now c.requires.view c.new-contents.result c.find_in.new.contents
+    c.find_in.new.state
+    c.find_in.new.master _
+    (result_err c.find_in.result) holds.base_now holds.same_place holds.same_difi holds.state_now (omega arith)
+    c.find_in.ensures.left in
     search rules

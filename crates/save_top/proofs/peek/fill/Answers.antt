@@ -1,14 +1,14 @@
-use Rattle.std.proofs.Common.{rules, ◌∙◌}
+use Rattle.std.proofs.Common.{rules}
 use Rattle.std.specs.Result.{result_err}
 use Rattle.container.specs.StoreHeld.{store_lands}
-use Rattle.save_top.proofs.FillLemmas.{store_told_by, shown_store, store_quiet, store_steady}
+use Rattle.save_top.proofs.FillLemmas.{shown_store, store_quiet, store_steady}
 use Rattle.save_top.proofs.peek.fill.Goals as goal
 
 pub returns-clause-bytes : goal.returns-clause-bytes
 returns-clause-bytes g c = λ told.
     let same = shown_store g.D.Disk.state c.store-store.result _ _ c.store-store.ensures.holds in
     let bytes = rw same at c.copy.ensures.bytes in
-    bytes (store_told_by (g.D.Disk.state c.args.disk.now) c.args.container.now ∙ told)
+    bytes told
 
 pub returns-clause-quiet : goal.returns-clause-quiet
 returns-clause-quiet g c = λ clean.

@@ -3,7 +3,6 @@ use Rattle.std.proofs.lemmas.Result.{err_from_is_err_and}
 use Rattle.page_image.proofs.ReadLemmas.{written_back}
 use Rattle.save_top.specs.Texts.{block_text}
 use Rattle.save_top.specs.Replies.{done}
-use Rattle.save_top.proofs.FillLemmas.{store_told_by}
 use Rattle.save_top.proofs.PeekLemmas.{miss_by, shown_by, refused_by, place_fits}
 use Rattle.save_top.proofs.peek.show.Goals as goal
 
@@ -26,7 +25,7 @@ returns-in-Err-clause-miss g c = λ sign image told holds.
     let read = rw long at c.in-Err.ensures.read in
     refused_by sign image disk container holds c.requires.disk c.args.part c.args.block c.in_ok-place.place
     c.in_ok-place.ensures.place c.in-Err.bad c.miss_of.result c.miss_of.ensures
-    (read.damaged (store_told_by disk container ∙ told))
+    (read.damaged (holds.told told))
 
 pub returns-in-Ok-block_text-clause-shown : goal.returns-in-Ok-block_text-clause-shown
 returns-in-Ok-block_text-clause-shown g c = λ sign image told holds.
@@ -36,5 +35,6 @@ returns-in-Ok-block_text-clause-shown g c = λ sign image told holds.
     ∙ written_back c.in-Ok.bytes.len c.fill.new.out _ (c.fill.auto.out ∙ c.deref_mut.ensures.len) in
     let long : length c.fill.new.out ≡ c.in_ok-place.place.len = c.fill.auto.out ∙ c.deref_mut.ensures.len ∙ c.in-Ok.ensures.len in
     let shown = shown_by sign image disk container holds c.requires.disk c.args.part c.args.block
-    c.in_ok-place.place c.in_ok-place.ensures.place c.fill.new.out long (c.in_default-fill.ensures.bytes told) in
+    c.in_ok-place.place c.in_ok-place.ensures.place c.fill.new.out long
+    (c.in_default-fill.ensures.bytes (holds.told told)) in
     shown ∙ ap done (ap (λ (l : List ℕ). block_text c.args.part c.args.block l) (sym bytes) ∙ sym c.in-Ok-block_text.ensures)

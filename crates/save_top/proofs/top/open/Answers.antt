@@ -5,6 +5,7 @@ use Rattle.container.specs.Signers.{signing}
 use Rattle.container.specs.Containers.{IsOpenOf}
 use Rattle.container.specs.Openings.{fault_of, IsCaused}
 use Rattle.container.proofs.ReadLemmas.{tells_same, told_same}
+use Rattle.save_top.proofs.FillLemmas.{told_unread}
 use Rattle.save_top.proofs.RunLemmas.{start_told, fault_by}
 use Rattle.save_top.specs.Replies.{reply_by}
 use Rattle.save_top.proofs.top.open.Goals as goal
@@ -24,6 +25,7 @@ returns-in-Ok-clause-opened g c = λ told is fresh.
       opened = subst (λ (image : List ℕ). IsOpenOf sign image container) start (opened.opened sure);
       held = λ x inside. opened.image.bytes (tells_same old new opened.quiet opened.steady.size sure) x inside ∙ ap (λ (l : List ℕ). slice_index l x) after;
       clean = opened.image.clean;
+      told = told_unread new container opened.told;
     }
 
 pub returns-in-Err-clause-failure : goal.returns-in-Err-clause-failure

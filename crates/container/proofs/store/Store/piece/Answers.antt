@@ -1,7 +1,7 @@
-use Rattle.std.proofs.Common.{refl, sym, ◌∙◌, IsTrue}
+use Rattle.std.proofs.Common.{refl, IsTrue}
 use Rattle.page_image.specs.Images.{image_state}
 use Rattle.container.specs.StoreHeld.{shown}
-use Rattle.container.proofs.StoreLemmas.{store_told}
+use Rattle.container.proofs.StoreLemmas.{told_below}
 use Rattle.container.proofs.HeldLemmas.{held_piece}
 use Rattle.container.proofs.store.Store.piece.Goals as goal
 
@@ -13,10 +13,9 @@ returns g c =
     let container = new.container.now in
     let before = c.in-Ok.ensures in
     let image = image_state (states new.disk.now) container.image in
-    let told : IsTrue (shown states store).told
-    → IsTrue image.told = λ is. sym
-    (store_told image container.parts.first container.table.items container.parts.second)
-    ∙ before.reads.stays.space.told is in (
+    let told : IsTrue (shown states store).told → IsTrue image.told =
+    λ is. told_below image container.parts.first container.table.items container.parts.second
+    (before.reads.stays.space.told is) in (
       (refl, λ _. tt, before.reads),
       record {
         piece = held_piece (shown states store) (states new.disk.now) container.image c.args.at c.args.most c.in-Ok.run'.0 c.in-Ok.run'.1

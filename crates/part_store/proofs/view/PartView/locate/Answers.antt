@@ -1,6 +1,7 @@
-use Rattle.std.proofs.Common.{length}
+use Rattle.std.proofs.Common.{length, refl}
 use Rattle.std.specs.Result.{result_err}
-use Rattle.part_store.proofs.PartLemmas.{true-can_view_part, part_from_base}
+use Rattle.part_store.specs.PartLaws.{true-can_view_part}
+use Rattle.part_store.proofs.AboveLemmas.{part_read}
 use Rattle.part_store.proofs.view.PartView.locate.Goals as goal
 
 pub find-requires-clause-view : goal.find-requires-clause-view
@@ -8,12 +9,9 @@ find-requires-clause-view g c =
     let view = c.args.self.now in
     true-can_view_part (g.S.Space.state view.base.now).shape view.part.now (length view.table.now) c.requires.inside.sound
 
-pub returns-clause-stays : goal.returns-clause-stays
-returns-clause-stays g c =
-    let view = c.args.self.now in
-    let states = g.S.Space.state in
-    let can = true-can_view_part (states view.base.now).shape view.part.now (length view.table.now) c.requires.inside.sound in
-    let small = g.met.S.Space.size_fits view.base.now can.contents.sound in
-    rw (c.find.ensures.part, c.find.ensures.table)
-    (part_from_base (states view.base.now) (states c.find.new.base) view.part.now view.table.now
-    (result_err c.find.result) small can c.find.ensures.reads.stays)
+pub returns-clause-reads : goal.returns-clause-reads
+returns-clause-reads g c =
+    let space = g.S.Space in
+    part_read space.state space.keeps space.lands c.args.self.now _
+    (result_err c.find.result) g.met.S.Space.size_fits refl refl refl
+    c.find.ensures.left c.requires.inside.sound

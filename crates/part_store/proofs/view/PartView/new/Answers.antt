@@ -1,5 +1,5 @@
 use Rattle.std.proofs.Common.{length}
-use Rattle.part_store.proofs.PartLemmas.{can_view_part-true}
+use Rattle.part_store.specs.PartLaws.{can_view_part-true}
 use Rattle.part_store.proofs.view.PartView.new.Goals as goal
 
 pub returns-clause-sound : goal.returns-clause-sound
