@@ -5,7 +5,7 @@ use Rattle.save_bytes.specs.Cells.{Cell}
 use Rattle.save_bytes.proofs.CellLemmas.{bytes_in-same}
 use Rattle.difi.specs.declared.descriptor.Difi.{Difi}
 use Rattle.difi.specs.Places.{block_size}
-use Rattle.ivfc_tree.specs.Levels.{level_of, len_of, ivfc_level, padded_block, hash_entry, parent_of}
+use Rattle.ivfc_tree.specs.Levels.{level_of, ivfc_level, padded_block, hash_entry, parent_of, len_of}
 use Rattle.ivfc_tree.specs.Paths.{marked_state, path_state}
 use Rattle.ivfc_tree.proofs.HashLemmas.{padded_block-is}
 

@@ -1,6 +1,7 @@
 -- A partition's cells through both of its trees.
-use Rattle.std.proofs.Common.{◌≡◌, ℕ, ◌+◌, ◌^◌, ◌<◌, IsTrue, List, length}
+use Rattle.std.proofs.Common.{Bool, true, false, ◌&&◌, suc, ◌≡◌, ℕ, ◌+◌, ◌^◌, ◌<◌, IsTrue, List, length}
 use Rattle.std.proofs.Common.{Option, Some, None, Result, Ok, Err, refl, sym, ◌∙◌, ap, subst, arith}
+use Rattle.std.proofs.lemmas.Bool.{and_parts}
 use Rattle.save_bytes.specs.declared.space.Bad.{Bad}
 use Rattle.save_bytes.specs.Cells.{Cell, Byte, Blank, Spoilt, IsByte}
 use Rattle.save_bytes.specs.CellNumbers.{value_of}
@@ -22,6 +23,8 @@ use Rattle.ivfc_tree.specs.Levels.{level_of, level4_of}
 use Rattle.ivfc_tree.specs.declared.state.IvfcState.{IvfcState}
 use Rattle.ivfc_tree.specs.View.{HasTree as HasHashes, IsVerified}
 use Rattle.ivfc_tree.specs.View.{view_state as hashed_state}
+use Rattle.ivfc_tree.specs.Marks.{is_marked, IsEmpty}
+use Rattle.ivfc_tree.specs.KnownLaws.{remembers-true}
 use Rattle.ivfc_tree.specs.ViewLaws.{place_inside}
 use Rattle.ivfc_tree.proofs.LevelLemmas.{level4_is}
 use Rattle.ivfc_tree.proofs.ViewLemmas.{byte_cell, view_stays as hashed_stay}
@@ -29,7 +32,7 @@ use Rattle.part_store.specs.declared.part.Part.{Part}
 use Rattle.part_store.specs.Spots.{SamePart, KeepsMarks}
 use Rattle.part_store.specs.SpotLaws.{SamePart-same, KeepsMarks-part, can_view_part-same}
 use Rattle.part_store.specs.PartLaws.{contents_there, hashes_there, can_view_part-true, true-can_view_part}
-use Rattle.part_store.specs.Parts.{master_of, contents_of, hashed_of, part_state, CanViewPart, can_view_part, IsFound}
+use Rattle.part_store.specs.Parts.{HasNoMemory, master_of, contents_of, hashed_of, part_state, CanViewPart, can_view_part, IsFound}
 
 -- the place of a byte of level four in the contents
 pub place_there : (base : State) (part : Part) (table : List ℕ) (at : ℕ) → base.shape.size < 2 ^ 64
@@ -72,14 +75,15 @@ module _ (first mid last : State) (part_at : ℕ) (difi : Difi) (dpfs : DpfsStat
         inside = omega (arith, located.bounded, verified.inside);
         in_base = omega (arith, located.in_base, size);
         cells = λ told k h. (
-            let told_mid : IsTrue mid.told = stays.space.told told in
+            let below : IsTrue first.told = (and_parts _ _ told).0 in
+            let told_mid : IsTrue mid.told = stays.space.told below in
             let within : at + k < difi.ivfc4.size = omega (arith, h, located.bounded, verified.inside) in
             let there : (level4_of difi).at + at + k ≡ (level_of difi 4).at + (at + k) = omega (arith, four) in
             let in_first : (level4_of difi).at + at + k < first.shape.size =
             omega (arith, there, place_inside first.shape difi (length master) (at + k) tree within) in
             let same : last.cells (place + k) ≡ mid.cells (place + k) = later.cells told_mid (place + k) (omega (arith, h, located.in_base)) in
             let shown : first.cells ((level4_of difi).at + at + k) ≡ last.cells (place + k) =
-            sym (stays.cells told ((level4_of difi).at + at + k) in_first) ∙ ap mid.cells (located.places told_mid k h) ∙ sym same in
+            sym (stays.cells below ((level4_of difi).at + at + k) in_first) ∙ ap mid.cells (located.places told_mid k h) ∙ sym same in
             let byte : IsByte (last.cells (place + k)) = subst IsByte (sym same) (bytes told_mid (place + k)) in
             byte_cell _ number _ (verified.bytes told k (omega (arith, h, located.bounded)))
             ∙ ap (λ (x : ℕ). Byte (value_of (first.cells x))) (sym there)
@@ -135,10 +139,24 @@ part_stays base last part new table refusal same_base same stays =
       cells = stays.cells;
     }
 
+-- of a part of which nothing is kept in the hash tree nothing is remembered
+pub no_memory : (part : Part) → IsEmpty part.ivfc → HasNoMemory part
+no_memory part empty base table =
+    let marked : (level block : ℕ) → is_marked part.ivfc level block ≡ false = λ level block. rw (empty level block) refl in
+    let contents = contents_of base part in
+    rw (remembers-true contents.cells (master_of table part.difi) part.difi part.ivfc (record {
+      closed = λ upper block some there is. absurd (let no = sym (marked (suc upper) block) ∙ is in cc);
+      agrees = λ level block there. rw (empty level block) tt;
+    })) (and_true base.told)
+  where
+    and_true : (b : Bool) → (b && true) ≡ b
+    and_true true = refl
+    and_true false = refl
+
 -- a part is told only where its base is
 pub told_below : (base : State) (part : Part) (table : List ℕ) → IsTrue (part_state base part table).told
     → IsTrue base.told
-told_below base part table told = told
+told_below base part table told = (and_parts _ _ told).0
 
 -- what stays in the base stays in the partition
 pub part_from_base : (base last : State) (part : Part) (table : List ℕ) (refusal : Option Bad)

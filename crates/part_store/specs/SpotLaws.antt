@@ -14,7 +14,7 @@ use Rattle.ivfc_tree.specs.Marks.{AsManyMarks, IsMadeFor, is_made_for}
 use Rattle.ivfc_tree.specs.ViewLaws.{is_made_for-true, true-is_made_for}
 use Rattle.ivfc_tree.specs.View.{HasLevels}
 use Rattle.ivfc_tree.specs.Held.{HashLands}
-use Rattle.ivfc_tree.specs.KeepLaws.{AsManyMarks-same, AsManyMarks-join, HashLands-before}
+use Rattle.ivfc_tree.specs.KeepLaws.{is_made_for-many, AsManyMarks-same, AsManyMarks-join, HashLands-before}
 use Rattle.part_store.specs.declared.part.Part.{Part}
 use Rattle.part_store.specs.Parts.{contents_of, can_view_part}
 use Rattle.part_store.specs.Spots.{SamePart, KeepsPuts, KeepsMarks, PartSpot, PartLands}
@@ -93,11 +93,7 @@ PartSpot-join (Mark number level block) a b c same h k = λ own.
 PartSpot-join Frame a b c same h k = KeepsMarks-join a b c h k
 PartSpot-join spot a b c same h k = tt
 
--- a state that has as many marks passes the same test
-is_made_for-many : (difi : Difi) (old new : IvfcState) → AsManyMarks old new
-    → is_made_for difi new ≡ is_made_for difi old
-is_made_for-many difi old new many = rw (many.marks1, many.marks2, many.marks3, many.marks4) refl
-
+-- a state that has as many marks is made for a tree as well
 pub IsMadeFor-many : (difi : Difi) (old new : IvfcState) → AsManyMarks old new → IsMadeFor difi old → IsMadeFor difi new
 IsMadeFor-many difi old new many made =
     true-is_made_for difi new (is_made_for-many difi old new many ∙ is_made_for-true difi old made)
