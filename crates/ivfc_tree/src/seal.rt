@@ -1,10 +1,8 @@
 //! Sealing: the digests of marked blocks are written into the levels above them and into the master hash.
 
-ghost use Rattle.std.specs.Prelude.{◌≡◌, ℕ, ◌+◌, ◌-◌, ◌*◌, ◌<◌, ◌≤◌, length, take, drop, true, IsTrue, IsFalse};
+ghost use Rattle.std.specs.Prelude.{◌≡◌, ◌+◌, ◌-◌, ◌*◌, ◌<◌, ◌≤◌, length, take, drop, IsTrue};
 ghost use Rattle.std.specs.Result.{result_err};
 ghost use Rattle.sha2.specs.Sha256.{sha256};
-ghost use Rattle.save_bytes.specs.Cells.{AreBytesAt};
-ghost use Rattle.save_bytes.specs.State.{IsWritable};
 ghost use Rattle.save_bytes.specs.Refusals.{IfDone};
 ghost use Rattle.save_bytes.specs.Writes.{IsWithin, Writes};
 ghost use Rattle.difi.specs.Places.{blocks_of};
@@ -16,22 +14,10 @@ ghost use Rattle.ivfc_tree.specs.Seals.{SealsTree};
 
 use crate::hashing::block_digest;
 use crate::levels::{block_size, level_of};
+use crate::prepare::put_bytes;
 use crate::state::IvfcState;
 use difi::Difi;
 use save_bytes::{Bad, Space};
-
-// Puts an entry into a base whose cells are all bytes.
-fn put_entry<S: Space>(base: &mut S, at: u64, entry: &[u8]) -> Result<(), Bad>
-    requires writable { IsWritable (S.state base.old).shape at (length entry.now) }
-    requires plain { IsTrue (S.state base.old).shape.plain }
-    requires single { IsFalse (S.state base.old).shape.doubled }
-    ensures bytes { IsTrue (S.state base.old).told
-        → IfDone (result_err result) (AreBytesAt (S.state base.new).cells at entry.now) }
-    ensures writes { Writes S.state S.keeps S.lands (IsWithin at (length entry.now)) base.old base.new
-        (result_err result) }
-{
-    base.put(at, entry)
-}
 
 // Puts the entry of a block of level 1 into the master hash.
 fn put_first(master: &mut [u8], block: u64, entry: &[u8; 32])
@@ -68,7 +54,7 @@ fn seal_block<S: Space>(
         put_first(master, block, &digest);
         return Ok(());
     }
-    put_entry(base, level_of(difi, level - 1).at + 32 * block, &digest)
+    put_bytes(base, level_of(difi, level - 1).at + 32 * block, &digest)
 }
 
 // Seals a block, unless it is not marked.
