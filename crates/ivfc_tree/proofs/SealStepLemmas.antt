@@ -116,9 +116,6 @@ first_sites difi marked level x (block, (here, entry)) =
 pub marked-counts : (s t : IvfcState) → CountsOn s t → is_marked t ≡ is_marked s
 marked-counts s t counts = ap (λ (m : Marks). λ level block. is_put (mark_in m level block)) counts.marks
 
-pub CountsOn-same : (s : IvfcState) → CountsOn s s
-CountsOn-same s = record { marks = refl; counted = omega arith }
-
 pub CountsOn-join : (s t u : IvfcState) → CountsOn s t → CountsOn t u → CountsOn s u
 CountsOn-join s t u h k = record { marks = k.marks ∙ h.marks; counted = omega (arith, h.counted, k.counted) }
 

@@ -5,7 +5,9 @@ use Rattle.save_bytes.specs.State.{Shape}
 use Rattle.difi.specs.declared.descriptor.Difi.{Difi}
 use Rattle.difi.specs.Places.{block_size}
 use Rattle.ivfc_tree.specs.declared.path.BlockState.TheVariants.{Good, Blank as BlankAt}
+use Rattle.ivfc_tree.specs.declared.state.IvfcState.{IvfcState}
 use Rattle.ivfc_tree.specs.Levels.{level_of, HasBlock, parent_of}
+use Rattle.ivfc_tree.specs.Marks.{is_marked}
 use Rattle.ivfc_tree.specs.Paths.{own_state, marked_state, path_state}
 
 -- Of a tree as the transaction began and as it is now: a block that is not marked tells by its entry and its bytes what
@@ -19,6 +21,11 @@ pub record CameFrom (difi : Difi) (marked : ℕ → ℕ → Bool) (was : ℕ →
       → marked (suc level) (parent_of difi (suc level) block) ≡ true
       → (path_state was was_master difi (suc level) (parent_of difi (suc level) block) ≡ Good)
       ⊎ (own_state cells master difi (suc (suc level)) block ≡ BlankAt (suc (suc level)) block)
+
+-- a transaction begins with a state in which each tree came from itself
+abbrev pub IsAtOrigin : IvfcState → Type 0
+IsAtOrigin state = (difi : Difi) (cells : ℕ → Cell) (master : List ℕ)
+    → CameFrom difi (is_marked state) cells master cells master
 
 -- a block tells what it told, and if the block above it was marked just now, that was good
 pub record TellsSame (difi : Difi) (marked still : ℕ → ℕ → Bool) (cells : ℕ → Cell) (master : List ℕ) (new : ℕ → Cell)

@@ -8,6 +8,7 @@ ghost use Rattle.ivfc_tree.specs.Marks.{mark_at, is_marked, level_marks, IsMadeF
 ghost use Rattle.ivfc_tree.specs.Known.{recalled_by, mark_for, Counts};
 ghost use Rattle.ivfc_tree.specs.Paths.{IsStateOf, block_state};
 ghost use Rattle.difi.specs.declared.descriptor.Difi.{Difi};
+ghost use Rattle.ivfc_tree.specs.Origins.{IsAtOrigin};
 ghost use Rattle.ivfc_tree.specs.Settles.{settled, dropped, TurnsMarks, SettlesHashed, RemembersOrigin};
 
 use crate::marks::{BlockMark, Marks};
@@ -33,6 +34,7 @@ impl IvfcState {
         requires { HasBlockSizes difi.now }
         ensures made { IfOk result (IsMadeFor difi.now) }
         ensures unmarked { IfOk result HasNoMarks }
+        ensures origin { IfOk result IsAtOrigin }
         ensures empty { IfOk result IsEmpty }
         ensures none { IfOk result (λ state. state.hashed ≡ 0) }
         // A block is good exactly where it has a hash path. Where it has none, it is named by the topmost level that
@@ -111,6 +113,7 @@ impl IvfcState {
         ensures turned { TurnsMarks settled self.old self.new }
         ensures made { (difi : Difi) → IsMadeFor difi self.old → IsMadeFor difi self.new }
         ensures unmarked { HasNoMarks self.new }
+        ensures origin { IsAtOrigin self.new }
         ensures settles { SettlesHashed self.old self.new }
     {
         self.marks.end(true);
@@ -122,6 +125,7 @@ impl IvfcState {
         ensures turned { TurnsMarks dropped self.old self.new }
         ensures made { (difi : Difi) → IsMadeFor difi self.old → IsMadeFor difi self.new }
         ensures unmarked { HasNoMarks self.new }
+        ensures origin { IsAtOrigin self.new }
         ensures paths { (cells : ℕ → Cell) (master : List ℕ) (difi : Difi) (level block : ℕ)
             → IsStateOf cells master difi level block (block_state cells master difi self.new level block) }
         ensures remembers { RemembersOrigin self.old self.new }
