@@ -25,7 +25,7 @@ use Rattle.part_store.specs.Calls.{ReadsHashed, ReadsPart}
 use Rattle.part_store.proofs.PartLemmas.{told_below, part_stays, part_from_base, kept_view}
 
 -- a table whose master hash is as before
-same_table : (start n m : ℕ) (table part : List ℕ) → start + n ≤ length table → m ≡ n
+pub same_table : (start n m : ℕ) (table part : List ℕ) → start + n ≤ length table → m ≡ n
     → part ≡ take n (drop start table)
     → put_mid start m table part ≡ table
 same_table start n m table part inside is same =
@@ -164,7 +164,7 @@ module _ {S : Type 0} (states : S → State) (keeps : Spot → S → S → Type 
           spots = λ told spot. (hold, own spot, reads.spots (below told) spot);
           reach = λ told. UnlessDisk-both refusal _ _ _
               (λ (same : SameCells (states s.base.now) (states t.base.now)).
-              kept_lands (states s.base.now) (states t.base.now) s.part.now t.part.now left.kept contents levels same
+              kept_lands (states s.base.now) (states t.base.now) s.part.now t.part.now (KeepsMarks-part s.part.now t.part.now left.kept) contents levels same
               (lands s.base.now)
               (lands t.base.now))
               (reads.stays.cells (below told)) (reads.reach (below told));

@@ -31,7 +31,8 @@ use Rattle.ivfc_tree.proofs.ViewLemmas.{byte_cell, view_stays as hashed_stay}
 use Rattle.part_store.specs.declared.part.Part.{Part}
 use Rattle.part_store.specs.Spots.{SamePart, KeepsMarks}
 use Rattle.part_store.specs.SpotLaws.{SamePart-same, KeepsMarks-part, can_view_part-same}
-use Rattle.part_store.specs.PartLaws.{contents_there, hashes_there, can_view_part-true, true-can_view_part}
+use Rattle.ivfc_tree.specs.ViewLaws.{can_view_hashes-true}
+use Rattle.part_store.specs.PartLaws.{hash_view, contents_there, hashes_there, can_view_part-true, true-can_view_part}
 use Rattle.part_store.specs.Parts.{HasNoMemory, master_of, contents_of, hashed_of, part_state, CanViewPart, can_view_part, IsFound}
 
 -- the place of a byte of level four in the contents
@@ -183,3 +184,13 @@ kept_view base last part new table later shape kept same view =
     true-can_view_part last new (length later)
     (rw same (can_view_part-same base last part new (length table) shape (KeepsMarks-part part new kept)
     ∙ can_view_part-true base part (length table) view))
+
+-- of a part that can be viewed a contract sees what it sees of the view through its hash tree
+pub part_is_hashed : (base : State) (part : Part) (table : List ℕ) → CanViewPart base.shape part (length table)
+    → part_state base part table ≡ hashed_of base part table
+part_is_hashed base part table view =
+    rw (
+      can_view_part-true base.shape part (length table) view,
+      can_view_hashes-true (contents_of base part).shape part.difi (length (master_of table part.difi)) part.ivfc
+          (hash_view base part table view),
+    ) refl

@@ -4,10 +4,12 @@ use Rattle.std.specs.Borrow.{MutBor}
 use Rattle.save_bytes.specs.State.{State}
 use Rattle.save_bytes.specs.Spots.{Spot, Frame}
 use Rattle.dpfs_tree.specs.Picks.{bytes_of}
+use Rattle.dpfs_tree.specs.Held.{ContentsLand}
+use Rattle.ivfc_tree.specs.Held.{HashLands}
 use Rattle.part_store.specs.declared.part.Part.{Part}
 use Rattle.part_store.specs.declared.view.PartView.{PartView}
 use Rattle.part_store.specs.Parts.{part_state}
-use Rattle.part_store.specs.Spots.{SamePart, KeepsMarks, PartSpot, PartLands}
+use Rattle.part_store.specs.Spots.{SamePart, KeepsMarks, PartSpot}
 
 -- what a contract sees of a view over a base of which this is seen
 abbrev pub shown : {S : Type 0} → (S → State) → PartView S → State
@@ -39,6 +41,26 @@ PartOwn spot old new = PartSpot spot old.part.now new.part.now
 abbrev pub PartKeeps : {S : Type 0} → (Spot → S → S → Type 0) → Spot → PartView S → PartView S → Type 0
 PartKeeps keeps spot old new = SamePartView old new × PartOwn spot old new × keeps spot old.base.now new.base.now
 
--- which spots a put into a view may touch
+-- which spots a put into a view may touch, whatever number a mark has
 abbrev pub part_lands : {S : Type 0} → (S → State) → (S → ℕ → Spot → Type 0) → PartView S → ℕ → Spot → Type 0
-part_lands states lands view = PartLands (bytes_of (states view.base.now).cells) (lands view.base.now) view.part.now
+part_lands states lands view =
+    let part = view.part.now in
+    HashLands (ContentsLand (bytes_of (states view.base.now).cells) part.at part.difi part.dpfs.selector (lands view.base.now))
+    part.difi
+
+-- a view holds this base, this part and this table
+pub record IsOver {S : Type 0} (view : PartView S) (base : S) (part : Part) (table : List ℕ) : Type 0 where
+  pub base_now : view.base.now ≡ base
+  pub part_now : view.part.now ≡ part
+  pub table_now : view.table.now ≡ table
+
+-- two views have the same references
+pub record SameNames {S : Type 0} (old new : PartView S) : Type 0 where
+  pub same_base : new.base.ghost_name ≡ old.base.ghost_name
+  pub same_part : new.part.ghost_name ≡ old.part.ghost_name
+  pub same_table : new.table.ghost_name ≡ old.table.ghost_name
+
+-- so it is of each view before and behind a call
+abbrev pub OfViews : {S : Type 0} → S → Part → List ℕ → S → Part → List ℕ → (PartView S → PartView S → Type 0) → Type 0
+OfViews {S} base part table base_new part_new table_new P = (s t : PartView S) → IsOver s base part table
+    → IsOver t base_new part_new table_new → SameNames s t → P s t

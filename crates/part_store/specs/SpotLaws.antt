@@ -10,7 +10,7 @@ use Rattle.dpfs_tree.specs.View.{HasContents, can_view_contents}
 use Rattle.dpfs_tree.specs.Held.{ContentsLand}
 use Rattle.dpfs_tree.specs.SameLaws.{lands_as_before}
 use Rattle.ivfc_tree.specs.declared.state.IvfcState.{IvfcState}
-use Rattle.ivfc_tree.specs.Marks.{AsManyMarks, IsMadeFor, is_made_for}
+use Rattle.ivfc_tree.specs.Marks.{AsManyMarks, IsMadeFor}
 use Rattle.ivfc_tree.specs.ViewLaws.{is_made_for-true, true-is_made_for}
 use Rattle.ivfc_tree.specs.View.{HasLevels}
 use Rattle.ivfc_tree.specs.Held.{HashLands}
@@ -117,17 +117,17 @@ can_view_part-same base last old new n shape same =
 module _ (base new : State) (part : Part) (tree : HasContents base.shape part.at part.difi part.dpfs.selector)
     (levels : HasLevels (contents_of base part).shape part.difi) (same : SameCells base new)
     (lands later : ℕ → Spot → Type 0) (as_before : LandsAsBefore base.shape.size lands later) where
-  hashed : LandsAsBefore part.difi.ivfc4.size
+  pub hashed_lands : LandsAsBefore part.difi.ivfc4.size
       (HashLands (ContentsLand (bytes_of base.cells) part.at part.difi part.dpfs.selector lands) part.difi)
       (HashLands (ContentsLand (bytes_of new.cells) part.at part.difi part.dpfs.selector later) part.difi)
-  hashed =
+  hashed_lands =
       HashLands-before (contents_of base part).shape part.difi levels _ _
       (lands_as_before base.shape part.at part.difi part.dpfs.selector tree (bytes_of base.cells) (bytes_of new.cells)
       (λ y h. rw (same y h) refl) lands later as_before)
 
   pub PartLands-before : LandsAsBefore part.difi.ivfc4.size (PartLands (bytes_of base.cells) lands part) (PartLands (bytes_of new.cells) later part)
-  PartLands-before x below (Mark number level block) (own, there) = (own, hashed x below (Mark number level block) there)
-  PartLands-before x below spot there = hashed x below spot there
+  PartLands-before x below (Mark number level block) (own, there) = (own, hashed_lands x below (Mark number level block) there)
+  PartLands-before x below spot there = hashed_lands x below spot there
 
 -- nor do its marks change where a put lands
 pub PartLands-same : (bytes : ℕ → ℕ) (lands : ℕ → Spot → Type 0) (old new : Part) → SamePart old new

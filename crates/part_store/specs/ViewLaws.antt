@@ -1,9 +1,13 @@
 -- The laws of a space on what is kept, of a view of a partition, where they hold of its base.
 use Rattle.std.proofs.Common.{◌≡◌, ℕ, ◌^◌, ◌<◌, IsTrue, List, length, refl, ◌∙◌, arith}
 use Rattle.save_bytes.specs.State.{State}
-use Rattle.save_bytes.specs.Stays.{SameCells}
+use Rattle.save_bytes.specs.Stays.{SameCells, SameTwins}
 use Rattle.save_bytes.specs.Spots.{Spot, Mark, Frame, LandsAsBefore}
+use Rattle.std.proofs.lemmas.Bool.{and_parts}
 use Rattle.dpfs_tree.specs.Picks.{bytes_of}
+use Rattle.dpfs_tree.specs.Held.{ContentsLand}
+use Rattle.ivfc_tree.specs.Held.{HashLands}
+use Rattle.ivfc_tree.specs.KeepLaws.{WhereKept}
 use Rattle.dpfs_tree.specs.View.{HasContents}
 use Rattle.dpfs_tree.specs.SameLaws.{view_cells as contents_same}
 use Rattle.ivfc_tree.specs.View.{HasLevels, HasTree as HasHashes}
@@ -12,11 +16,11 @@ use Rattle.part_store.specs.declared.part.Part.{Part}
 use Rattle.part_store.specs.declared.view.PartView.{PartView}
 use Rattle.part_store.specs.Parts.{master_of, contents_of, part_state, CanViewPart}
 use Rattle.part_store.specs.PartLaws.{contents_there, hashes_there, true-can_view_part}
-use Rattle.part_store.specs.Spots.{KeepsMarks, PartLands}
+use Rattle.part_store.specs.Spots.{SamePart, KeepsMarks}
 use Rattle.part_store.specs.SpotLaws.{SamePart-same, SamePart-join, KeepsMarks-same, KeepsMarks-join}
-use Rattle.part_store.specs.SpotLaws.{KeepsMarks-part, PartSpot-same, PartSpot-join}
-use Rattle.part_store.specs.SpotLaws.{can_view_part-same, PartLands-before, PartLands-same}
-use Rattle.part_store.specs.Held.{shown, SamePartView, PartOwn, PartKeeps}
+use Rattle.part_store.specs.SpotLaws.{PartSpot-same, PartSpot-join}
+use Rattle.part_store.specs.SpotLaws.{can_view_part-same, hashed_lands}
+use Rattle.part_store.specs.Held.{part_lands, shown, SamePartView, PartOwn, PartKeeps}
 
 module _ {S : Type 0} where
   SamePartView-same : (s : PartView S) → SamePartView s s
@@ -111,11 +115,41 @@ kept_cells base new part next table kept contents hashes same =
     rw (kept.number, kept.place, kept.descriptor, kept.copies) there
 
 -- and puts land where they would have landed
-pub kept_lands : (base new : State) (part next : Part) → KeepsMarks part next
+pub kept_lands : (base new : State) (part next : Part) → SamePart part next
     → HasContents base.shape part.at part.difi part.dpfs.selector → HasLevels (contents_of base part).shape part.difi
     → SameCells base new → (lands later : ℕ → Spot → Type 0) → LandsAsBefore base.shape.size lands later
-    → LandsAsBefore part.difi.ivfc4.size (PartLands (bytes_of base.cells) lands part)
-    (PartLands (bytes_of new.cells) later next)
-kept_lands base new part next kept contents levels same lands later as_before x below spot there =
-    PartLands-before base new part contents levels same lands later as_before x below spot
-    (PartLands-same (bytes_of new.cells) later part next (KeepsMarks-part part next kept) x spot there)
+    → LandsAsBefore part.difi.ivfc4.size
+    (HashLands (ContentsLand (bytes_of base.cells) part.at part.difi part.dpfs.selector lands) part.difi)
+    (HashLands (ContentsLand (bytes_of new.cells) next.at next.difi next.dpfs.selector later) next.difi)
+kept_lands base new part next kept contents levels same lands later as_before =
+    rw (kept.place, kept.descriptor, kept.selector) (hashed_lands base new part contents levels same lands later as_before)
+
+-- so the laws of the base give those of the view
+module _ {S : Type 0} (states : S → State) (fits : (s : S) → IsTrue (states s).shape.sound → (states s).shape.size < 2 ^ 64)
+    (keeps : Spot → S → S → Type 0) where
+  pub PartKeeps-cells : WhereKept states keeps (λ s t. SameCells (states s) (states t) × SameTwins (states s) (states t))
+      → WhereKept (shown states) (PartKeeps keeps)
+      (λ s t. SameCells (shown states s) (shown states t) × SameTwins (shown states s) (shown states t))
+  PartKeeps-cells law s t sound single told still kept =
+      let can = shown_can states fits s sound in
+      let below = law s.base.now t.base.now can.contents.sound can.contents.single (and_parts _ _ told).0 (and_parts _ _ still).0
+      (λ spot. (kept spot).2) in
+      let own = (kept Frame).1 in
+      let there = kept_cells (states s.base.now) (states t.base.now) s.part.now t.part.now s.table.now own.0
+      (shown_contents_there states fits s sound) (shown_hashes states fits s sound) below.0 in
+      (rw own.1 there, record { bottom = λ x h. refl; is_fixed = λ x h. refl })
+
+  pub PartKeeps-lands : (lands : S → ℕ → Spot → Type 0)
+      → WhereKept states keeps (λ s t. LandsAsBefore (states s).shape.size (lands s) (lands t))
+      → WhereKept states keeps (λ s t. SameCells (states s) (states t) × SameTwins (states s) (states t))
+      → WhereKept (shown states) (PartKeeps keeps)
+      (λ s t. LandsAsBefore (shown states s).shape.size (part_lands states lands s) (part_lands states lands t))
+  PartKeeps-lands lands law cells s t sound single told still kept =
+      let can = shown_can states fits s sound in
+      let under = (and_parts _ _ told).0 in
+      let later = (and_parts _ _ still).0 in
+      let same = cells s.base.now t.base.now can.contents.sound can.contents.single under later (λ spot. (kept spot).2) in
+      let below = law s.base.now t.base.now can.contents.sound can.contents.single under later (λ spot. (kept spot).2) in
+      kept_lands (states s.base.now) (states t.base.now) s.part.now t.part.now (kept Frame).0.part
+      (shown_contents_there states fits s sound) (shown_hashes states fits s sound).levels same.0 (lands s.base.now)
+      (lands t.base.now) below

@@ -2,7 +2,9 @@
 #![tactic(auto)]
 
 mod calls;
+mod over;
 mod part;
+mod puts;
 mod view;
 
 pub use calls::lend;

@@ -10,7 +10,7 @@ ghost use Rattle.part_store.specs.Parts.{CanViewPart};
 use super::*;
 use difi::Difi;
 use ivfc_tree::Status;
-use save_bytes::{Bad, MemSpace, set_u32};
+use save_bytes::{Bad, MemSpace, Space, set_u32};
 use save_samples::{LONE_DIFI, Sample, sample};
 use std::alloc::{AllocError, Global};
 use std::test::Fail;

@@ -1,6 +1,6 @@
 //! A partition's level four as a space.
 
-ghost use Rattle.std.specs.Prelude.{◌≡◌, ℕ, ◌≤◌, length, IsTrue, IfOk, []};
+ghost use Rattle.std.specs.Prelude.{refl, ◌≡◌, ℕ, ◌≤◌, length, IsTrue, IfOk, []};
 ghost use Rattle.std.specs.Borrow.{sem};
 ghost use Rattle.std.specs.Io.BufRead.{Rests};
 ghost use Rattle.std.specs.Result.{result_err};
@@ -11,11 +11,14 @@ ghost use Rattle.save_bytes.specs.Reads.{Reads};
 ghost use Rattle.ivfc_tree.specs.Levels.{HasBlock};
 ghost use Rattle.part_store.specs.Parts.{CanViewPart, status_in, IsFound};
 ghost use Rattle.part_store.specs.Held.{shown, IsPartViewOf, PartKeeps, part_lands};
+ghost use Rattle.std.proofs.lemmas.Bool.{false≢true};
+ghost use Rattle.part_store.specs.ViewLaws.{shown_fits, part_shape, PartKeeps-same, PartKeeps-join, PartKeeps-cells, PartKeeps-lands};
 ghost use Rattle.part_store.specs.contracts.view.PartView.{the_row};
 ghost use mir.Syntax.{named};
 
 use crate::calls::{find, status};
 use crate::part::Part;
+use crate::puts::{put_in, ready_in};
 use ivfc_tree::Status;
 use save_bytes::{Bad, Space};
 
@@ -37,13 +40,6 @@ impl<'a, S: Space> PartView<'a, S> {
         PartView { base, part, table }
     }
 
-    /// How many bytes there are. It never changes.
-    pub fn len(&self) -> u64
-        ensures { result ≡ (shown S.state self.now).shape.size }
-    {
-        self.part.difi.ivfc4.size
-    }
-
     /// Where the bytes from `at` on lie in the base, and how many lie there in one piece, up to `most`, where they
     /// have a hash path. `Damaged` comes exactly where the byte at `at` has none, and names the topmost block that fails.
     pub fn locate(&mut self, at: u64, most: usize) -> Result<(u64, usize), Bad>
@@ -61,7 +57,7 @@ impl<'a, S: Space> PartView<'a, S> {
 
     /// Lends 1 to `most` bytes from `at` on, as they lie in the base, where they have a hash path. `Damaged` comes
     /// exactly where the byte at `at` has none, and names the topmost block that fails.
-    pub fn piece(&mut self, at: u64, most: usize) -> Result<&[u8], Bad>
+    pub fn lend(&mut self, at: u64, most: usize) -> Result<&[u8], Bad>
         requires inside { IsInside (shown S.state self.old).shape at 1 }
         requires some { 1 ≤ most }
         ensures piece { IsPiece (shown S.state self.old) at most result }
@@ -92,5 +88,54 @@ impl<'a, S: Space> PartView<'a, S> {
         let part = &mut *self.part;
         let table = &mut *self.table;
         status(base, part, table, level, block)
+    }
+}
+
+// A view lends from its base what has a hash path, and writes to it below its marks.
+impl<S: Space> Space for PartView<'_, S> {
+    ghost state = { shown S.state };
+
+    ghost keeps = { PartKeeps S.keeps };
+
+    ghost lands = { part_lands S.state S.lands };
+
+    ghost size_fits = { λ s sound. shown_fits S.state S.size_fits s sound };
+
+    ghost plain_bytes = { λ s plain told x. absurd (false≢true plain) };
+
+    ghost no_twins = { λ s single. record { apart = λ x y same. same; free = λ x. refl } };
+
+    ghost keeps_same = { PartKeeps-same S.keeps S.keeps_same };
+
+    ghost keeps_join = { PartKeeps-join S.keeps S.keeps_join };
+
+    ghost keeps_hold = { λ s t h. (h.0, tt, S.keeps_hold s.base.now t.base.now h.2) };
+
+    ghost keeps_shape = { λ s t h. part_shape S.state s t h.0 (S.keeps_shape s.base.now t.base.now h.2) };
+
+    ghost keeps_cells = { PartKeeps-cells S.state S.size_fits S.keeps S.keeps_cells };
+
+    ghost keeps_lands = { PartKeeps-lands S.state S.size_fits S.keeps S.lands S.keeps_lands S.keeps_cells };
+
+    fn len(&self) -> u64 {
+        self.part.difi.ivfc4.size
+    }
+
+    fn piece(&mut self, at: u64, most: usize) -> Result<&[u8], Bad> {
+        self.lend(at, most)
+    }
+
+    fn ready(&mut self, at: u64, n: u64) -> Result<(), Bad> {
+        let base = &mut *self.base;
+        let part = &mut *self.part;
+        let table = &mut *self.table;
+        ready_in(base, part, table, at, n)
+    }
+
+    fn put(&mut self, at: u64, bytes: &[u8]) -> Result<(), Bad> {
+        let base = &mut *self.base;
+        let part = &mut *self.part;
+        let table = &mut *self.table;
+        put_in(base, part, table, at, bytes)
     }
 }

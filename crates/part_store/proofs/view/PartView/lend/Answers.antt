@@ -4,7 +4,7 @@ use Rattle.save_bytes.specs.State.{Shape}
 use Rattle.part_store.specs.ViewLaws.{shown_can}
 use Rattle.part_store.proofs.PartLemmas.{told_below, found_inside, found_piece}
 use Rattle.part_store.proofs.AboveLemmas.{reads_then_base, part_read, part_left}
-use Rattle.part_store.proofs.view.PartView.piece.Goals as goal
+use Rattle.part_store.proofs.view.PartView.lend.Goals as goal
 
 pub piece-requires-clause-inside : goal.piece-requires-clause-inside
 piece-requires-clause-inside g c =
