@@ -8,7 +8,7 @@ use Rattle.save_bytes.specs.CellNumbers.{bytes_in, number_in}
 use Rattle.chain_nodes.proofs.TableLemmas.{number_in-same}
 use Rattle.entry_tables.proofs.ByteLemmas.{field_is, part_is}
 use Rattle.tree_layout.specs.Headers.{HasHeader}
-use Rattle.tree_rules.specs.declared.kind.TreeKind.{TreeKind}
+use Rattle.tree_model.specs.declared.kind.TreeKind.{TreeKind}
 use Rattle.tree_rules.specs.Information.{letters_of, version_of_tree, IsLettered, header_len}
 
 module _ (kind : TreeKind) (cells : ℕ → Cell) (front : List ℕ) (long : length front ≡ 8)

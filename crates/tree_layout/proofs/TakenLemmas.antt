@@ -4,8 +4,8 @@ use Rattle.save_bytes.specs.declared.extent.Extent.{Extent}
 use Rattle.entry_tables.specs.declared.table.EntryKind.TheVariants.{Dir, File}
 use Rattle.entry_tables.specs.Kinds.{entry_size}
 use Rattle.entry_tables.specs.Tables.{Tables}
-use Rattle.tree_rules.specs.declared.kind.TreeKind.{TreeKind}
-use Rattle.tree_rules.specs.declared.kind.TreeKind.TheVariants.{Save, Vsxe}
+use Rattle.tree_model.specs.declared.kind.TreeKind.{TreeKind}
+use Rattle.tree_model.specs.declared.kind.TreeKind.TheVariants.{Save, Vsxe}
 use Rattle.tree_rules.specs.declared.information.Information.{Information}
 use Rattle.tree_rules.specs.Information.{header_len, information_len, has_second}
 use Rattle.tree_rules.specs.Places.{places_of}

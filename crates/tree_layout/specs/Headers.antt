@@ -3,7 +3,7 @@ use Rattle.std.specs.Prelude.{◌≡◌, ℕ, ◌<◌, ◌≤◌}
 use Rattle.save_bytes.specs.Cells.{Cell, IsByte}
 use Rattle.save_bytes.specs.CellNumbers.{number_in}
 use Rattle.save_bytes.specs.Answers.{IsFirstFault}
-use Rattle.tree_rules.specs.declared.kind.TreeKind.{TreeKind}
+use Rattle.tree_model.specs.declared.kind.TreeKind.{TreeKind}
 use Rattle.tree_rules.specs.Information.{IsLettered, header_len}
 
 -- The store is no filesystem of this kind: it is too short for a header, or begins with eight bytes of something else.

@@ -16,14 +16,16 @@ use Rattle.tree_model.specs.declared.refusal.Full.TheVariants.{Blocks, Dirs, Fil
 use Rattle.tree_model.specs.declared.refusal.Refusal.{Refusal}
 use Rattle.tree_model.specs.declared.refusal.Refusal.TheVariants.{BadPath, NoParent, NotFound, Exists, NotEmpty, Full}
 use Rattle.tree_model.specs.declared.refusal.Refusal.TheVariants.{Damaged, WrongKind, IsRoot, NoMemory}
-use Rattle.tree_model.specs.Trees.{Names, same_names, TreeKind, OfContents, OfIdentifiers, TreeFile, Contents}
+use Rattle.tree_model.specs.declared.kind.TreeKind.{TreeKind}
+use Rattle.tree_model.specs.declared.kind.TreeKind.TheVariants.{Save, Vsxe}
+use Rattle.tree_model.specs.Trees.{Names, same_names, TreeFile, Contents}
 use Rattle.tree_model.specs.Trees.{Identifier, Tree}
 use Rattle.tree_model.specs.Trees.{SameTree, IsSofter}
 use Rattle.tree_model.specs.Listings.{ListsTree}
 
 abbrev pub has_contents : TreeKind → Bool
-has_contents OfContents = true
-has_contents OfIdentifiers = false
+has_contents Save = true
+has_contents Vsxe = false
 
 abbrev pub is_root : Names → Bool
 is_root [] = true

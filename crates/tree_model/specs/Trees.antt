@@ -3,6 +3,7 @@ use Rattle.std.specs.Prelude.{◌≡◌, ℕ, ◌<◌, Bool, true, false, ◌&&�
 use Rattle.save_bytes.specs.Cells.{Cell}
 use Rattle.save_bytes.specs.Within.{MaySoften}
 use Rattle.tree_model.specs.declared.command.Room.{Room}
+use Rattle.tree_model.specs.declared.kind.TreeKind.{TreeKind}
 
 -- the names of a path
 abbrev pub Names : Type 0
@@ -14,11 +15,6 @@ same_names [] [] = true
 same_names [] (name ∷ names) = false
 same_names (name ∷ names) [] = false
 same_names (name ∷ names) (other ∷ others) = bytes_eq name other && same_names names others
-
--- files have contents, or each has an identifier
-pub data TreeKind : Type 0 where
-  OfContents : TreeKind
-  OfIdentifiers : TreeKind
 
 -- a file's size, the data blocks that it holds, and its contents, which are so many cells; or its identifier
 pub data TreeFile : Type 0 where

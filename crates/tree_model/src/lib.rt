@@ -2,10 +2,12 @@
 #![tactic(auto)]
 
 mod command;
+mod kind;
 mod listing;
 mod refusal;
 
 pub use command::{Command, Room, Target};
+pub use kind::TreeKind;
 pub use listing::{Listing, Row};
 pub use refusal::{FsFault, Full, Refusal};
 

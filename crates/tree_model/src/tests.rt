@@ -1,7 +1,8 @@
 ghost use Rattle.std.specs.Prelude.{◌≡◌, [], ◌∷◌, true, false, slice_index_or};
 ghost use Rattle.tree_model.specs.declared.refusal.Refusal.TheVariants.{WrongKind, IsRoot};
 ghost use Rattle.tree_model.specs.declared.listing.Row.TheVariants.{Dir, File};
-ghost use Rattle.tree_model.specs.Trees.{OfContents, OfIdentifiers, empty_tree};
+ghost use Rattle.tree_model.specs.declared.kind.TreeKind.TheVariants.{Save, Vsxe};
+ghost use Rattle.tree_model.specs.Trees.{empty_tree};
 ghost use Rattle.tree_model.specs.Listings.{is_row_before};
 ghost use Rattle.tree_model.specs.Answers.{get_refusal, mkdir_refusal, put_refusal, link_refusal};
 
@@ -69,7 +70,7 @@ fn a_listing_keeps_its_rows(rt: HostRuntime) -> Result<(), Fail> {
 
 // What a put of so many bytes at `/a` meets in a tree with nothing but this room.
 fn put_into_room(size: u64, room: Room) -> Option<Refusal>
-    ensures { result ≡ put_refusal (empty_tree OfContents room) ((97 ∷ []) ∷ []) size }
+    ensures { result ≡ put_refusal (empty_tree Save room) ((97 ∷ []) ∷ []) size }
 {
     let need = size.div_ceil(512);
     let have = u64::from(room.blocks);
@@ -113,11 +114,11 @@ fn a_put_is_full_exactly_where_it_needs_more_than_there_is(rt: HostRuntime) {
 // In a tree with nothing but room: the root is no place for a directory or a file, what is below no directory has no
 // parent, and nothing stands elsewhere.
 fn refused_in_an_empty_tree(room: Room) -> [Refusal; 5]
-    ensures root { mkdir_refusal (empty_tree OfContents room) [] ≡ Some (slice_index_or result 0 WrongKind) }
-    ensures parent { mkdir_refusal (empty_tree OfContents room) ((97 ∷ []) ∷ (98 ∷ []) ∷ []) ≡ Some (slice_index_or result 1 WrongKind) }
-    ensures get { get_refusal (empty_tree OfContents room) ((97 ∷ []) ∷ []) ≡ Some (slice_index_or result 2 WrongKind) }
-    ensures link { link_refusal (empty_tree OfContents room) ((97 ∷ []) ∷ []) ≡ Some (slice_index_or result 3 IsRoot) }
-    ensures get_link { get_refusal (empty_tree OfIdentifiers room) [] ≡ Some (slice_index_or result 4 IsRoot) }
+    ensures root { mkdir_refusal (empty_tree Save room) [] ≡ Some (slice_index_or result 0 WrongKind) }
+    ensures parent { mkdir_refusal (empty_tree Save room) ((97 ∷ []) ∷ (98 ∷ []) ∷ []) ≡ Some (slice_index_or result 1 WrongKind) }
+    ensures get { get_refusal (empty_tree Save room) ((97 ∷ []) ∷ []) ≡ Some (slice_index_or result 2 WrongKind) }
+    ensures link { link_refusal (empty_tree Save room) ((97 ∷ []) ∷ []) ≡ Some (slice_index_or result 3 IsRoot) }
+    ensures get_link { get_refusal (empty_tree Vsxe room) [] ≡ Some (slice_index_or result 4 IsRoot) }
 {
     [
         Refusal::IsRoot,

@@ -20,8 +20,8 @@ use Rattle.entry_tables.specs.Tables.{Tables}
 use Rattle.entry_tables.specs.Rules.{IsOrderly}
 use Rattle.entry_tables.proofs.FailLemmas.{nowhere_fails}
 use Rattle.entry_tables.proofs.LinkLemmas.{linked_distinct}
-use Rattle.tree_rules.specs.declared.kind.TreeKind.{TreeKind}
-use Rattle.tree_rules.specs.declared.kind.TreeKind.TheVariants.{Save, Vsxe}
+use Rattle.tree_model.specs.declared.kind.TreeKind.{TreeKind}
+use Rattle.tree_model.specs.declared.kind.TreeKind.TheVariants.{Save, Vsxe}
 use Rattle.tree_rules.specs.Information.{information_in}
 use Rattle.tree_rules.specs.declared.information.TableAt.{TableAt}
 use Rattle.tree_rules.specs.declared.information.TableAt.TheVariants.{Plainly, InChain}

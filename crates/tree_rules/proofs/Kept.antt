@@ -25,8 +25,8 @@ use Rattle.entry_tables.specs.Rules.{CanBeFreed}
 use Rattle.entry_tables.proofs.LinkLemmas.{whole_front}
 use Rattle.entry_tables.proofs.EntryLemmas.{link_last}
 use Rattle.std.proofs.lemmas.List.{append-nil}
-use Rattle.tree_rules.specs.declared.kind.TreeKind.{TreeKind}
-use Rattle.tree_rules.specs.declared.kind.TreeKind.TheVariants.{Save, Vsxe}
+use Rattle.tree_model.specs.declared.kind.TreeKind.{TreeKind}
+use Rattle.tree_model.specs.declared.kind.TreeKind.TheVariants.{Save, Vsxe}
 use Rattle.tree_rules.specs.declared.information.Information.{Information}
 use Rattle.tree_rules.specs.Information.{information_at, information_in, IsLettered, header_len}
 use Rattle.tree_rules.specs.Information.{information_len, front_len, has_second, buckets_field, table_field}

@@ -17,8 +17,8 @@ use Rattle.entry_tables.specs.Rules.{HasFreedList}
 use Rattle.entry_tables.proofs.LinkLemmas.{whole_front, Contains-head, Contains-tail}
 use Rattle.std.proofs.lemmas.List.Elements.{Contains-append_cases}
 use Rattle.std.proofs.lemmas.Bool.{cases_lt, cases_eq}
-use Rattle.tree_rules.specs.declared.kind.TreeKind.{TreeKind}
-use Rattle.tree_rules.specs.declared.kind.TreeKind.TheVariants.{Save, Vsxe}
+use Rattle.tree_model.specs.declared.kind.TreeKind.{TreeKind}
+use Rattle.tree_model.specs.declared.kind.TreeKind.TheVariants.{Save, Vsxe}
 use Rattle.tree_rules.specs.declared.information.TableAt.{TableAt}
 use Rattle.tree_rules.specs.declared.information.TableAt.TheVariants.{Plainly, InChain}
 use Rattle.tree_rules.specs.declared.information.Places.{Places}

@@ -6,7 +6,7 @@ use Rattle.entry_tables.specs.declared.table.EntryKind.{EntryKind}
 use Rattle.entry_tables.specs.declared.table.EntryKind.TheVariants.{Dir, File}
 use Rattle.entry_tables.specs.Tables.{tables_in}
 use Rattle.chain_space.specs.Laid.{Extra, laid_place}
-use Rattle.tree_rules.specs.declared.kind.TreeKind.{TreeKind}
+use Rattle.tree_model.specs.declared.kind.TreeKind.{TreeKind}
 use Rattle.tree_rules.specs.declared.information.Information.{Information}
 use Rattle.tree_rules.specs.Information.{information_in}
 use Rattle.tree_rules.specs.declared.information.Places.{Places}

@@ -15,8 +15,8 @@ use Rattle.entry_tables.specs.Kinds.{table_number}
 use Rattle.entry_tables.specs.Tables.{Tables}
 use Rattle.entry_tables.specs.Used.{used_entries}
 use Rattle.entry_tables.specs.Fails.{RuleFailsAt}
-use Rattle.tree_rules.specs.declared.kind.TreeKind.{TreeKind}
-use Rattle.tree_rules.specs.declared.kind.TreeKind.TheVariants.{Save, Vsxe}
+use Rattle.tree_model.specs.declared.kind.TreeKind.{TreeKind}
+use Rattle.tree_model.specs.declared.kind.TreeKind.TheVariants.{Save, Vsxe}
 use Rattle.tree_rules.specs.Information.{information_in}
 use Rattle.tree_rules.specs.declared.information.TableAt.{TableAt}
 use Rattle.tree_rules.specs.declared.information.TableAt.TheVariants.{Plainly, InChain}

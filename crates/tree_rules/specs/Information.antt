@@ -4,10 +4,10 @@ use Rattle.save_bytes.specs.Cells.{Cell}
 use Rattle.save_bytes.specs.CellNumbers.{bytes_in, number_in}
 use Rattle.entry_tables.specs.declared.table.EntryKind.{EntryKind}
 use Rattle.entry_tables.specs.declared.table.EntryKind.TheVariants.{Dir, File}
-use Rattle.tree_rules.specs.declared.kind.TreeKind.{TreeKind}
+use Rattle.tree_model.specs.declared.kind.TreeKind.{TreeKind}
 use Rattle.tree_rules.specs.declared.information.Information.{Information}
 use Rattle.tree_rules.specs.declared.information.TableFields.{TableFields}
-use Rattle.tree_rules.specs.declared.kind.TreeKind.TheVariants.{Save, Vsxe}
+use Rattle.tree_model.specs.declared.kind.TreeKind.TheVariants.{Save, Vsxe}
 
 -- the four bytes that a header begins with: SAVE or VSXE
 abbrev pub letters_of : TreeKind → List ℕ

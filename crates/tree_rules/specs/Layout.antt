@@ -9,7 +9,7 @@ use Rattle.entry_tables.specs.declared.table.EntryKind.{EntryKind}
 use Rattle.entry_tables.specs.declared.table.EntryKind.TheVariants.{Dir, File}
 use Rattle.entry_tables.specs.Kinds.{entry_size, least_freed}
 use Rattle.entry_tables.specs.Tables.{Table, Tables}
-use Rattle.tree_rules.specs.declared.kind.TreeKind.{TreeKind}
+use Rattle.tree_model.specs.declared.kind.TreeKind.{TreeKind}
 use Rattle.tree_rules.specs.declared.information.Information.{Information}
 use Rattle.tree_rules.specs.Information.{header_len, information_len, has_second, front_len}
 use Rattle.tree_rules.specs.declared.information.TableAt.{TableAt}

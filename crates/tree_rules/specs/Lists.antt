@@ -7,8 +7,8 @@ use Rattle.entry_tables.specs.declared.table.EntryKind.{EntryKind}
 use Rattle.entry_tables.specs.declared.table.EntryKind.TheVariants.{File}
 use Rattle.entry_tables.specs.Tables.{Tables}
 use Rattle.entry_tables.specs.Used.{used_entries}
-use Rattle.tree_rules.specs.declared.kind.TreeKind.{TreeKind}
-use Rattle.tree_rules.specs.declared.kind.TreeKind.TheVariants.{Save, Vsxe}
+use Rattle.tree_model.specs.declared.kind.TreeKind.{TreeKind}
+use Rattle.tree_model.specs.declared.kind.TreeKind.TheVariants.{Save, Vsxe}
 use Rattle.tree_rules.specs.declared.information.TableAt.{TableAt}
 use Rattle.tree_rules.specs.declared.information.TableAt.TheVariants.{Plainly, InChain}
 use Rattle.tree_rules.specs.declared.information.Places.{Places}

@@ -7,7 +7,7 @@ use Rattle.chain_space.specs.Laid.{laid_place}
 use Rattle.entry_tables.specs.declared.table.EntryKind.{EntryKind}
 use Rattle.entry_tables.specs.Tables.{Tables}
 use Rattle.entry_tables.specs.Layout.{LiesWithin, IsOfTable}
-use Rattle.tree_rules.specs.declared.kind.TreeKind.{TreeKind}
+use Rattle.tree_model.specs.declared.kind.TreeKind.{TreeKind}
 use Rattle.tree_rules.specs.declared.information.Information.{Information}
 use Rattle.tree_rules.specs.Information.{information_in, header_len, information_len}
 use Rattle.tree_rules.specs.declared.information.Places.{Places}

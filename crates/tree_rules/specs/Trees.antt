@@ -7,7 +7,7 @@ use Rattle.entry_tables.specs.declared.table.EntryKind.{EntryKind}
 use Rattle.entry_tables.specs.Tables.{Tables}
 use Rattle.entry_tables.specs.Rules.{IsOrderly}
 use Rattle.entry_tables.specs.Layout.{IsNeeded}
-use Rattle.tree_rules.specs.declared.kind.TreeKind.{TreeKind}
+use Rattle.tree_model.specs.declared.kind.TreeKind.{TreeKind}
 use Rattle.tree_rules.specs.declared.information.Information.{Information}
 use Rattle.tree_rules.specs.Information.{IsLettered, information_in, header_len, information_len}
 use Rattle.tree_rules.specs.Information.{front_len}

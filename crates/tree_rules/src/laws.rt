@@ -3,7 +3,7 @@
 ghost use Rattle.std.specs.Prelude.{◌≡◌, ℕ, Option, None, List, ◌↔◌};
 ghost use Rattle.save_bytes.specs.Cells.{Cell};
 ghost use Rattle.entry_tables.specs.Tables.{Tables};
-ghost use Rattle.tree_rules.specs.declared.kind.TreeKind.{TreeKind as Kind};
+ghost use Rattle.tree_model.specs.declared.kind.TreeKind.{TreeKind as Kind};
 ghost use Rattle.tree_rules.specs.declared.information.Information.{Information};
 ghost use Rattle.tree_rules.specs.Information.{information_in};
 ghost use Rattle.tree_rules.specs.Places.{places_of, tree_tables};

@@ -2,11 +2,10 @@
 #![tactic(auto)]
 
 mod information;
-mod kind;
 mod laws;
 
 pub use information::{Information, Places, TableAt, TableFields, TablePlace};
-pub use kind::TreeKind;
+pub use tree_model::TreeKind;
 pub use laws::{
     no_condition_fails_where_all_lies_as_it_should, no_rule_fails_where_a_tree_is_held,
     one_list_a_holder, what_keeps_the_structure_keeps_the_tree,
