@@ -5,3 +5,5 @@ pub mod SoftLemmas
 pub mod PlaceLemmas
 pub mod Kept
 pub mod FailLaws
+pub mod OneReading
+pub mod Softened

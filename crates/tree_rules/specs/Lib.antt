@@ -6,3 +6,4 @@ pub mod Lists
 pub mod Trees
 pub mod Structure
 pub mod Fails
+pub mod Reading

@@ -13,6 +13,8 @@ ghost use Rattle.tree_rules.specs.Lists.{Holder};
 ghost use Rattle.tree_rules.specs.Trees.{IsConsistentTree, HoldsTree, table_chains};
 ghost use Rattle.tree_rules.specs.Structure.{KeepsStructure, KeepsTree};
 ghost use Rattle.tree_rules.specs.Fails.{BreaksAt};
+ghost use Rattle.tree_model.specs.Trees.{Tree, SameTree};
+ghost use Rattle.tree_rules.specs.Reading.{TreeReadsFrom, SoftensContents, IsSoftened};
 
 /// No condition on the layout fails exactly where all lies as it should.
 pub fn no_condition_fails_where_all_lies_as_it_should()
@@ -42,4 +44,22 @@ pub fn what_keeps_the_structure_keeps_the_tree()
 pub fn no_rule_fails_where_a_tree_is_held()
     ensures { (kind : Kind) (size : ℕ) (split : Option ℕ) (cells : ℕ → Cell) (number entry : ℕ)
         → HoldsTree kind size split cells → ¬ BreaksAt kind size split cells number entry }
+{}
+
+/// The cells of a store fix the tree that is read off them.
+pub fn one_tree_is_read()
+    ensures { (kind : Kind) (size : ℕ) (split : Option ℕ) (cells : ℕ → Cell) (tree other : Tree)
+        → TreeReadsFrom kind size split cells tree → TreeReadsFrom kind size split cells other → SameTree tree other }
+{}
+
+/// Where the structure's cells and those of files have softened at most, the same tree is read, but for blank cells of
+/// contents that have softened.
+pub fn a_softened_store_holds_a_softened_tree()
+    ensures { (kind : Kind) (size : ℕ) (split : Option ℕ) (cells new : ℕ → Cell) (tree : Tree)
+        (read : TreeReadsFrom kind size split cells tree)
+        → let info = information_in cells in
+        let p = places_of kind split info in
+        let t = tree_tables size p (table_chains read.lists) cells in
+        KeepsStructure size info p read.lists t cells new → SoftensContents p t read.lists cells new
+        → IsSoftened kind size split tree new }
 {}
