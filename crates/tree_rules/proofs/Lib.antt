@@ -7,3 +7,4 @@ pub mod Kept
 pub mod FailLaws
 pub mod OneReading
 pub mod Softened
+pub mod SomeTree

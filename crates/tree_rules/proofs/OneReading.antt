@@ -20,10 +20,10 @@ use Rattle.tree_rules.specs.Trees.{table_chains}
 use Rattle.tree_rules.specs.Reading.{IsDirAt, IsFileAt, IsFileRead, IsRoomOf, IsReadBy, TreeReadsFrom, file_of}
 use Rattle.tree_rules.proofs.OneTree.{one_list}
 
-head_same : (x y : List ℕ) (xs ys : List (List ℕ)) → x ∷ xs ≡ y ∷ ys → x ≡ y
+pub head_same : (x y : List ℕ) (xs ys : List (List ℕ)) → x ∷ xs ≡ y ∷ ys → x ≡ y
 head_same x y xs ys same = ap (λ (l : List (List ℕ)). get_or l 0 []) same
 
-tail_same : (x y : List ℕ) (xs ys : List (List ℕ)) → x ∷ xs ≡ y ∷ ys → xs ≡ ys
+pub tail_same : (x y : List ℕ) (xs ys : List (List ℕ)) → x ∷ xs ≡ y ∷ ys → xs ≡ ys
 tail_same x y xs ys same = ap (λ (l : List (List ℕ)). drop 1 l) same
 
 module _ (t : Tables) (orderly : IsOrderly t) where

@@ -46,6 +46,12 @@ pub fn no_rule_fails_where_a_tree_is_held()
         → HoldsTree kind size split cells → ¬ BreaksAt kind size split cells number entry }
 {}
 
+/// A tree is read off each store that holds one.
+pub fn some_tree_is_read()
+    ensures { (kind : Kind) (size : ℕ) (split : Option ℕ) (cells : ℕ → Cell) → HoldsTree kind size split cells
+        → (tree : Tree) × TreeReadsFrom kind size split cells tree }
+{}
+
 /// The cells of a store fix the tree that is read off them.
 pub fn one_tree_is_read()
     ensures { (kind : Kind) (size : ℕ) (split : Option ℕ) (cells : ℕ → Cell) (tree other : Tree)
