@@ -270,7 +270,7 @@ impl Space for Silent<'_> {
 
     ghost lands = { λ s x spot. ⊥ };
 
-    ghost size_fits = { λ s. memory_size_fits (record { bytes = s.bytes; block = 4096 }) };
+    ghost size_fits = { λ s. memory_size_fits (record { bytes = s.bytes; block = 4096; lent = 0 }) };
 
     ghost plain_bytes = { λ s plain told x. tt };
 
