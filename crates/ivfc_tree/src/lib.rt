@@ -21,3 +21,5 @@ pub use view::{IvfcView, Status};
 mod seal_tests;
 #[cfg(test)]
 mod tests;
+#[cfg(test)]
+mod write_tests;
