@@ -35,12 +35,14 @@ came_same base difi master tree cells new same state later marks was was_master 
   zeroed = λ level block there none above.
       ⊎_elim
       (λ good. inl good)
-      (λ blank. inr (own-same base difi tree.levels new cells same master (suc (suc level)) block there.in_tree ∙ blank))
+      (λ blank. inr (own-same base difi tree.levels new cells same master (suc (suc level)) block there.in_tree
+      ∙ blank))
       (came.zeroed level block there (sym (marks (suc (suc level)) block) ∙ none)
       (sym (marks (suc level) (parent_of difi (suc level) block)) ∙ above));
 }
 
-module _ {S : Type 0} (states : S → State) (keeps : Spot → S → S → Type 0) (lands : S → ℕ → Spot → Type 0) (s t : IvfcView S) where
+module _ {S : Type 0} (states : S → State) (keeps : Spot → S → S → Type 0) (lands : S → ℕ → Spot → Type 0)
+    (s t : IvfcView S) where
   -- a call that reads
   pub came_read : HasTree (states s.base.now).shape s.difi.now (length s.master.now)
       → WhereKept states keeps (λ s t. SameCells (states s) (states t) × SameTwins (states s) (states t))
@@ -50,10 +52,12 @@ module _ {S : Type 0} (states : S → State) (keeps : Spot → S → S → Type 
       UnlessDisk-map refusal
       (λ (later : IsTrue (shown states t).told).
       (let frame = reads.frame in
-      let below = law s.base.now t.base.now tree.levels.sound tree.levels.single (and_parts _ _ told).0 (and_parts _ _ later).0
+      let below = law s.base.now t.base.now tree.levels.sound tree.levels.single (and_parts _ _ told).0
+      (and_parts _ _ later).0
       (λ spot. (reads.spots told spot).2) in
       rw (frame.0.same_difi, frame.1.1)
-      (came_same (states s.base.now).shape s.difi.now s.master.now tree (states s.base.now).cells (states t.base.now).cells below.0
+      (came_same (states s.base.now).shape s.difi.now s.master.now tree (states s.base.now).cells
+      (states t.base.now).cells below.0
       s.state.now t.state.now frame.1.0 was was_master came)))
       (reads.stays.space.told told)
 
@@ -61,7 +65,8 @@ module _ {S : Type 0} (states : S → State) (keeps : Spot → S → S → Type 
   pub came_put : SameHold s t → t.master.now ≡ s.master.now → (refusal : Option Bad) → NeverDamaged refusal
       → (at : ℕ) (bytes : List ℕ)
       → (IsTrue (shown states s).told
-      → IfDone refusal (PutsContents (states s.base.now) s.master.now s.difi.now s.state.now at bytes (states t.base.now).cells t.state.now))
+      → IfDone refusal (PutsContents (states s.base.now) s.master.now s.difi.now s.state.now at bytes
+      (states t.base.now).cells t.state.now))
       → KeepsOrigins states s t refusal
   came_put hold master_now None never at bytes puts told was was_master came =
       rw (hold.same_difi, master_now) ((puts told).origins was was_master came)

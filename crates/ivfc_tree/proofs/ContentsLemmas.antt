@@ -95,9 +95,11 @@ module _ (base : State) (difi : Difi) (master : List ℕ) (tree : HasTree base.s
         subst (λ (b : ℕ). is_marked now 4 b ≡ true) (sym is) (range.marked k less) in
         rw (state_marked mid master difi (is_marked now) 3 (x / block_size difi.ivfc4) marked) tt
 
-    contents_put : (part : ℕ) → HasPut (view_state base part master difi was) at bytes (cell_of new part master difi now)
+    contents_put : (part : ℕ)
+        → HasPut (view_state base part master difi was) at bytes (cell_of new part master difi now)
     contents_put part =
-        eased_put difi (view_state base part master difi was) at bytes (marked_cell mid part master difi (is_marked now))
+        eased_put difi (view_state base part master difi was) at bytes
+        (marked_cell mid part master difi (is_marked now))
         (marked_cell new part master difi (is_marked now)) refl (λ x. refl) (λ x. refl) fits (range.prepares.eases part)
         (λ k less.
         (let place : four + (at + k) ≡ four + at + k = omega arith in

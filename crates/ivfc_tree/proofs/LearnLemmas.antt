@@ -1,5 +1,6 @@
 -- What is remembered of a path, and what one step down adds to it.
-use Rattle.std.proofs.Common.{◌≡◌, ◌≢◌, ℕ, suc, ◌+◌, ◌≤◌, true, false, IsTrue, List, length, Option, Some, None, Result, Ok, Err, refl, sym, ◌∙◌, ap, subst, arith, inl, inr, zero, ◌⊎◌, ⊎_elim}
+use Rattle.std.proofs.Common.{◌≡◌, ◌≢◌, ℕ, suc, ◌+◌, ◌≤◌, true, false, IsTrue, List, length, Option, Some, None}
+use Rattle.std.proofs.Common.{Result, Ok, Err, refl, sym, ◌∙◌, ap, subst, arith, inl, inr, zero, ◌⊎◌, ⊎_elim}
 use Rattle.std.specs.Result.{result_err}
 use Rattle.std.proofs.lemmas.Bool.{and_parts, and_from, cases_eq}
 use Rattle.std.proofs.lemmas.Option.{same_Some}
@@ -21,7 +22,8 @@ use Rattle.ivfc_tree.specs.Levels.{HasBlock, parent_of}
 use Rattle.ivfc_tree.specs.Marks.{mark_at, is_put, is_marked, IsMadeFor, SameMarks, AsManyMarks, IsSet}
 use Rattle.ivfc_tree.specs.Paths.{own_state, after, marked_state, block_state}
 use Rattle.ivfc_tree.specs.View.{HasTree}
-use Rattle.ivfc_tree.specs.Known.{Agrees, Remembers, is_told, fault_of_path, recalled_by, recalled, unless_recalled, unknown_on_path}
+use Rattle.ivfc_tree.specs.Known.{Agrees, Remembers, is_told, fault_of_path, recalled_by, recalled, unless_recalled}
+use Rattle.ivfc_tree.specs.Known.{unknown_on_path}
 use Rattle.ivfc_tree.specs.Known.{Learns, IsOwn, mark_for, Notes, Looks, Finds}
 use Rattle.ivfc_tree.specs.KnownLaws.{true-remembers, remembers-true}
 use Rattle.ivfc_tree.specs.ViewLaws.{own-same, state-same}
@@ -45,7 +47,8 @@ said_by KnownBlank level block found above is = is
 said_by KnownBad level block found above is = is
 
 -- and is the block's state, where it is true
-said_true : (mark : BlockMark) (level block : ℕ) (found state : BlockState) → recalled_by mark level block None ≡ Some found
+said_true : (mark : BlockMark) (level block : ℕ) (found state : BlockState)
+    → recalled_by mark level block None ≡ Some found
     → (is_put mark ≡ true → state ≡ Good) → Agrees mark level block state → found ≡ state
 said_true Unknown level block found state is put agrees = absurd (cc)
 said_true Put level block found state is put agrees = sym (same_Some _ _ is) ∙ sym (put refl)
@@ -60,7 +63,8 @@ noted_says level block Good above own = refl
 noted_says level block (BlankAt upper at) above own = rw (own.0, own.1) refl
 noted_says level block (BadAt upper at) above own = rw (own.0, own.1) refl
 
-noted_agrees : (level block : ℕ) (found : BlockState) → IsOwn level block found → Agrees (mark_for found) level block found
+noted_agrees : (level block : ℕ) (found : BlockState) → IsOwn level block found
+    → Agrees (mark_for found) level block found
 noted_agrees level block Good own = refl
 noted_agrees level block (BlankAt upper at) own = rw (own.0, own.1) refl
 noted_agrees level block (BadAt upper at) own = rw (own.0, own.1) refl
@@ -84,7 +88,8 @@ is_fault (BlankAt level block) fault = refl
 is_fault (BadAt level block) fault = refl
 
 -- the same marks of put blocks, where one that was none is noted
-noted_marks : (difi : Difi) (level block : ℕ) (found : BlockState) (old new : IvfcState) → is_marked old level block ≡ false
+noted_marks : (difi : Difi) (level block : ℕ) (found : BlockState) (old new : IvfcState)
+    → is_marked old level block ≡ false
     → IsSet level block (mark_for found) old.marks new.marks → SameMarks old new
 noted_marks difi level block found old new unmarked is l b =
     ⊎_elim
@@ -97,12 +102,14 @@ noted_marks difi level block found old new unmarked is l b =
 
 -- a mark that says something is recalled
 recalled_said : (difi : Difi) (state : IvfcState) (level block : ℕ) (found : BlockState) → 1 ≤ level
-    → recalled_by (mark_at state level block) level block None ≡ Some found → recalled difi state level block ≡ Some found
+    → recalled_by (mark_at state level block) level block None ≡ Some found
+    → recalled difi state level block ≡ Some found
 unfolding recalled
 recalled_said difi state zero block found some is = absurd (omega (arith, some))
 recalled_said difi state (suc level) block found some is = said_by _ _ _ found _ is
 
-recall_cases : (o : Option BlockState) → ((found : BlockState) × (o ≡ Some found)) ⊎ ((found : BlockState) → o ≡ Some found → ⊥)
+recall_cases : (o : Option BlockState) → ((found : BlockState) × (o ≡ Some found))
+    ⊎ ((found : BlockState) → o ≡ Some found → ⊥)
 recall_cases None = inr (λ found is. cc)
 recall_cases (Some found) = inl (found, refl)
 
@@ -125,10 +132,12 @@ recalled_noted difi state old (suc level) block found some notes =
 
 module _ (base : State) (master : List ℕ) (difi : Difi) (tree : HasTree base.shape difi (length master)) where
   -- the same states, where the cells are the same and the same blocks are put
-  still : (now : State) (old new : IvfcState) → SameCells base now → SameMarks old new → (level block : ℕ) → HasBlock difi level block
+  still : (now : State) (old new : IvfcState) → SameCells base now → SameMarks old new → (level block : ℕ)
+      → HasBlock difi level block
       → block_state now.cells master difi new level block ≡ block_state base.cells master difi old level block
   still now old new same marks level block there =
-      state-same base.shape difi master tree now.cells base.cells same (is_marked new) (is_marked old) marks level block there
+      state-same base.shape difi master tree now.cells base.cells same (is_marked new) (is_marked old) marks level
+      block there
 
   -- what is remembered is true of the same cells
   pub remembers_later : (now : State) (state : IvfcState) → SameCells base now
@@ -179,12 +188,15 @@ module _ (base : State) (master : List ℕ) (difi : Difi) (tree : HasTree base.s
       }
 
   -- so the view is told behind it
-  told_noted : (now : State) (old new : IvfcState) (level block : ℕ) (found : BlockState) → is_marked old level block ≡ false
-      → Notes level block found old new → found ≡ block_state base.cells master difi old level block → Stays base now None
+  told_noted : (now : State) (old new : IvfcState) (level block : ℕ) (found : BlockState)
+      → is_marked old level block ≡ false
+      → Notes level block found old new → found ≡ block_state base.cells master difi old level block
+      → Stays base now None
       → IsTrue (is_told base master difi old) → IsTrue (is_told now master difi new)
   told_noted now old new level block found unmarked notes is stays told =
       let both = and_parts _ _ told in
-      let noted = remembers_noted old new level block found unmarked notes is (true-remembers base.cells master difi old both.1) in
+      let noted = remembers_noted old new level block found unmarked notes is
+      (true-remembers base.cells master difi old both.1) in
       and_from _ _ (stays.space.told both.0)
       (remembers-true now.cells master difi new (remembers_later now new (stays.cells both.0) noted))
 
@@ -214,7 +226,8 @@ module _ (base : State) (master : List ℕ) (difi : Difi) (tree : HasTree base.s
           };
         }
 
-    module _ (upper : ℕ) (next : level ≡ suc upper) (none : recalled_by (mark_at old level block) level block None ≡ None)
+    module _ (upper : ℕ) (next : level ≡ suc upper)
+        (none : recalled_by (mark_at old level block) level block None ≡ None)
         (mid : State) (between : IvfcState) where
       unmarked : is_marked old level block ≡ false
       unmarked = rw (unknown_mark (mark_at old level block) level block none) refl
@@ -230,7 +243,8 @@ module _ (base : State) (master : List ℕ) (difi : Difi) (tree : HasTree base.s
 
       -- the state of a block that is not put, by that of the one above it
       state_below : (cells : ℕ → Cell) → block_state cells master difi old level block
-          ≡ after (block_state cells master difi old upper (parent_of difi upper block)) (own_state cells master difi level block)
+          ≡ after (block_state cells master difi old upper (parent_of difi upper block))
+          (own_state cells master difi level block)
       unfolding marked_state
       state_below cells = rw next (rw (rw next at unmarked) refl)
 
@@ -257,7 +271,8 @@ module _ (base : State) (master : List ℕ) (difi : Difi) (tree : HasTree base.s
           → Finds base mid master difi old between level block (Ok fault)
       finds_fault fault bad above =
           let says : recalled difi between level block ≡ Some fault = recalled_above between
-          (above.learns.deeper level block (omega (arith, next)) ∙ unknown_mark (mark_at old level block) level block none)
+          (above.learns.deeper level block (omega (arith, next))
+          ∙ unknown_mark (mark_at old level block) level block none)
           ∙ rw above.recalls (is_fault fault bad) in
           record {
             state = λ told. rw (state_below base.cells, ← above.state told) (after-fault fault fault _ refl bad);
@@ -296,7 +311,8 @@ module _ (base : State) (master : List ℕ) (difi : Difi) (tree : HasTree base.s
       }
 
       -- where the block above is good, nothing was recalled of the block
-      module _ (above : Finds base mid master difi old between upper (parent_of difi upper block) (Ok Good)) (now : State)
+      module _ (above : Finds base mid master difi old between upper (parent_of difi upper block) (Ok Good))
+          (now : State)
           (new : IvfcState) where
         unrecalled : (found : BlockState) → recalled difi old level block ≡ Some found → ⊥
         unrecalled found is =
@@ -304,12 +320,14 @@ module _ (base : State) (master : List ℕ) (difi : Difi) (tree : HasTree base.s
             fault.1 (IfOk-at_ok (λ (value : BlockState). value ≡ Good) (above.again found fault.0) refl)
 
         none_said : mark_at between level block ≡ Unknown
-        none_said = above.learns.deeper level block (omega (arith, next)) ∙ unknown_mark (mark_at old level block) level block none
+        none_said = above.learns.deeper level block (omega (arith, next))
+            ∙ unknown_mark (mark_at old level block) level block none
 
         few_more : new.hashed ≤ between.hashed + 1 → new.hashed ≤ old.hashed + unknown_on_path difi old level block
         few_more few = rw (unknown_here unrecalled) (omega (arith, few, above.learns.few))
 
-        looked_state : Stays base mid None → HasBlock difi level block → (found : BlockState) → IsTrue (is_told base master difi old)
+        looked_state : Stays base mid None → HasBlock difi level block → (found : BlockState)
+            → IsTrue (is_told base master difi old)
             → (IsTrue mid.told → found ≡ own_state mid.cells master difi level block)
             → found ≡ block_state base.cells master difi old level block
         looked_state stays there found told own =
@@ -336,7 +354,8 @@ module _ (base : State) (master : List ℕ) (difi : Difi) (tree : HasTree base.s
                   ∙ sym (still base master difi tree mid old between same above.learns.marks level block there) in
                   let later : HasTree mid.shape difi (length master) =
                   subst (λ (shape : Shape). HasTree shape difi (length master)) (sym stays.space.shape) tree in
-                  told_noted mid master difi later now between new level block found unput looks.notes is after (above.told told));
+                  told_noted mid master difi later now between new level block found unput looks.notes is after
+                  (above.told told));
               recalls = says;
               again = λ other is. absurd (unrecalled other is);
               learns = record {

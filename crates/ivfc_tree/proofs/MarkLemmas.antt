@@ -63,7 +63,8 @@ pub mark_there : (difi : Difi) (state : IvfcState) (level block : ℕ) → IsMad
     → block < length (level_marks state.marks level)
 unfolding level_of
 mark_there difi state level block made there =
-    let many = by_level (λ level. length (level_marks state.marks level) ≡ blocks_of (level_of difi level)) made.marks1 made.marks2
+    let many = by_level (λ level. length (level_marks state.marks level) ≡ blocks_of (level_of difi level))
+    made.marks1 made.marks2
     made.marks3
     (made.marks4 ∙ rw (level4_size difi, level4_log difi) refl)
     level there.in_tree in

@@ -1,5 +1,6 @@
 -- A put into a view, by what it leaves in the base and in the state.
-use Rattle.std.proofs.Common.{◌≡◌, ◌≢◌, ◌⊎◌, ℕ, ◌+◌, ◌*◌, ◌/◌, ◌<◌, ◌≤◌, false, IsTrue, List, length, Option, Some, None, refl, sym, ◌∙◌, subst, arith, inl, inr, ⊎_elim}
+use Rattle.std.proofs.Common.{◌≡◌, ◌≢◌, ◌⊎◌, ℕ, ◌+◌, ◌*◌, ◌/◌, ◌<◌, ◌≤◌, false, IsTrue, List, length, Option, Some}
+use Rattle.std.proofs.Common.{None, refl, sym, ◌∙◌, subst, arith, inl, inr, ⊎_elim}
 use Rattle.std.proofs.lemmas.Bool.{and_parts, and_from, cases_lt, ne_eqb}
 use Rattle.std.proofs.lemmas.Nat.{pow_pos, div-mul-add}
 use Rattle.save_bytes.specs.declared.space.Bad.{Bad}
@@ -28,7 +29,8 @@ use Rattle.ivfc_tree.specs.Held.{shown, SameHold, SameOwn, HashKeeps, hash_lands
 use Rattle.ivfc_tree.specs.Known.{HasMarkedParents, is_told}
 use Rattle.ivfc_tree.specs.KnownLaws.{remembers-true}
 use Rattle.ivfc_tree.specs.KeepLaws.{HashLands-before, is_made_for-many}
-use Rattle.ivfc_tree.specs.Readies.{IsUnspoiltPath, HasNoSpoilt, PathSites, RangeSites, IsInPath, IsInPaths, MarksWithin, PutsContents}
+use Rattle.ivfc_tree.specs.Readies.{IsUnspoiltPath, HasNoSpoilt, PathSites, RangeSites, IsInPath, IsInPaths}
+use Rattle.ivfc_tree.specs.Readies.{MarksWithin, PutsContents}
 use Rattle.ivfc_tree.proofs.ViewLemmas.{spoilt_above}
 
 -- a block whose cells are not spoilt
@@ -48,7 +50,8 @@ no_spoilt base part master difi state at n h k less =
 unlevel_marked : (state : IvfcState) (level block : ℕ) → (IsLevel level → ⊥) → is_marked state level block ≡ false
 unfolding mark_in
 unlevel_marked state level block none =
-    let other : (n : ℕ) → 1 ≤ n → n ≤ 4 → level ≢ n = λ n some within is. none (omega (arith, is, some), omega (arith, is, within)) in
+    let other : (n : ℕ) → 1 ≤ n → n ≤ 4 → level ≢ n =
+    λ n some within is. none (omega (arith, is, some), omega (arith, is, within)) in
     rw (
       ne_eqb level 1 (other 1 (omega arith) (omega arith)),
       ne_eqb level 2 (other 2 (omega arith) (omega arith)),
@@ -57,7 +60,8 @@ unlevel_marked state level block none =
     ) refl
 
 -- where no byte was put, the same blocks are marked
-same_marks : (difi : Difi) (at : ℕ) (old new : IvfcState) → MarksWithin (IsInPaths difi at 0) old new → SameMarks old new
+same_marks : (difi : Difi) (at : ℕ) (old new : IvfcState) → MarksWithin (IsInPaths difi at 0) old new
+    → SameMarks old new
 same_marks difi at old new marks level block =
     ⊎_elim
     (λ (here : IsLevel level). marks.others level block here (λ (k, less, is). absurd (omega (arith, less))))
@@ -74,7 +78,8 @@ same_marks difi at old new marks level block =
         (cases_lt level 5))
         (cases_lt level 1)
 
-module _ {S : Type 0} (states : S → State) (keeps : Spot → S → S → Type 0) (lands : S → ℕ → Spot → Type 0) (s t : IvfcView S)
+module _ {S : Type 0} (states : S → State) (keeps : Spot → S → S → Type 0) (lands : S → ℕ → Spot → Type 0)
+    (s t : IvfcView S)
     (refusal : Option Bad) (hold : SameHold s t) (master_now : t.master.now ≡ s.master.now) (at n : ℕ)
     (marks : MarksWithin (IsInPaths s.difi.now at n) s.state.now t.state.now)
     (writes : Writes states keeps lands (RangeSites s.difi.now at n) s.base.now t.base.now refusal) where
@@ -106,7 +111,8 @@ module _ {S : Type 0} (states : S → State) (keeps : Spot → S → S → Type 
           (λ x below (k, level, y, less, here, path, place) lands_x.
           misses k less (inl (level, y, here, path, subst (λ (z : ℕ). lands s.base.now z spot) place lands_x))),
     );
-    damaged = λ can. IfDamaged-never refusal (λ part level block. (spot : Spot) → HashKeeps keeps spot s t) writes.plain;
+    damaged = λ can. IfDamaged-never refusal (λ part level block. (spot : Spot) → HashKeeps keeps spot s t)
+        writes.plain;
     reach = λ can. rw hold.same_difi (UnlessDisk-map refusal
         (HashLands-before (states s.base.now).shape s.difi.now tree.levels (lands s.base.now) (lands t.base.now))
         (writes.reach (and_parts _ _ can.told).0));
@@ -133,13 +139,16 @@ module _ {S : Type 0} (states : S → State) (keeps : Spot → S → S → Type 
   -- and what was put
   module _ (bytes : List ℕ) (len : length bytes ≡ n)
       (puts : IsTrue (is_told (states s.base.now) s.master.now s.difi.now s.state.now)
-      → IfDone refusal (PutsContents (states s.base.now) s.master.now s.difi.now s.state.now at bytes (states t.base.now).cells t.state.now)) where
+      → IfDone refusal (PutsContents (states s.base.now) s.master.now s.difi.now s.state.now at bytes
+      (states t.base.now).cells t.state.now)) where
     put_told : (refusal : Option Bad) → NeverDamaged refusal → UnlessDisk refusal (IsTrue (states t.base.now).told)
-        → IfDone refusal (PutsContents (states s.base.now) s.master.now s.difi.now s.state.now at bytes (states t.base.now).cells t.state.now)
+        → IfDone refusal (PutsContents (states s.base.now) s.master.now s.difi.now s.state.now at bytes
+        (states t.base.now).cells t.state.now)
         → UnlessDisk refusal (IsTrue (shown states t).told)
     put_told None never told done =
         rw (master_now, hold.same_difi)
-        (and_from _ _ told (remembers-true (states t.base.now).cells s.master.now s.difi.now t.state.now done.remembers))
+        (and_from _ _ told (remembers-true (states t.base.now).cells s.master.now s.difi.now t.state.now
+        done.remembers))
     put_told (Some Disk) never told done = tt
     put_told (Some (Damaged part level block)) never told done = absurd never
 
@@ -153,7 +162,8 @@ module _ {S : Type 0} (states : S → State) (keeps : Spot → S → S → Type 
     }
 
     put_done : (refusal : Option Bad)
-        → IfDone refusal (PutsContents (states s.base.now) s.master.now s.difi.now s.state.now at bytes (states t.base.now).cells t.state.now)
+        → IfDone refusal (PutsContents (states s.base.now) s.master.now s.difi.now s.state.now at bytes
+        (states t.base.now).cells t.state.now)
         → IfDone refusal (HasPut (shown states s) at bytes (shown states t).cells)
     put_done None done = rw (master_now, hold.same_difi, hold.same_part) (done.put s.part)
     put_done (Some bad) done = tt
@@ -166,7 +176,8 @@ module _ {S : Type 0} (states : S → State) (keeps : Spot → S → S → Type 
     }
 
 -- a range that was found ready, after the call that found it
-pub unspoilt_after : (s t : State) (at n : ℕ) → at + n ≤ s.shape.size → IsReady s at n None → Stays s t None → IsTrue s.told
+pub unspoilt_after : (s t : State) (at n : ℕ) → at + n ≤ s.shape.size → IsReady s at n None → Stays s t None
+    → IsTrue s.told
     → (k : ℕ) → k < n → IsUnspoilt (t.cells (at + k))
 unspoilt_after s t at n fits ready stays told k less =
     rw (stays.cells told (at + k) (omega (arith, fits, less))) (ready.done told k less)
@@ -175,19 +186,22 @@ pub inside_after : (s t : State) (at n : ℕ) → t.shape ≡ s.shape → IsInsi
 inside_after s t at n same inside = subst (λ (shape : Shape). IsInside shape at n) (sym same) inside
 
 -- and a block that was found ready to be cleared
-pub clearable_after : (s t : State) (at : ℕ) → at < s.shape.size → IsClearReady s at None → Stays s t None → IsTrue s.told
+pub clearable_after : (s t : State) (at : ℕ) → at < s.shape.size → IsClearReady s at None → Stays s t None
+    → IsTrue s.told
     → IsClearable (t.cells at)
 clearable_after s t at inside ready stays told = rw (stays.cells told at inside) (ready.done told)
 
 -- where a block may be cleared, no block above it is spoilt
 pub clear_path : (cells : ℕ → Cell) (master : List ℕ) (difi : Difi) (state : IvfcState) (block part value : ℕ)
-    → HasMarkedParents difi state → HasBlock difi 4 block → IsClearable (cell_in (block_state cells master difi state 4 block) part value)
+    → HasMarkedParents difi state → HasBlock difi 4 block
+    → IsClearable (cell_in (block_state cells master difi state 4 block) part value)
     → IsUnspoiltPath (block_state cells master difi state 3 (block_above difi 4 block 3))
 unfolding block_above
 clear_path cells master difi state block part value closed there clearable =
     decided (block_state cells master difi state 3 (parent_of difi 3 block)) refl
   where
-    decided : (found : BlockState) → found ≡ block_state cells master difi state 3 (parent_of difi 3 block) → IsUnspoiltPath found
+    decided : (found : BlockState) → found ≡ block_state cells master difi state 3 (parent_of difi 3 block)
+        → IsUnspoiltPath found
     decided Good is = tt
     decided (BlankAt level at) is = tt
     decided (BadAt level at) is =
@@ -208,18 +222,21 @@ module _ (difi : Difi) (block n : ℕ) (some : 1 ≤ n) where
         (λ is. out (0, omega (arith, some), rw first_block is));
   }
 
-  pub sites_in_range : (place : ℕ) → PathSites difi block place → RangeSites difi (block * block_size difi.ivfc4) n place
+  pub sites_in_range : (place : ℕ) → PathSites difi block place
+      → RangeSites difi (block * block_size difi.ivfc4) n place
   sites_in_range place (level, y, here, path, is) = (0, level, y, omega (arith, some), here, rw first_block path, is)
 
 -- a put after a call that reads, by which the range was found to be ready where the cells were told
 module _ (s t u : State) (at : ℕ) (bytes : List ℕ) (refusal : Option Bad) (fits : at + length bytes ≤ s.shape.size)
-    (stays : Stays s t None) (space : SameSpace ⊥ t u refusal) (puts : CanPut s at (length bytes) → Puts t at bytes u refusal) where
+    (stays : Stays s t None) (space : SameSpace ⊥ t u refusal)
+    (puts : CanPut s at (length bytes) → Puts t at bytes u refusal) where
   abbrev behind : CanPut s at (length bytes) → Puts s at bytes u refusal
   behind can = Puts-after s t u at bytes fits stays refusal (puts can)
 
   pub Puts-behind : Puts s at bytes u refusal
   Puts-behind =
-      let both : SameSpace ⊥ s u refusal = SameSpace-join s t u refusal (λ never. absurd never) (λ never. never) stays.space space in
+      let both : SameSpace ⊥ s u refusal =
+      SameSpace-join s t u refusal (λ never. absurd never) (λ never. never) stays.space space in
       record {
         space = record {
           shape = both.shape;

@@ -1,5 +1,6 @@
 -- A view as a space.
-use Rattle.std.proofs.Common.{◌≡◌, ◌≢◌, ℕ, zero, suc, Bool, true, false, if◌then◌else◌, ⊎_elim, ◌+◌, ◌-◌, ◌*◌, ◌/◌, ◌%◌, ◌<◌, ◌≤◌, min, IsTrue, List, length, Option, None, Result}
+use Rattle.std.proofs.Common.{◌≡◌, ◌≢◌, ℕ, zero, suc, Bool, true, false, if◌then◌else◌, ⊎_elim, ◌+◌, ◌-◌, ◌*◌, ◌/◌}
+use Rattle.std.proofs.Common.{◌%◌, ◌<◌, ◌≤◌, min, IsTrue, List, length, Option, None, Result}
 use Rattle.std.proofs.Common.{Ok, Err, refl, sym, ◌∙◌, ap, subst, arith}
 use Rattle.std.proofs.lemmas.Bool.{and_parts, cases_lt, cases_Bool}
 use Rattle.std.proofs.lemmas.Nat.{pow_pos, div-add-mod', div-mul-add, mod_below}
@@ -76,7 +77,8 @@ module _ {S : Type 0} (states : S → State) (keeps : Spot → S → S → Type 
       → Reads (shown states) (HashKeeps keeps) (hash_lands lands) s t refusal
   hashed_read tree told reads = record {
     stays = rw (looks.hold.same_part, looks.hold.same_difi, looks.master_now)
-        (view_looked (states s.base.now) (states t.base.now) s.part s.master.now s.difi.now s.state.now t.state.now refusal tree
+        (view_looked (states s.base.now) (states t.base.now) s.part s.master.now s.difi.now s.state.now t.state.now
+        refusal tree
         looks.learns.marks looks.learns.many told reads.stays);
     frame = (looks.hold, looks_own Frame, reads.frame);
     sectors = λ number. (looks.hold, tt, reads.sectors number);
@@ -87,7 +89,8 @@ module _ {S : Type 0} (states : S → State) (keeps : Spot → S → S → Type 
   }
 
   -- and a call that reads the base behind it leaves the view told
-  pub told_behind : (last : State) (ended : Option Bad) → HasTree (states s.base.now).shape s.difi.now (length s.master.now)
+  pub told_behind : (last : State) (ended : Option Bad)
+      → HasTree (states s.base.now).shape s.difi.now (length s.master.now)
       → (states t.base.now).shape ≡ (states s.base.now).shape
       → IsTrue (shown states t).told → Stays (states t.base.now) last ended
       → UnlessDisk ended (IsTrue (is_told last s.master.now s.difi.now t.state.now))
@@ -145,7 +148,8 @@ unspoilt_cell (BadAt level block) part value unspoilt = absurd (unspoilt level b
 module _ (base : State) (part : ℕ) (master : List ℕ) (difi : Difi) (state : IvfcState) (at : ℕ) where
   -- what is answered of a good block
   pub good_verified : at < difi.ivfc4.size → (most n : ℕ) → 1 ≤ most
-      → (IsTrue (is_told base master difi state) → Good ≡ block_state base.cells master difi state 4 (at / block_size difi.ivfc4))
+      → (IsTrue (is_told base master difi state)
+      → Good ≡ block_state base.cells master difi state 4 (at / block_size difi.ivfc4))
       → n ≡ min (rest_of difi at) most
       → IsVerified (view_state base part master difi state) at most (Ok n)
   good_verified inside most n some good is =
@@ -160,7 +164,8 @@ module _ (base : State) (part : ℕ) (master : List ℕ) (difi : Difi) (state : 
 
   -- what is answered of a block that is not spoilt
   pub unspoilt_run : at < difi.ivfc4.size → (most n : ℕ) → 1 ≤ most → (found : BlockState)
-      → (IsTrue (is_told base master difi state) → found ≡ block_state base.cells master difi state 4 (at / block_size difi.ivfc4))
+      → (IsTrue (is_told base master difi state)
+      → found ≡ block_state base.cells master difi state 4 (at / block_size difi.ivfc4))
       → ((level block : ℕ) → found ≢ BadAt level block) → n ≡ min (rest_of difi at) most
       → IsReadyRun (view_state base part master difi state) at most (Ok n)
   unspoilt_run inside most n some found state unspoilt is =
@@ -168,7 +173,8 @@ module _ (base : State) (part : ℕ) (master : List ℕ) (difi : Difi) (state : 
       record {
         some = omega (arith, is, rest.some, some);
         bounded = omega (arith, is);
-        unspoilt = λ told k h. rw (rest.block k (omega (arith, is, h)), ← state told) (unspoilt_cell found part _ unspoilt);
+        unspoilt = λ told k h. rw (rest.block k (omega (arith, is, h)), ← state told)
+            (unspoilt_cell found part _ unspoilt);
         damaged = λ told. tt;
       }
 
@@ -192,7 +198,8 @@ module _ (base : State) (part : ℕ) (master : List ℕ) (difi : Difi) (state : 
         let inside : at + k < difi.ivfc4.size = omega (arith, h, verified.inside) in
         let here : place + k ≡ (level_of difi 4).at + (at + k) = omega (arith, there) in
         let old : base.cells ((level_of difi 4).at + (at + k)) ≡ Byte value =
-        sym (stays.cells (and_parts _ _ told).0 _ (place_inside base.shape difi (length master) (at + k) tree inside)) ∙ rw here at is in
+        sym (stays.cells (and_parts _ _ told).0 _
+        (place_inside base.shape difi (length master) (at + k) tree inside)) ∙ rw here at is in
         byte_cell (block_state base.cells master difi state 4 ((at + k) / block_size difi.ivfc4)) part _
         (verified.bytes told k h) ∙ rw old refl
 
@@ -264,7 +271,8 @@ after_within level (BlankAt upper at) own h k = omega (arith, h)
 after_within level (BadAt upper at) own h k = omega (arith, h)
 
 module _ (cells : ℕ → Cell) (master : List ℕ) (difi : Difi) where
-  fails_within : (marked : ℕ → ℕ → Bool) (level block : ℕ) → FailsWithin level (marked_state cells master difi marked level block)
+  fails_within : (marked : ℕ → ℕ → Bool) (level block : ℕ)
+      → FailsWithin level (marked_state cells master difi marked level block)
   unfolding marked_state
   fails_within marked zero block = tt
   fails_within marked (suc level) block =
@@ -278,7 +286,8 @@ module _ (cells : ℕ → Cell) (master : List ℕ) (difi : Difi) where
 
   -- a block of level four is marked, or what it comes to is decided by level three, unless that is good
   module _ (state : IvfcState) (block : ℕ) (part value : ℕ) where
-    marked_byte : is_marked state 4 block ≡ true → cell_in (block_state cells master difi state 4 block) part value ≡ Byte value
+    marked_byte : is_marked state 4 block ≡ true
+        → cell_in (block_state cells master difi state 4 block) part value ≡ Byte value
     marked_byte marks = rw (← step-marked cells master difi state 4 block (omega arith) marks) refl
 
     unmarked_cell : is_marked state 4 block ≡ false → (above : BlockState)
@@ -317,7 +326,8 @@ module _ (cells : ℕ → Cell) (master : List ℕ) (difi : Difi) where
         let within : level ≤ 3 = rw (← is) at above in
         let none : is_marked state 4 block ≡ false =
         not_marked (is_marked state 4 block) (λ marks. good_bad
-        (step-marked cells master difi state 3 (parent_of difi 3 block) (omega arith) (closed 3 block (omega arith) there marks) ∙ sym is)) in (
+        (step-marked cells master difi state 3 (parent_of difi 3 block) (omega arith)
+        (closed 3 block (omega arith) there marks) ∙ sym is)) in (
           rw (unmarked_cell none (BadAt level at) is) refl,
           omega (arith, within),
         )

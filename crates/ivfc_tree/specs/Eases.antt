@@ -37,7 +37,8 @@ pub record Eases (difi : Difi) (at n : ℕ) (old new : ℕ → Cell) : Type 0 wh
 -- the cell of a byte of level four, where some blocks are marked
 abbrev pub marked_cell : (ℕ → Cell) → ℕ → List ℕ → Difi → (ℕ → ℕ → Bool) → ℕ → Cell
 marked_cell cells part master difi marked x =
-    cell_in (marked_state cells master difi marked 4 (x / block_size difi.ivfc4)) part (value_of (cells ((level_of difi 4).at + x)))
+    cell_in (marked_state cells master difi marked 4 (x / block_size difi.ivfc4)) part
+    (value_of (cells ((level_of difi 4).at + x)))
 
 -- one more block is marked, if it was not
 pub record MarksOne (level block : ℕ) (marked still : ℕ → ℕ → Bool) : Type 0 where
@@ -47,7 +48,8 @@ pub record MarksOne (level block : ℕ) (marked still : ℕ → ℕ → Bool) : 
 -- each byte of a block became zero, and all others of the base are as before
 pub record ZeroesBlock (size : ℕ) (difi : Difi) (level block : ℕ) (old new : ℕ → Cell) : Type 0 where
   pub zeros : (k : ℕ) → k < len_of difi level block → new (block_begin difi level block + k) ≡ Byte 0
-  pub others : (x : ℕ) → x < size → ¬ IsWithin (block_begin difi level block) (len_of difi level block) x → new x ≡ old x
+  pub others : (x : ℕ) → x < size → ¬ IsWithin (block_begin difi level block) (len_of difi level block) x
+      → new x ≡ old x
 
 -- a block's state stays, unless it was blank by a block above it
 abbrev pub StaysUnder : ℕ → BlockState → BlockState → Type 0
@@ -60,25 +62,30 @@ abbrev pub CarriesOrigins : List ℕ → Difi → (ℕ → Cell) → (ℕ → �
 CarriesOrigins master difi old marked new still = (was : ℕ → Cell) (was_master : List ℕ)
     → CameFrom difi marked was was_master old master → CameFrom difi still was was_master new master
 
--- Blocks were made ready for a put into a range: the cells eased, and each block that is not marked came to the same, unless
--- it was blank by a block above it.
+-- Blocks were made ready for a put into a range: the cells eased, and each block that is not marked came to the same,
+-- unless it was blank by a block above it.
 pub record Prepares (master : List ℕ) (difi : Difi) (at n : ℕ) (old : ℕ → Cell) (marked : ℕ → ℕ → Bool) (new : ℕ → Cell)
     (still : ℕ → ℕ → Bool) : Type 0 where
-  pub eases : (part : ℕ) → Eases difi at n (marked_cell old part master difi marked) (marked_cell new part master difi still)
+  pub eases : (part : ℕ) → Eases difi at n (marked_cell old part master difi marked)
+      (marked_cell new part master difi still)
   pub stays : (level block : ℕ) → HasBlock difi level block → still level block ≡ false
-      → StaysUnder level (marked_state old master difi marked level block) (marked_state new master difi still level block)
+      → StaysUnder level (marked_state old master difi marked level block)
+      (marked_state new master difi still level block)
   pub grows : (level block : ℕ) → marked level block ≡ true → still level block ≡ true
   pub origins : CarriesOrigins master difi old marked new still
 
--- Down to some level the path of a block of level four holds above another, from which on it is blank by the block there.
-pub record IsGoodTo (cells : ℕ → Cell) (master : List ℕ) (difi : Difi) (marked : ℕ → ℕ → Bool) (block last from : ℕ) : Type 0 where
+-- Down to some level the path of a block of level four holds above another, from which on it is blank by the block
+-- there.
+pub record IsGoodTo (cells : ℕ → Cell) (master : List ℕ) (difi : Difi) (marked : ℕ → ℕ → Bool) (block last from : ℕ)
+    : Type 0 where
   pub some : 1 ≤ from
   pub good : (level : ℕ) → 1 ≤ level → level < from → level ≤ last
       → marked_state cells master difi marked level (block_above difi 4 block level) ≡ Good
   pub blank : from ≤ last → marked_state cells master difi marked 4 block ≡ BlankAt from (block_above difi 4 block from)
 
 -- A block was made ready: it is marked, and became zero where it is blank and was not marked. Nothing else changed.
-pub record ReadiesBlock (size : ℕ) (difi : Difi) (level block : ℕ) (blank : Bool) (old : ℕ → Cell) (marked : ℕ → ℕ → Bool)
+pub record ReadiesBlock (size : ℕ) (difi : Difi) (level block : ℕ) (blank : Bool) (old : ℕ → Cell)
+    (marked : ℕ → ℕ → Bool)
     (new : ℕ → Cell) (still : ℕ → ℕ → Bool) : Type 0 where
   pub marks : MarksOne level block marked still
   pub zeroed : marked level block ≡ false → blank ≡ true → ZeroesBlock size difi level block old new

@@ -41,7 +41,8 @@ pub record SameHold {S : Type 0} (old new : IvfcView S) : Type 0 where
   pub same_state : new.state.ghost_name ≡ old.state.ghost_name
   pub marks : AsManyMarks old.state.now new.state.now
 
--- a call that looks for a block's state changes nothing of the view itself but what is remembered; the base may have changed
+-- a call that looks for a block's state changes nothing of the view itself but what is remembered; the base may have
+-- changed
 pub record LooksUp {S : Type 0} (level block : ℕ) (old new : IvfcView S) (refusal : Option Bad) : Type 0 where
   pub hold : SameHold old new
   pub master_now : new.master.now ≡ old.master.now

@@ -125,7 +125,8 @@ module _ {S : Type 0} (states : S → State)
         × SameTwins (shown states s) (shown states t))
     HashKeeps-cells law s t sound single told still kept =
         let can = shown_can s sound in
-        let below = law s.base.now t.base.now can.sound can.single (and_parts _ _ told).0 (and_parts _ _ still).0 (λ spot. (kept spot).2) in
+        let below = law s.base.now t.base.now can.sound can.single (and_parts _ _ told).0 (and_parts _ _ still).0
+        (λ spot. (kept spot).2) in
         let frame = kept Frame in
         let there : SameCells (shown states s)
         (view_state (states t.base.now) s.part s.master.now s.difi.now t.state.now) =
@@ -141,7 +142,8 @@ module _ {S : Type 0} (states : S → State)
         (λ s t. LandsAsBefore (shown states s).shape.size (hash_lands lands s) (hash_lands lands t))
     HashKeeps-lands lands law s t sound single told still kept =
         let can = shown_can s sound in
-        let below = law s.base.now t.base.now can.sound can.single (and_parts _ _ told).0 (and_parts _ _ still).0 (λ spot. (kept spot).2) in
+        let below = law s.base.now t.base.now can.sound can.single (and_parts _ _ told).0 (and_parts _ _ still).0
+        (λ spot. (kept spot).2) in
         rw (kept Frame).0.same_difi
         (HashLands-before (states s.base.now).shape s.difi.now (shown_tree s sound).levels (lands s.base.now)
         (lands t.base.now) below)

@@ -1,5 +1,6 @@
 -- What a state remembers of blocks, and when that is true.
-use Rattle.std.specs.Prelude.{◌≡◌, ℕ, zero, suc, ◌+◌, ◌<◌, ◌≤◌, Bool, true, false, ◌&&◌, ◌==◌, List, if◌then◌else◌, IsTrue, Option, Some, None, Result, Ok, IfOk, OnErr}
+use Rattle.std.specs.Prelude.{◌≡◌, ℕ, zero, suc, ◌+◌, ◌<◌, ◌≤◌, Bool, true, false, ◌&&◌, ◌==◌, List, if◌then◌else◌}
+use Rattle.std.specs.Prelude.{IsTrue, Option, Some, None, Result, Ok, IfOk, OnErr}
 use Rattle.std.specs.Result.{result_err}
 use Rattle.save_bytes.specs.declared.space.Bad.{Bad}
 use Rattle.save_bytes.specs.Refusals.{UnlessDisk}
@@ -58,7 +59,9 @@ abbrev pub is_covered : Difi → IvfcState → ℕ → ℕ → Bool
 is_covered difi state zero block = true
 is_covered difi state (suc zero) block = true
 is_covered difi state (suc (suc upper)) block =
-    if is_marked state (suc (suc upper)) block then is_marked state (suc upper) (parent_of difi (suc upper) block) else true
+    if is_marked state (suc (suc upper)) block
+    then is_marked state (suc upper) (parent_of difi (suc upper) block)
+    else true
 
 abbrev pub is_right : (ℕ → Cell) → List ℕ → Difi → IvfcState → ℕ → ℕ → Bool
 is_right cells master difi state level block =
@@ -96,7 +99,8 @@ recalled_by KnownBad level block above = Some (BadAt level block)
 unfoldable pub recalled : Difi → IvfcState → ℕ → ℕ → Option BlockState
 recalled difi state zero block = Some Good
 recalled difi state (suc level) block =
-    recalled_by (mark_at state (suc level) block) (suc level) block (recalled difi state level (parent_of difi level block))
+    recalled_by (mark_at state (suc level) block) (suc level) block
+    (recalled difi state level (parent_of difi level block))
 
 -- nothing is counted where something is recalled
 abbrev pub unless_recalled : Option BlockState → ℕ → ℕ
@@ -107,15 +111,16 @@ unless_recalled (Some found) n = 0
 unfoldable pub unknown_on_path : Difi → IvfcState → ℕ → ℕ → ℕ
 unknown_on_path difi state zero block = 0
 unknown_on_path difi state (suc level) block =
-    unless_recalled (recalled difi state (suc level) block) (1 + unknown_on_path difi state level (parent_of difi level block))
+    unless_recalled (recalled difi state (suc level) block)
+    (1 + unknown_on_path difi state level (parent_of difi level block))
 
 -- what a block's path comes to follows from the marks
 abbrev pub IsRecalled : Difi → IvfcState → ℕ → ℕ → Type 0
 IsRecalled difi state level block = (found : BlockState) × (recalled difi state level block ≡ Some found)
 
--- What a call that looks for a block's state leaves of a view's state: no block is put or cleared by it, and no mark below
--- the block changes. It hashes at most the blocks of the path whose state did not follow from the marks, and from then on
--- that of the block does; where it did before, nothing is hashed.
+-- What a call that looks for a block's state leaves of a view's state: no block is put or cleared by it, and no mark
+-- below the block changes. It hashes at most the blocks of the path whose state did not follow from the marks, and
+-- from then on that of the block does; where it did before, nothing is hashed.
 pub record Learns (difi : Difi) (level block : ℕ) (old new : IvfcState) (refusal : Option Bad) : Type 0 where
   pub marks : SameMarks old new
   pub many : AsManyMarks old new
@@ -151,16 +156,20 @@ pub record Notes (level block : ℕ) (found : BlockState) (old new : IvfcState) 
   pub few : new.hashed ≤ old.hashed + 1
 
 -- what looking at a block's entry and bytes leaves: what they tell is noted
-pub record Looks (base : State) (master : List ℕ) (difi : Difi) (old new : IvfcState) (level block : ℕ) (result : Result BlockState Bad) : Type 0 where
+pub record Looks (base : State) (master : List ℕ) (difi : Difi) (old new : IvfcState) (level block : ℕ)
+    (result : Result BlockState Bad) : Type 0 where
   pub state : IsTrue base.told → IfOk result (λ found. found ≡ own_state base.cells master difi level block)
   pub notes : IfOk result (λ found. Notes level block found old new)
   pub counts : OnErr result (Counts old new)
 
 -- What a call that tells a block's state answers and leaves. It answers as the marks do, where the state follows from
 -- them, and then it does from then on.
-pub record Finds (base now : State) (master : List ℕ) (difi : Difi) (old new : IvfcState) (level block : ℕ) (result : Result BlockState Bad) : Type 0 where
-  pub state : IsTrue (is_told base master difi old) → IfOk result (λ found. found ≡ block_state base.cells master difi old level block)
-  pub told : IsTrue (is_told base master difi old) → UnlessDisk (result_err result) (IsTrue (is_told now master difi new))
+pub record Finds (base now : State) (master : List ℕ) (difi : Difi) (old new : IvfcState) (level block : ℕ)
+    (result : Result BlockState Bad) : Type 0 where
+  pub state : IsTrue (is_told base master difi old)
+      → IfOk result (λ found. found ≡ block_state base.cells master difi old level block)
+  pub told : IsTrue (is_told base master difi old)
+      → UnlessDisk (result_err result) (IsTrue (is_told now master difi new))
   pub recalls : IfOk result (λ found. recalled difi new level block ≡ Some found)
   pub again : (found : BlockState) → recalled difi old level block ≡ Some found → result ≡ Ok found
   pub learns : Learns difi level block old new (result_err result)

@@ -11,7 +11,8 @@ use Rattle.ivfc_tree.specs.declared.path.BlockState.TheVariants.{Good, Blank as 
 use Rattle.ivfc_tree.specs.declared.state.IvfcState.{IvfcState}
 use Rattle.ivfc_tree.specs.Levels.{IsLevel, level_of, HasBlock, parent_of}
 use Rattle.ivfc_tree.specs.Marks.{mark_at, is_marked}
-use Rattle.ivfc_tree.specs.Known.{HasMarkedParents, Agrees, Remembers, passes_below, same_path, agrees_with, is_covered, is_right, remembers}
+use Rattle.ivfc_tree.specs.Known.{HasMarkedParents, Agrees, Remembers, passes_below, same_path, agrees_with}
+use Rattle.ivfc_tree.specs.Known.{is_covered, is_right, remembers}
 use Rattle.ivfc_tree.specs.ViewLaws.{by_level}
 
 -- a number below the bound passes
@@ -82,7 +83,8 @@ module _ (cells : ℕ → Cell) (master : List ℕ) (difi : Difi) (state : IvfcS
       let third = and_parts _ _ second.1 in
       by_level all_right first.0 second.0 third.0 third.1
 
-  covered_from : (upper block : ℕ) → 1 ≤ upper → is_covered difi state (suc upper) block ≡ true → is_marked state (suc upper) block ≡ true
+  covered_from : (upper block : ℕ) → 1 ≤ upper → is_covered difi state (suc upper) block ≡ true
+      → is_marked state (suc upper) block ≡ true
       → is_marked state upper (parent_of difi upper block) ≡ true
   covered_from zero block some h marked = absurd (omega (arith, some))
   covered_from (suc upper) block some h marked = rw marked at h
@@ -98,7 +100,8 @@ module _ (cells : ℕ → Cell) (master : List ℕ) (difi : Difi) (state : IvfcS
             (and_parts _ _ (at level block there)).1;
       }
 
-  covered_to : HasMarkedParents difi state → (level block : ℕ) → HasBlock difi level block → is_covered difi state level block ≡ true
+  covered_to : HasMarkedParents difi state → (level block : ℕ) → HasBlock difi level block
+      → is_covered difi state level block ≡ true
   covered_to closed zero block there = refl
   covered_to closed (suc zero) block there = refl
   covered_to closed (suc (suc upper)) block there =

@@ -56,8 +56,10 @@ pub record IsMadeFor (difi : Difi) (state : IvfcState) : Type 0 where
 -- the same as a test
 abbrev pub is_made_for : Difi → IvfcState → Bool
 is_made_for difi state =
-    (length state.marks.level1.items == blocks_of difi.ivfc1) && ((length state.marks.level2.items == blocks_of difi.ivfc2)
-    && ((length state.marks.level3.items == blocks_of difi.ivfc3) && (length state.marks.level4.items == blocks_of difi.ivfc4)))
+    (length state.marks.level1.items == blocks_of difi.ivfc1)
+    && ((length state.marks.level2.items == blocks_of difi.ivfc2)
+    && ((length state.marks.level3.items == blocks_of difi.ivfc3)
+    && (length state.marks.level4.items == blocks_of difi.ivfc4)))
 
 -- nothing was put or cleared
 abbrev pub HasNoMarks : IvfcState → Type 0

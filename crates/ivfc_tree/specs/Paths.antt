@@ -1,4 +1,5 @@
--- Hash paths: a block is good where it, and each block above it up to the master hash, has the digest that its entry says.
+-- Hash paths: a block is good where it, and each block above it up to the master hash, has the digest that its entry
+-- says.
 use Rattle.std.specs.Prelude.{◌≡◌, ◌≢◌, ℕ, zero, suc, ◌/◌, ◌<◌, ◌≤◌, Bool, false, ◌==◌, bytes_eq, List, if◌then◌else◌}
 use Rattle.sha2.specs.Sha256.{sha256}
 use Rattle.save_bytes.specs.Cells.{Cell, Byte, Blank, Spoilt}
@@ -13,7 +14,8 @@ use Rattle.ivfc_tree.specs.Marks.{is_marked}
 -- which block of a level lies above a block of another level, or is that block
 unfoldable pub block_above : Difi → ℕ → ℕ → ℕ → ℕ
 block_above difi zero block upper = block
-block_above difi (suc level) block upper = if upper == suc level then block else block_above difi level (parent_of difi level block) upper
+block_above difi (suc level) block upper =
+    if upper == suc level then block else block_above difi level (parent_of difi level block) upper
 
 -- the block of a level on the path of byte x of level four
 abbrev pub path_block : Difi → ℕ → ℕ → ℕ
@@ -35,7 +37,8 @@ pub record FailsFirst (cells : ℕ → Cell) (master : List ℕ) (difi : Difi) (
   pub above : upper ≤ level
   pub there : at ≡ block_above difi level block upper
   pub fails : ¬ IsHashed cells master difi upper at
-  pub before : (higher : ℕ) → 1 ≤ higher → higher < upper → IsHashed cells master difi higher (block_above difi level block higher)
+  pub before : (higher : ℕ) → 1 ≤ higher → higher < upper
+      → IsHashed cells master difi higher (block_above difi level block higher)
 
 -- what a block's path comes to: it holds, or fails first at a block that was never written, or at another
 abbrev pub IsStateOf : (ℕ → Cell) → List ℕ → Difi → ℕ → ℕ → BlockState → Type 0

@@ -55,7 +55,8 @@ IsInPaths difi at n level other = (k : ℕ) × (k < n) × (other ≡ path_block 
 -- as many marks, and only some blocks were marked
 pub record MarksWithin (blocks : ℕ → ℕ → Type 0) (old new : IvfcState) : Type 0 where
   pub many : AsManyMarks old new
-  pub others : (level block : ℕ) → IsLevel level → ¬ blocks level block → is_marked new level block ≡ is_marked old level block
+  pub others : (level block : ℕ) → IsLevel level → ¬ blocks level block
+      → is_marked new level block ≡ is_marked old level block
 
 -- no mark changed, but some of the path of a block of level four say that they were put
 pub record PutsPath (difi : Difi) (block last : ℕ) (old new : IvfcState) : Type 0 where
@@ -63,16 +64,19 @@ pub record PutsPath (difi : Difi) (block last : ℕ) (old new : IvfcState) : Typ
   pub each : (level other : ℕ) → (mark_at new level other ≡ mark_at old level other)
       ⊎ ((mark_at new level other ≡ Put) × IsLevel level × (level ≤ last) × IsInPath difi block level other)
 
--- The path of a block of level four was made ready down to a level: the cells of any range that meets the block eased, what is
--- remembered is true, and each block of the path down to there is marked.
-pub record ReadiesPath (master : List ℕ) (difi : Difi) (block last : ℕ) (old : ℕ → Cell) (was : IvfcState) (new : ℕ → Cell)
+-- The path of a block of level four was made ready down to a level: the cells of any range that meets the block eased,
+-- what is remembered is true, and each block of the path down to there is marked.
+pub record ReadiesPath (master : List ℕ) (difi : Difi) (block last : ℕ) (old : ℕ → Cell) (was : IvfcState)
+    (new : ℕ → Cell)
     (now : IvfcState) : Type 0 where
-  pub prepares : (at n : ℕ) → at + n ≤ difi.ivfc4.size → MeetsBlock difi at n block → Prepares master difi at n old (is_marked was) new (is_marked now)
+  pub prepares : (at n : ℕ) → at + n ≤ difi.ivfc4.size → MeetsBlock difi at n block
+      → Prepares master difi at n old (is_marked was) new (is_marked now)
   pub remembers : Remembers new master difi now
   pub marked : (level : ℕ) → 1 ≤ level → level ≤ last → is_marked now level (block_above difi 4 block level) ≡ true
 
 -- the blocks that a range meets were made ready, those of its first bytes at least
-pub record ReadiesRange (master : List ℕ) (difi : Difi) (at n done : ℕ) (old : ℕ → Cell) (was : IvfcState) (new : ℕ → Cell)
+pub record ReadiesRange (master : List ℕ) (difi : Difi) (at n done : ℕ) (old : ℕ → Cell) (was : IvfcState)
+    (new : ℕ → Cell)
     (now : IvfcState) : Type 0 where
   pub prepares : Prepares master difi at n old (is_marked was) new (is_marked now)
   pub remembers : Remembers new master difi now
@@ -82,9 +86,10 @@ pub record ReadiesRange (master : List ℕ) (difi : Difi) (at n done : ℕ) (old
 abbrev pub contents_len : Difi → ℕ → ℕ
 contents_len difi block = min (block_size difi.ivfc4) (difi.ivfc4.size - block * block_size difi.ivfc4)
 
--- Bytes were put into level four: the cells of a view of any part are those after a put, what is remembered is true, and
--- the tree came from where it came from before.
-pub record PutsContents (base : State) (master : List ℕ) (difi : Difi) (was : IvfcState) (at : ℕ) (bytes : List ℕ) (new : ℕ → Cell)
+-- Bytes were put into level four: the cells of a view of any part are those after a put, what is remembered is true,
+-- and the tree came from where it came from before.
+pub record PutsContents (base : State) (master : List ℕ) (difi : Difi) (was : IvfcState) (at : ℕ) (bytes : List ℕ)
+    (new : ℕ → Cell)
     (now : IvfcState) : Type 0 where
   pub put : (part : ℕ) → HasPut (view_state base part master difi was) at bytes (cell_of new part master difi now)
   pub remembers : Remembers new master difi now

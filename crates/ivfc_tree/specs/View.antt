@@ -1,5 +1,6 @@
 -- What a contract sees of a view through a hash tree.
-use Rattle.std.specs.Prelude.{◌≡◌, ℕ, ◌+◌, ◌-◌, ◌*◌, ◌/◌, ◌%◌, ◌^◌, ◌<◌, ◌≤◌, suc, min, Bool, false, ◌&&◌, not, ◌==◌, IsTrue, IsFalse}
+use Rattle.std.specs.Prelude.{◌≡◌, ℕ, ◌+◌, ◌-◌, ◌*◌, ◌/◌, ◌%◌, ◌^◌, ◌<◌, ◌≤◌, suc, min, Bool, false, ◌&&◌, not, ◌==◌}
+use Rattle.std.specs.Prelude.{IsTrue, IsFalse}
 use Rattle.std.specs.Prelude.{List, length, Result, IfOk}
 use Rattle.std.specs.Result.{result_err}
 use Rattle.save_bytes.specs.declared.space.Bad.{Bad}
@@ -23,9 +24,9 @@ use Rattle.ivfc_tree.specs.Marks.{IsMadeFor, is_made_for}
 use Rattle.ivfc_tree.specs.Paths.{block_state, cell_in}
 use Rattle.ivfc_tree.specs.Known.{is_told}
 
--- what a view needs of its base, its descriptor, its master hash and its state: the base is laid out as the double-copy
--- tree's contents, each place of it may be written, it never answers that a cell is damaged, and it has neither twins nor fixed
--- places
+-- what a view needs of its base, its descriptor, its master hash and its state: the base is laid out as the
+-- double-copy tree's contents, each place of it may be written, it never answers that a cell is damaged, and it has
+-- neither twins nor fixed places
 pub record CanViewHashes (base : Shape) (difi : Difi) (master_len : ℕ) (state : IvfcState) : Type 0 where
   pub sound : IsTrue base.sound
   pub plain : IsTrue base.plain
@@ -40,12 +41,14 @@ pub record CanViewHashes (base : Shape) (difi : Difi) (master_len : ℕ) (state 
 -- the same as a test
 unfoldable pub can_view_hashes : Shape → Difi → ℕ → IvfcState → Bool
 can_view_hashes base difi master_len state =
-    base.sound && (base.plain && (not base.doubled && ((base.first == 0) && ((base.size == view_size difi) && ((master_len == difi.master.size)
-    && (not (has_bad_log difi) && (not (has_bad_level difi) && (not (has_overlapping_levels difi) && (not (has_too_few_entries difi)
+    base.sound && (base.plain && (not base.doubled
+    && ((base.first == 0) && ((base.size == view_size difi) && ((master_len == difi.master.size)
+    && (not (has_bad_log difi) && (not (has_bad_level difi)
+    && (not (has_overlapping_levels difi) && (not (has_too_few_entries difi)
     && is_made_for difi state)))))))))
 
--- what follows where the base's size is a number of 64 bits: the levels lie in the base, apart from each other, in blocks
--- of 2 ^ 9 to 2 ^ 16 bytes
+-- what follows where the base's size is a number of 64 bits: the levels lie in the base, apart from each other, in
+-- blocks of 2 ^ 9 to 2 ^ 16 bytes
 pub record HasLevels (base : Shape) (difi : Difi) : Type 0 where
   pub sound : IsTrue base.sound
   pub plain : IsTrue base.plain
@@ -61,12 +64,14 @@ pub record HasLevels (base : Shape) (difi : Difi) : Type 0 where
 pub record HasTree (base : Shape) (difi : Difi) (master_len : ℕ) : Type 0 where
   pub levels : HasLevels base difi
   pub first_entries : 32 * blocks_of (level_of difi 1) ≤ master_len
-  pub entries : (level : ℕ) → IsLevel level → IsLevel (suc level) → 32 * blocks_of (level_of difi (suc level)) ≤ (level_of difi level).size
+  pub entries : (level : ℕ) → IsLevel level → IsLevel (suc level)
+      → 32 * blocks_of (level_of difi (suc level)) ≤ (level_of difi level).size
 
 -- the cell of a byte of level four: the byte in the base, or what its block's path came to
 abbrev pub cell_of : (ℕ → Cell) → ℕ → List ℕ → Difi → IvfcState → ℕ → Cell
 cell_of cells part master difi state x =
-    cell_in (block_state cells master difi state 4 (x / block_size difi.ivfc4)) part (value_of (cells ((level_of difi 4).at + x)))
+    cell_in (block_state cells master difi state 4 (x / block_size difi.ivfc4)) part
+    (value_of (cells ((level_of difi 4).at + x)))
 
 -- level four's bytes by their hash paths; damage spreads in its blocks. They are told where what is remembered is true.
 abbrev pub view_state : State → ℕ → List ℕ → Difi → IvfcState → State

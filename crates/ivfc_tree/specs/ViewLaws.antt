@@ -1,5 +1,6 @@
 -- The tests on a view as facts: where levels lie, and that their bytes and cells hang on the base's alone.
-use Rattle.std.proofs.Common.{◌≡◌, ℕ, zero, suc, ◌+◌, ◌-◌, ◌*◌, ◌/◌, ◌^◌, ◌<◌, ◌≤◌, Bool, true, false, not, List, length, eqb, refl, ap, arith}
+use Rattle.std.proofs.Common.{◌≡◌, ℕ, zero, suc, ◌+◌, ◌-◌, ◌*◌, ◌/◌, ◌^◌, ◌<◌, ◌≤◌, Bool, true, false, not, List}
+use Rattle.std.proofs.Common.{length, eqb, refl, ap, arith}
 use Rattle.std.proofs.lemmas.Bool.{not-true, and_parts, and_from, eq-eqb, eqb-true, ne_eqb}
 use Rattle.save_bytes.specs.Cells.{Cell}
 use Rattle.save_bytes.specs.State.{Shape, State}
@@ -12,10 +13,12 @@ use Rattle.difi.specs.Contents.{view_size}
 use Rattle.save_bytes.specs.Extents.{AreApart}
 use Rattle.difi.specs.Sound.{IsBetween, HasHashLevels}
 use Rattle.difi.proofs.SoundLemmas.{block_sizes, hash_tree}
-use Rattle.difi.proofs.CompleteLemmas.{has_bad_log-none, has_bad_level-none, has_overlapping_levels-none, has_too_few_entries-none}
+use Rattle.difi.proofs.CompleteLemmas.{has_bad_log-none, has_bad_level-none, has_overlapping_levels-none}
+use Rattle.difi.proofs.CompleteLemmas.{has_too_few_entries-none}
 use Rattle.difi.proofs.PlaceLemmas.{block_below}
 use Rattle.ivfc_tree.specs.declared.state.IvfcState.{IvfcState}
-use Rattle.ivfc_tree.specs.Levels.{IsLevel, level_of, level4_of, HasBlock, ivfc_level, padded_block, hash_entry, parent_of}
+use Rattle.ivfc_tree.specs.Levels.{IsLevel, level_of, level4_of, HasBlock, ivfc_level, padded_block, hash_entry}
+use Rattle.ivfc_tree.specs.Levels.{parent_of}
 use Rattle.ivfc_tree.specs.Marks.{IsMadeFor, is_made_for, SameMarks}
 use Rattle.ivfc_tree.specs.Paths.{own_state, marked_state}
 use Rattle.ivfc_tree.specs.View.{CanViewHashes, can_view_hashes, HasLevels, HasTree, view_state}

@@ -29,7 +29,8 @@ pub(crate) fn clear_in<S: Space>(
     requires made { IsMadeFor difi.now state.old }
     requires there { HasBlock difi.now 4 block }
     ensures clears { IsTrue (is_told (S.state base.old) master.now difi.now state.old)
-        → IsUnspoiltPath (block_state (S.state base.old).cells master.now difi.now state.old 3 (block_above difi.now 4 block 3))
+        → IsUnspoiltPath (block_state (S.state base.old).cells master.now difi.now state.old 3
+        (block_above difi.now 4 block 3))
         → IfDone (result_err result)
         (PutsContents (S.state base.old) master.now difi.now state.old (block * block_size difi.now.ivfc4)
         (replicate (contents_len difi.now block) 0) (S.state base.new).cells state.new) }

@@ -97,8 +97,8 @@ fn look<S: Space>(
     }
 }
 
-/// What the path of a block comes to, from the master hash down. A block that was put or cleared counts as good. What is
-/// found is remembered, and what is remembered is not looked at again.
+/// What the path of a block comes to, from the master hash down. A block that was put or cleared counts as good. What
+/// is found is remembered, and what is remembered is not looked at again.
 pub(crate) fn block_state<S: Space>(
     base: &mut S,
     difi: &Difi,
@@ -110,7 +110,8 @@ pub(crate) fn block_state<S: Space>(
     requires tree { HasTree (S.state base.old).shape difi.now (length master.now) }
     requires there { HasBlock difi.now level block }
     requires made { IsMadeFor difi.now state.old }
-    ensures finds { Finds (S.state base.old) (S.state base.new) master.now difi.now state.old state.new level block result }
+    ensures finds { Finds (S.state base.old) (S.state base.new) master.now difi.now state.old state.new level block
+        result }
     ensures plain { NeverDamaged (result_err result) }
     ensures reads { Reads S.state S.keeps S.lands base.old base.new (result_err result) }
 {

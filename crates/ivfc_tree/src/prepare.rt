@@ -13,7 +13,8 @@ ghost use Rattle.ivfc_tree.specs.Paths.{block_above, block_state};
 ghost use Rattle.ivfc_tree.specs.Known.{is_told, Learns};
 ghost use Rattle.ivfc_tree.specs.View.{HasLevels, HasTree};
 ghost use Rattle.ivfc_tree.specs.Eases.{MeetsBlock, ZeroesBlock, ReadiesBlock, Prepares, IsGoodTo};
-ghost use Rattle.ivfc_tree.specs.Readies.{IsUnspoiltPath, IsBlankFrom, PathSites, IsInPath, MarksWithin, PutsPath, ReadiesPath};
+ghost use Rattle.ivfc_tree.specs.Readies.{IsUnspoiltPath, IsBlankFrom, PathSites, IsInPath, MarksWithin, PutsPath};
+ghost use Rattle.ivfc_tree.specs.Readies.{ReadiesPath};
 
 use crate::levels::{block_size, level_of, parent_of};
 use crate::path::{BlockState, block_state};
@@ -29,8 +30,10 @@ pub(crate) fn put_bytes<S: Space>(base: &mut S, at: u64, bytes: &[u8]) -> Result
     requires writable { IsWritable (S.state base.old).shape at (length bytes.now) }
     requires plain { IsTrue (S.state base.old).shape.plain }
     requires single { IsFalse (S.state base.old).shape.doubled }
-    ensures bytes { IsTrue (S.state base.old).told → IfDone (result_err result) (AreBytesAt (S.state base.new).cells at bytes.now) }
-    ensures writes { Writes S.state S.keeps S.lands (IsWithin at (length bytes.now)) base.old base.new (result_err result) }
+    ensures bytes { IsTrue (S.state base.old).told
+        → IfDone (result_err result) (AreBytesAt (S.state base.new).cells at bytes.now) }
+    ensures writes { Writes S.state S.keeps S.lands (IsWithin at (length bytes.now)) base.old base.new
+        (result_err result) }
 {
     base.put(at, bytes)
 }
@@ -79,8 +82,10 @@ pub(crate) fn zero_block<S: Space>(
     requires levels { HasLevels (S.state base.old).shape difi.now }
     requires there { HasBlock difi.now level block }
     ensures zeroed { IsTrue (S.state base.old).told → IfDone (result_err result)
-        (ZeroesBlock (S.state base.old).shape.size difi.now level block (S.state base.old).cells (S.state base.new).cells) }
-    ensures writes { Writes S.state S.keeps S.lands (IsWithin (block_begin difi.now level block) (len_of difi.now level block))
+        (ZeroesBlock (S.state base.old).shape.size difi.now level block (S.state base.old).cells
+        (S.state base.new).cells) }
+    ensures writes { Writes S.state S.keeps S.lands
+        (IsWithin (block_begin difi.now level block) (len_of difi.now level block))
         base.old base.new (result_err result) }
 {
     let place = level_of(difi, level);
@@ -101,9 +106,12 @@ pub(crate) fn zero_and_mark<S: Space>(
     requires made { IsMadeFor difi.now state.old }
     requires there { HasBlock difi.now level block }
     ensures zeroed { IsTrue (S.state base.old).told → IfDone (result_err result)
-        (ZeroesBlock (S.state base.old).shape.size difi.now level block (S.state base.old).cells (S.state base.new).cells) }
-    ensures marks { MatchResult result (λ done. MarksBlock level block state.old state.new) (λ bad. state.new ≡ state.old) }
-    ensures writes { Writes S.state S.keeps S.lands (IsWithin (block_begin difi.now level block) (len_of difi.now level block))
+        (ZeroesBlock (S.state base.old).shape.size difi.now level block (S.state base.old).cells
+        (S.state base.new).cells) }
+    ensures marks { MatchResult result (λ done. MarksBlock level block state.old state.new)
+        (λ bad. state.new ≡ state.old) }
+    ensures writes { Writes S.state S.keeps S.lands
+        (IsWithin (block_begin difi.now level block) (len_of difi.now level block))
         base.old base.new (result_err result) }
 {
     match zero_block(base, difi, level, block) {
@@ -128,10 +136,13 @@ fn prepare_block<S: Space>(
     requires made { IsMadeFor difi.now state.old }
     requires there { HasBlock difi.now level block }
     ensures readied { IsTrue (S.state base.old).told → IfDone (result_err result)
-        (ReadiesBlock (S.state base.old).shape.size difi.now level block blank (S.state base.old).cells (is_marked state.old)
+        (ReadiesBlock (S.state base.old).shape.size difi.now level block blank (S.state base.old).cells
+        (is_marked state.old)
         (S.state base.new).cells (is_marked state.new)) }
-    ensures marks { MatchResult result (λ done. MarksBlock level block state.old state.new) (λ bad. state.new ≡ state.old) }
-    ensures writes { Writes S.state S.keeps S.lands (IsWithin (block_begin difi.now level block) (len_of difi.now level block))
+    ensures marks { MatchResult result (λ done. MarksBlock level block state.old state.new)
+        (λ bad. state.new ≡ state.old) }
+    ensures writes { Writes S.state S.keeps S.lands
+        (IsWithin (block_begin difi.now level block) (len_of difi.now level block))
         base.old base.new (result_err result) }
 {
     if state.is_marked(level, block) {
@@ -187,8 +198,8 @@ fn blank_from<S: Space>(
     }
 }
 
-// Marks the blocks down to a level on the path of a block of level four that are not marked. From one level on they become
-// zero before.
+// Marks the blocks down to a level on the path of a block of level four that are not marked. From one level on they
+// become zero before.
 fn prepare_path<S: Space>(
     base: &mut S,
     difi: &Difi,
@@ -205,7 +216,8 @@ fn prepare_path<S: Space>(
         → HasTree (S.state base.old).shape difi.now (length master)
         → IsGoodTo (S.state base.old).cells master difi.now (is_marked state.old) block last from
         → (at n : ℕ) → at + n ≤ difi.now.ivfc4.size → MeetsBlock difi.now at n block
-        → Prepares master difi.now at n (S.state base.old).cells (is_marked state.old) (S.state base.new).cells (is_marked state.new)) }
+        → Prepares master difi.now at n (S.state base.old).cells (is_marked state.old) (S.state base.new).cells
+        (is_marked state.new)) }
     ensures marked { IfDone (result_err result) ((level : ℕ) → 1 ≤ level → level ≤ last
         → is_marked state.new level (block_above difi.now 4 block level) ≡ true) }
     ensures marks { PutsPath difi.now block last state.old state.new }
@@ -221,8 +233,8 @@ fn prepare_path<S: Space>(
     Ok(())
 }
 
-/// Makes the path of a block of level four ready for a put, down to a level: each block of it that is not marked is marked,
-/// and becomes zero before where it is blank.
+/// Makes the path of a block of level four ready for a put, down to a level: each block of it that is not marked is
+/// marked, and becomes zero before where it is blank.
 pub(crate) fn prepare<S: Space>(
     base: &mut S,
     difi: &Difi,
@@ -236,9 +248,11 @@ pub(crate) fn prepare<S: Space>(
     requires there { HasBlock difi.now 4 block }
     requires last { IsLevel last }
     ensures readied { IsTrue (is_told (S.state base.old) master.now difi.now state.old)
-        → IsUnspoiltPath (block_state (S.state base.old).cells master.now difi.now state.old last (block_above difi.now 4 block last))
+        → IsUnspoiltPath (block_state (S.state base.old).cells master.now difi.now state.old last
+        (block_above difi.now 4 block last))
         → IfDone (result_err result)
-        (ReadiesPath master.now difi.now block last (S.state base.old).cells state.old (S.state base.new).cells state.new) }
+        (ReadiesPath master.now difi.now block last (S.state base.old).cells state.old (S.state base.new).cells
+        state.new) }
     ensures marks { MarksWithin (IsInPath difi.now block) state.old state.new }
     ensures writes { Writes S.state S.keeps S.lands (PathSites difi.now block) base.old base.new (result_err result) }
 {

@@ -30,7 +30,8 @@ fn prepare_range<S: Space>(
     ensures readied { IsTrue (is_told (S.state base.old) master.now difi.now state.old)
         → HasNoSpoilt (S.state base.old).cells master.now difi.now state.old at n
         → IfDone (result_err result)
-        (ReadiesRange master.now difi.now at n n (S.state base.old).cells state.old (S.state base.new).cells state.new) }
+        (ReadiesRange master.now difi.now at n n (S.state base.old).cells state.old (S.state base.new).cells
+        state.new) }
     ensures marks { MarksWithin (IsInPaths difi.now at n) state.old state.new }
     ensures writes { Writes S.state S.keeps S.lands (RangeSites difi.now at n) base.old base.new (result_err result) }
 {
@@ -61,9 +62,11 @@ pub(crate) fn put_in<S: Space>(
     ensures puts { IsTrue (is_told (S.state base.old) master.now difi.now state.old)
         → HasNoSpoilt (S.state base.old).cells master.now difi.now state.old at (length bytes.now)
         → IfDone (result_err result)
-        (PutsContents (S.state base.old) master.now difi.now state.old at bytes.now (S.state base.new).cells state.new) }
+        (PutsContents (S.state base.old) master.now difi.now state.old at bytes.now (S.state base.new).cells
+        state.new) }
     ensures marks { MarksWithin (IsInPaths difi.now at (length bytes.now)) state.old state.new }
-    ensures writes { Writes S.state S.keeps S.lands (RangeSites difi.now at (length bytes.now)) base.old base.new (result_err result) }
+    ensures writes { Writes S.state S.keeps S.lands (RangeSites difi.now at (length bytes.now)) base.old base.new
+        (result_err result) }
 {
     match prepare_range(base, difi, master, state, at, bytes.len() as u64) {
         Ok(()) => put_bytes(base, level_of(difi, 4).at + at, bytes),

@@ -4,7 +4,8 @@ ghost use Rattle.std.specs.Prelude.{◌≡◌, ℕ, ◌<◌, List, length, IfOk,
 ghost use Rattle.save_bytes.specs.Cells.{Cell};
 ghost use Rattle.difi.specs.Sound.{HasBlockSizes};
 ghost use Rattle.ivfc_tree.specs.Levels.{IsLevel};
-ghost use Rattle.ivfc_tree.specs.Marks.{mark_at, is_marked, level_marks, IsMadeFor, HasNoMarks, IsEmpty, MarksBlock, IsSet};
+ghost use Rattle.ivfc_tree.specs.Marks.{mark_at, is_marked, level_marks, IsMadeFor, HasNoMarks, IsEmpty, MarksBlock};
+ghost use Rattle.ivfc_tree.specs.Marks.{IsSet};
 ghost use Rattle.ivfc_tree.specs.Known.{recalled_by, mark_for, Counts};
 ghost use Rattle.ivfc_tree.specs.Paths.{IsStateOf, block_state};
 ghost use Rattle.difi.specs.declared.descriptor.Difi.{Difi};

@@ -15,7 +15,8 @@ ghost use Rattle.save_bytes.specs.Puts.{Puts};
 ghost use Rattle.save_bytes.specs.Spots.{MovesOnly};
 ghost use Rattle.save_bytes.proofs.PutLemmas.{AreUnspoilt};
 ghost use Rattle.std.proofs.lemmas.Bool.{false≢true};
-ghost use Rattle.ivfc_tree.specs.KeepLaws.{shown_fits, HashKeeps-same, HashKeeps-join, HashKeeps-hold, HashKeeps-shape, HashKeeps-cells, HashKeeps-lands};
+ghost use Rattle.ivfc_tree.specs.KeepLaws.{shown_fits, HashKeeps-same, HashKeeps-join, HashKeeps-hold};
+ghost use Rattle.ivfc_tree.specs.KeepLaws.{HashKeeps-shape, HashKeeps-cells, HashKeeps-lands};
 ghost use Rattle.save_bytes.specs.Reads.{Reads};
 ghost use Rattle.difi.specs.Places.{block_size};
 ghost use Rattle.ivfc_tree.specs.Levels.{HasBlock};
@@ -84,9 +85,11 @@ impl<'a, S: Space> IvfcView<'a, S> {
         requires sound { IsTrue (shown S.state self.old).shape.sound }
         requires there { HasBlock self.old.difi.now level block }
         ensures found { IsTrue (shown S.state self.old).told → IfOk result (λ found. found
-            ≡ block_state (S.state self.old.base.now).cells self.old.master.now self.old.difi.now self.old.state.now level block) }
+            ≡ block_state (S.state self.old.base.now).cells self.old.master.now self.old.difi.now self.old.state.now
+            level block) }
         ensures plain { NeverDamaged (result_err result) }
-        ensures reads { Reads (shown S.state) (HashKeeps S.keeps) (hash_lands S.lands) self.old self.new (result_err result) }
+        ensures reads { Reads (shown S.state) (HashKeeps S.keeps) (hash_lands S.lands) self.old self.new
+            (result_err result) }
         ensures base { Reads S.state S.keeps S.lands self.old.base.now self.new.base.now (result_err result) }
         ensures looks { LooksUp level block self.old self.new (result_err result) }
     {
@@ -103,7 +106,8 @@ impl<'a, S: Space> IvfcView<'a, S> {
         requires inside { IsInside (shown S.state self.old).shape at 1 }
         requires some { 1 ≤ most }
         ensures verified { IsVerified (shown S.state self.old) at most result }
-        ensures reads { Reads (shown S.state) (HashKeeps S.keeps) (hash_lands S.lands) self.old self.new (result_err result) }
+        ensures reads { Reads (shown S.state) (HashKeeps S.keeps) (hash_lands S.lands) self.old self.new
+            (result_err result) }
         ensures base { Reads S.state S.keeps S.lands self.old.base.now self.new.base.now (result_err result) }
         ensures looks { LooksUp 4 (at / block_size self.old.difi.now.ivfc4) self.old self.new (result_err result) }
     {
@@ -128,10 +132,13 @@ impl<'a, S: Space> IvfcView<'a, S> {
         ensures plain { NeverDamaged (result_err result) }
         ensures space { SameSpace ⊥ (shown S.state self.old) (shown S.state self.new) (result_err result) }
         ensures puts { let block = (shown S.state self.old).shape in IsClearable ((shown S.state self.old).cells at)
-            → Puts (shown S.state self.old) (block.block_start at) (replicate (block.block_len at) 0) (shown S.state self.new) (result_err result) }
-        ensures came { IsClearable ((shown S.state self.old).cells at) → KeepsOrigins S.state self.old self.new (result_err result) }
+            → Puts (shown S.state self.old) (block.block_start at) (replicate (block.block_len at) 0)
+            (shown S.state self.new) (result_err result) }
+        ensures came { IsClearable ((shown S.state self.old).cells at)
+            → KeepsOrigins S.state self.old self.new (result_err result) }
         ensures moves { let block = (shown S.state self.old).shape in
-            MovesOnly (HashKeeps S.keeps) (hash_lands S.lands) (shown S.state self.old) self.old (block.block_start at) (block.block_len at) self.new (result_err result) }
+            MovesOnly (HashKeeps S.keeps) (hash_lands S.lands) (shown S.state self.old) self.old
+            (block.block_start at) (block.block_len at) self.new (result_err result) }
     {
         let block = at / block_size(&self.difi.ivfc4);
         let base = &mut *self.base;
@@ -145,7 +152,8 @@ impl<'a, S: Space> IvfcView<'a, S> {
         requires inside { IsInside (shown S.state self.old).shape at 1 }
         requires some { 1 ≤ most }
         ensures ready { IsReadyRun (shown S.state self.old) at most result }
-        ensures reads { Reads (shown S.state) (HashKeeps S.keeps) (hash_lands S.lands) self.old self.new (result_err result) }
+        ensures reads { Reads (shown S.state) (HashKeeps S.keeps) (hash_lands S.lands) self.old self.new
+            (result_err result) }
     {
         let block = at / block_size(&self.difi.ivfc4);
         let rest = rest_of_block(self.difi, at).min(most);
@@ -170,8 +178,10 @@ impl<'a, S: Space> IvfcView<'a, S> {
         ensures space { SameSpace ⊥ (shown S.state self.old) (shown S.state self.new) (result_err result) }
         ensures puts { AreUnspoilt (shown S.state self.old) at (length bytes.now)
             → Puts (shown S.state self.old) at bytes.now (shown S.state self.new) (result_err result) }
-        ensures came { AreUnspoilt (shown S.state self.old) at (length bytes.now) → KeepsOrigins S.state self.old self.new (result_err result) }
-        ensures moves { MovesOnly (HashKeeps S.keeps) (hash_lands S.lands) (shown S.state self.old) self.old at (length bytes.now)
+        ensures came { AreUnspoilt (shown S.state self.old) at (length bytes.now)
+            → KeepsOrigins S.state self.old self.new (result_err result) }
+        ensures moves { MovesOnly (HashKeeps S.keeps) (hash_lands S.lands) (shown S.state self.old)
+            self.old at (length bytes.now)
             self.new (result_err result) }
     {
         let base = &mut *self.base;
@@ -205,9 +215,11 @@ impl<'a, S: Space> IvfcView<'a, S> {
         requires sound { IsTrue (shown S.state self.old).shape.sound }
         requires there { HasBlock self.old.difi.now level block }
         ensures status { IsTrue (shown S.state self.old).told → IfOk result (λ status. status
-            ≡ status_of (block_state (S.state self.old.base.now).cells self.old.master.now self.old.difi.now self.old.state.now level block)) }
+            ≡ status_of (block_state (S.state self.old.base.now).cells self.old.master.now self.old.difi.now
+            self.old.state.now level block)) }
         ensures plain { NeverDamaged (result_err result) }
-        ensures reads { Reads (shown S.state) (HashKeeps S.keeps) (hash_lands S.lands) self.old self.new (result_err result) }
+        ensures reads { Reads (shown S.state) (HashKeeps S.keeps) (hash_lands S.lands) self.old self.new
+            (result_err result) }
         ensures base { Reads S.state S.keeps S.lands self.old.base.now self.new.base.now (result_err result) }
         ensures looks { LooksUp level block self.old self.new (result_err result) }
     {
@@ -279,14 +291,16 @@ impl<S: Space> Space for IvfcView<'_, S> {
         Ok(())
     }
 
-    /// Beside what each space promises: a tree that the view's came from as the transaction began is one that it comes from.
+    /// Beside what each space promises: a tree that the view's came from as the transaction began is one that it comes
+    /// from.
     fn put(&mut self, at: u64, bytes: &[u8]) -> Result<(), Bad>
         requires { IsWritable (shown S.state self.old).shape at (length bytes.now) }
         ensures ready { CanPut (shown S.state self.old) at (length bytes.now)
             → IsReady (shown S.state self.old) at (length bytes.now) (result_err result) }
         ensures plain { IsTrue (shown S.state self.old).shape.plain → NeverDamaged (result_err result) }
         ensures puts { Puts (shown S.state self.old) at bytes.now (shown S.state self.new) (result_err result) }
-        ensures moves { MovesOnly (HashKeeps S.keeps) (hash_lands S.lands) (shown S.state self.old) self.old at (length bytes.now)
+        ensures moves { MovesOnly (HashKeeps S.keeps) (hash_lands S.lands) (shown S.state self.old)
+            self.old at (length bytes.now)
             self.new (result_err result) }
         ensures came { KeepsOrigins S.state self.old self.new (result_err result) }
     {
@@ -328,14 +342,17 @@ impl<S: Space> Floor for IvfcView<'_, S> {
         }
     }
 
-    /// Beside what each floor promises: a tree that the view's came from as the transaction began is one that it comes from.
+    /// Beside what each floor promises: a tree that the view's came from as the transaction began is one that it comes
+    /// from.
     fn clear(&mut self, at: u64) -> Result<(), Bad>
         requires { IsInside (shown S.state self.old).shape at 1 }
         ensures ready { IsClearReady (shown S.state self.old) at (result_err result) }
         ensures puts { let block = (shown S.state self.old).shape in
-            Puts (shown S.state self.old) (block.block_start at) (replicate (block.block_len at) 0) (shown S.state self.new) (result_err result) }
+            Puts (shown S.state self.old) (block.block_start at) (replicate (block.block_len at) 0)
+            (shown S.state self.new) (result_err result) }
         ensures moves { let block = (shown S.state self.old).shape in
-            MovesOnly (HashKeeps S.keeps) (hash_lands S.lands) (shown S.state self.old) self.old (block.block_start at) (block.block_len at)
+            MovesOnly (HashKeeps S.keeps) (hash_lands S.lands) (shown S.state self.old) self.old
+            (block.block_start at) (block.block_len at)
             self.new (result_err result) }
         ensures came { KeepsOrigins S.state self.old self.new (result_err result) }
     {

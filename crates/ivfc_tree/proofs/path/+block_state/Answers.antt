@@ -8,7 +8,8 @@ use Rattle.ivfc_tree.proofs.path.+block_state.Goals as goal
 
 pub returns-in-Some-clause-finds : goal.returns-in-Some-clause-finds
 returns-in-Some-clause-finds g t c =
-    finds_said (g.S.Space.state c.args.base.now) c.args.master.now c.args.difi.now c.requires.tree c.args.state.now c.args.level
+    finds_said (g.S.Space.state c.args.base.now) c.args.master.now c.args.difi.now c.requires.tree c.args.state.now
+    c.args.level
     c.args.block
     c.requires.there.in_tree.0 c.requires.there c.in-Some.found (sym c.recall.ensures ∙ c.in-Some.is)
 
@@ -20,26 +21,31 @@ returns-then-level-eq1-clause-finds g t c =
     let next : c.args.level ≡ suc 0 = omega (arith, c.if-level-eq1.true) in
     finds_look base c.args.master.now difi c.requires.tree state c.args.level c.args.block 0 next
     (sym c.recall.ensures ∙ c.in_default.is) base state (finds_top base c.args.master.now difi c.requires.tree state _)
-    (g.S.Space.state c.look.new.base) c.look.new.state (Stays-same base) c.requires.there c.look.result c.look.ensures.reads.stays
+    (g.S.Space.state c.look.new.base) c.look.new.state (Stays-same base) c.requires.there c.look.result
+    c.look.ensures.reads.stays
     c.look.ensures.plain c.look.ensures.looks
 
 pub returns-in-Err-clause-finds : goal.returns-in-Err-clause-finds
 returns-in-Err-clause-finds g t c =
     let next : c.args.level ≡ suc (c.args.level - 1) = omega (arith, c.requires.there.in_tree.0) in
-    finds_failed (g.S.Space.state c.args.base.now) c.args.master.now c.args.difi.now c.requires.tree c.args.state.now c.args.level
+    finds_failed (g.S.Space.state c.args.base.now) c.args.master.now c.args.difi.now c.requires.tree c.args.state.now
+    c.args.level
     c.args.block (c.args.level - 1) next
-    (sym c.recall.ensures ∙ c.in_default.is) (g.S.Space.state c.block_state.new.base) c.block_state.new.state c.in-Err.bad
+    (sym c.recall.ensures ∙ c.in_default.is) (g.S.Space.state c.block_state.new.base) c.block_state.new.state
+    c.in-Err.bad
     c.in-Err.ensures.plain
     (rw c.parent_of-above.ensures at c.in-Err.ensures.finds)
 
 pub look-requires-in-Good-clause-made : goal.look-requires-in-Good-clause-made
 look-requires-in-Good-clause-made g t c =
-    made_later c.args.difi.now c.args.state.now c.block_state.new.state c.in-Ok.ensures.finds.learns.many c.requires.made
+    made_later c.args.difi.now c.args.state.now c.block_state.new.state c.in-Ok.ensures.finds.learns.many
+    c.requires.made
 
 pub returns-in-Good-clause-finds : goal.returns-in-Good-clause-finds
 returns-in-Good-clause-finds g t c =
     let next : c.args.level ≡ suc (c.args.level - 1) = omega (arith, c.requires.there.in_tree.0) in
-    finds_look (g.S.Space.state c.args.base.now) c.args.master.now c.args.difi.now c.requires.tree c.args.state.now c.args.level
+    finds_look (g.S.Space.state c.args.base.now) c.args.master.now c.args.difi.now c.requires.tree c.args.state.now
+    c.args.level
     c.args.block (c.args.level - 1) next
     (sym c.recall.ensures ∙ c.in_default.is) (g.S.Space.state c.block_state.new.base) c.block_state.new.state
     (rw (c.parent_of-above.ensures, c.in-Good.is) at c.in-Ok.ensures.finds)
@@ -57,7 +63,8 @@ pub returns-in_default-found : goal.returns-in_default-found
 returns-in_default-found g t c =
     let next : c.args.level ≡ suc (c.args.level - 1) = omega (arith, c.requires.there.in_tree.0) in
     record {
-      finds = finds_fault (g.S.Space.state c.args.base.now) c.args.master.now c.args.difi.now c.requires.tree c.args.state.now
+      finds = finds_fault (g.S.Space.state c.args.base.now) c.args.master.now c.args.difi.now c.requires.tree
+          c.args.state.now
           c.args.level
           c.args.block (c.args.level - 1) next
           (sym c.recall.ensures ∙ c.in_default.is) (g.S.Space.state c.block_state.new.base) c.block_state.new.state

@@ -11,7 +11,8 @@ use Rattle.ivfc_tree.specs.ViewLaws.{block_of_there}
 use Rattle.ivfc_tree.specs.KeepLaws.{shown_can, shown_tree}
 use Rattle.ivfc_tree.specs.Readies.{PathSites, RangeSites}
 use Rattle.save_bytes.proofs.WriteLemmas.{Writes-wider}
-use Rattle.ivfc_tree.proofs.PutViewLemmas.{clear_path, marks_in_range, sites_in_range, put_space_alone, put_moves, put_puts}
+use Rattle.ivfc_tree.proofs.PutViewLemmas.{clear_path, marks_in_range, sites_in_range, put_space_alone, put_moves}
+use Rattle.ivfc_tree.proofs.PutViewLemmas.{put_puts}
 use Rattle.ivfc_tree.proofs.CameLemmas.{came_put}
 use Rattle.ivfc_tree.proofs.view.IvfcView.clear_block.Goals as goal
 
@@ -49,8 +50,10 @@ returns g c =
     let some : 1 ≤ n = omega (arith, pow_pos difi.ivfc4.log, div-mul-le_self c.args.at size, c.requires.inside) in
     let did = rw c.block_size.ensures at c.clear_in.ensures in
     let marks = marks_in_range difi block n some view.state.now c.clear_in.new.state did.marks in
-    let writes = Writes-wider space.state space.keeps space.lands (PathSites difi block) (RangeSites difi (block * size) n)
-    view.base.now c.clear_in.new.base refusal (λ told x below site. sites_in_range difi block n some x site) did.writes in
+    let writes = Writes-wider space.state space.keeps space.lands (PathSites difi block)
+    (RangeSites difi (block * size) n)
+    view.base.now c.clear_in.new.base refusal (λ told x below site. sites_in_range difi block n some x site)
+    did.writes in
     let hold : SameHold view (record view {
       base = record view.base { now = c.clear_in.new.base };
       state = record view.state { now = c.clear_in.new.state };
@@ -65,12 +68,15 @@ returns g c =
     } in
     record {
       plain = did.writes.plain;
-      space = put_space_alone space.state space.keeps space.lands view _ refusal hold refl (block * size) n marks writes;
-      puts = λ clearable. put_puts space.state space.keeps space.lands view _ refusal hold refl (block * size) n marks writes
+      space = put_space_alone space.state space.keeps space.lands view _ refusal hold refl (block * size) n marks
+          writes;
+      puts = λ clearable. put_puts space.state space.keeps space.lands view _ refusal hold refl (block * size) n
+          marks writes
           (replicate n 0) (length-replicate n 0)
           (λ told. did.clears told (clear_path cells view.master.now difi view.state.now block view.part _
           (true-remembers cells view.master.now difi view.state.now (and_parts _ _ told).1).closed there clearable));
-      came = λ clearable. came_put space.state space.keeps space.lands view _ hold refl refusal did.writes.plain (block * size) (replicate n 0)
+      came = λ clearable. came_put space.state space.keeps space.lands view _ hold refl refusal did.writes.plain
+          (block * size) (replicate n 0)
           (λ told. did.clears told (clear_path cells view.master.now difi view.state.now block view.part _
           (true-remembers cells view.master.now difi view.state.now (and_parts _ _ told).1).closed there clearable));
       moves = put_moves space.state space.keeps space.lands view _ refusal hold refl (block * size) n marks writes tree;

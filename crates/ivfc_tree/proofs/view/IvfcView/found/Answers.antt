@@ -18,7 +18,8 @@ pub returns-clause-reads : goal.returns-clause-reads
 returns-clause-reads g c =
     let space = g.S.Space in
     let tree = shown_tree space.state g.met.S.Space.size_fits c.args.self.now c.requires.sound in
-    hashed_read space.state space.keeps space.lands c.args.level c.args.block c.args.self.now _ (result_err c.block_state.result)
+    hashed_read space.state space.keeps space.lands c.args.level c.args.block c.args.self.now _
+    (result_err c.block_state.result)
     (record {
       hold = record {
         same_base = refl;

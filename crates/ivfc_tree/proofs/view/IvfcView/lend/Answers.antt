@@ -41,7 +41,8 @@ returns g c =
     let first = c.in-Ok.ensures in
     let hold = first.looks.hold in
     let block = c.args.at / block_size view.difi.now.ivfc4 in
-    let base = Reads-join space.state space.keeps space.lands g.met.S.Space.keeps_join view.base.now mid.base.now last refusal
+    let base = Reads-join space.state space.keeps space.lands g.met.S.Space.keeps_join view.base.now mid.base.now
+    last refusal
     first.base
     c.piece.follows.holds-at-none in
     let looks : LooksUp 4 block view (record mid { base = record mid.base { now = last } }) refusal = record {
@@ -59,7 +60,8 @@ returns g c =
     } in
     let told : IsTrue (is_told (space.state view.base.now) view.master.now view.difi.now view.state.now)
     → UnlessDisk refusal (IsTrue (is_told (space.state last) view.master.now view.difi.now mid.state.now)) = λ told.
-    told_behind space.state space.keeps space.lands 4 block view mid _ first.looks (space.state last) refusal tree first.base.stays.space.shape
+    told_behind space.state space.keeps space.lands 4 block view mid _ first.looks (space.state last) refusal tree
+    first.base.stays.space.shape
     (first.reads.stays.space.told told) c.piece.follows.holds-at-none.stays in (
       (
         refl,

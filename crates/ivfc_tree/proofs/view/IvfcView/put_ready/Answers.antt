@@ -38,13 +38,19 @@ returns g c =
     } in
     record {
       plain = did.writes.plain;
-      space = put_space_alone space.state space.keeps space.lands view _ refusal hold refl c.args.at (length bytes) did.marks did.writes;
-      puts = λ unspoilt. put_puts space.state space.keeps space.lands view _ refusal hold refl c.args.at (length bytes) did.marks did.writes
+      space = put_space_alone space.state space.keeps space.lands view _ refusal hold refl c.args.at (length bytes)
+          did.marks did.writes;
+      puts = λ unspoilt. put_puts space.state space.keeps space.lands view _ refusal hold refl c.args.at
+          (length bytes) did.marks did.writes
           bytes refl
-          (λ told. did.puts told (no_spoilt (space.state view.base.now) view.part view.master.now view.difi.now view.state.now
+          (λ told. did.puts told (no_spoilt (space.state view.base.now) view.part view.master.now view.difi.now
+          view.state.now
           c.args.at (length bytes) unspoilt));
-      came = λ unspoilt. came_put space.state space.keeps space.lands view _ hold refl refusal did.writes.plain c.args.at bytes
-          (λ told. did.puts told (no_spoilt (space.state view.base.now) view.part view.master.now view.difi.now view.state.now
+      came = λ unspoilt. came_put space.state space.keeps space.lands view _ hold refl refusal did.writes.plain
+          c.args.at bytes
+          (λ told. did.puts told (no_spoilt (space.state view.base.now) view.part view.master.now view.difi.now
+          view.state.now
           c.args.at (length bytes) unspoilt));
-      moves = put_moves space.state space.keeps space.lands view _ refusal hold refl c.args.at (length bytes) did.marks did.writes tree;
+      moves = put_moves space.state space.keeps space.lands view _ refusal hold refl c.args.at (length bytes)
+          did.marks did.writes tree;
     }

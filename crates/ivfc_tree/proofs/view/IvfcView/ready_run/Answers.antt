@@ -22,7 +22,8 @@ pub returns-in_default : goal.returns-in_default
 returns-in_default g c =
     let view = c.args.self.now in
     record {
-      ready = unspoilt_run (g.S.Space.state view.base.now) view.part view.master.now view.difi.now view.state.now c.args.at
+      ready = unspoilt_run (g.S.Space.state view.base.now) view.part view.master.now view.difi.now view.state.now
+          c.args.at
           (omega (arith, c.requires.inside.inside)) c.args.most _ c.requires.some c.in-Ok.found
           (λ told. rw c.block_size.ensures at c.in-Ok.ensures.found told)
           c.in_default.not-Bad

@@ -33,7 +33,8 @@ returns-in-Ok-clause-puts g c =
     → Puts (states c.clear_ready.new.self) (shape.block_start c.args.at) (replicate (shape.block_len c.args.at) 0)
     (states c.clear_block.new.self) (result_err c.clear_block.result) in
     let puts = subst Cleared ready.reads.stays.space.shape did.puts in
-    Puts-behind (states c.args.self.now) (states c.clear_ready.new.self) (states c.clear_block.new.self) start (replicate n 0)
+    Puts-behind (states c.args.self.now) (states c.clear_ready.new.self) (states c.clear_block.new.self) start
+    (replicate n 0)
     (result_err c.clear_block.result)
     (rw length-replicate (omega (arith, c.requires.inside, div-mul-le_self c.args.at size)))
     ready.reads.stays did.space
@@ -48,10 +49,12 @@ returns-in-Ok-clause-moves g c =
     let start = c.args.at / size * size in
     let n = min size (difi.ivfc4.size - start) in
     let Moved : Shape → Type 0 = λ shape. MovesOnly (HashKeeps space.keeps) (hash_lands space.lands)
-    (shown space.state c.clear_ready.new.self) c.clear_ready.new.self (shape.block_start c.args.at) (shape.block_len c.args.at)
+    (shown space.state c.clear_ready.new.self) c.clear_ready.new.self (shape.block_start c.args.at)
+    (shape.block_len c.args.at)
     c.clear_block.new.self (result_err c.clear_block.result) in
     MovesOnly-after (shown space.state) (HashKeeps space.keeps) (hash_lands space.lands)
-    (HashKeeps-join space.keeps g.met.S.Space.keeps_join) c.args.self.now c.clear_ready.new.self c.clear_block.new.self start n
+    (HashKeeps-join space.keeps g.met.S.Space.keeps_join) c.args.self.now c.clear_ready.new.self
+    c.clear_block.new.self start n
     (result_err c.clear_block.result)
     (HashKeeps-hold space.keeps g.met.S.Space.keeps_hold c.args.self.now c.clear_ready.new.self)
     (omega (arith, c.requires.inside, div-mul-le_self c.args.at size)) c.in-Ok.ensures.reads

@@ -24,7 +24,8 @@ parent_of-above-requires-clause-fits g c =
     let view = c.args.self.now in
     let tree = shown_tree space.state g.met.S.Space.size_fits view c.requires.sound in
     let block = block_of_there view.difi.now c.args.at (omega (arith, c.requires.inside)) in
-    let above = parent_there (space.state view.base.now).shape view.difi.now (length view.master.now) 3 _ tree (omega arith) block in
+    let above = parent_there (space.state view.base.now).shape view.difi.now (length view.master.now) 3 _ tree
+    (omega arith) block in
     let levels = tree.levels.inside 3 (omega arith, omega arith) in
     rw c.block_size.ensures (omega (arith, above.inside, levels, tree.levels.small))
 
@@ -34,7 +35,8 @@ found-requires-clause-there g c =
     let view = c.args.self.now in
     let tree = shown_tree space.state g.met.S.Space.size_fits view c.requires.sound in
     let block = block_of_there view.difi.now c.args.at (omega (arith, c.requires.inside)) in
-    let above = parent_there (space.state view.base.now).shape view.difi.now (length view.master.now) 3 _ tree (omega arith) block in
+    let above = parent_there (space.state view.base.now).shape view.difi.now (length view.master.now) 3 _ tree
+    (omega arith) block in
     rw (c.parent_of-above.ensures, c.block_size.ensures) above.parent
 
 pub returns-in-Bad-clause-ready : goal.returns-in-Bad-clause-ready
@@ -44,7 +46,8 @@ returns-in-Bad-clause-ready g c =
     let block = block_of_there view.difi.now c.args.at (omega (arith, c.requires.inside)) in
     record {
       done = λ told. tt;
-      damaged = λ told. rw c.in-Ok.ensures.looks.hold.same_part (spoilt_above cells view.master.now view.difi.now view.state.now (c.args.at / block_size view.difi.now.ivfc4)
+      damaged = λ told. rw c.in-Ok.ensures.looks.hold.same_part
+          (spoilt_above cells view.master.now view.difi.now view.state.now (c.args.at / block_size view.difi.now.ivfc4)
           view.part _
           (true-remembers cells view.master.now view.difi.now view.state.now (and_parts _ _ told).1).closed
           block c.in-Bad.level c.in-Bad.block
@@ -58,7 +61,8 @@ returns-in_default g c =
     let cells = (g.S.Space.state view.base.now).cells in
     record {
       ready = record {
-        done = λ told. clearable cells view.master.now view.difi.now view.state.now (c.args.at / block_size view.difi.now.ivfc4)
+        done = λ told. clearable cells view.master.now view.difi.now view.state.now
+            (c.args.at / block_size view.difi.now.ivfc4)
             view.part _ c.in-Ok.found
             (rw (c.parent_of-above.ensures, c.block_size.ensures) at c.in-Ok.ensures.found told)
             c.in_default.not-Bad;

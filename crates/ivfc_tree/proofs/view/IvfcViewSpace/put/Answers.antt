@@ -18,16 +18,19 @@ returns-in-Ok-clause-puts g c =
     let states = shown g.S.Space.state in
     let ready = c.in-Ok.ensures in
     let did = c.put_ready.ensures in
-    Puts-behind (states c.args.self.now) (states c.ready.new.self) (states c.put_ready.new.self) c.args.at c.args.bytes.now
+    Puts-behind (states c.args.self.now) (states c.ready.new.self) (states c.put_ready.new.self) c.args.at
+    c.args.bytes.now
     (result_err c.put_ready.result) c.requires.inside.inside ready.reads.stays did.space
-    (λ can. did.puts (unspoilt_after (states c.args.self.now) (states c.ready.new.self) c.args.at (length c.args.bytes.now)
+    (λ can. did.puts (unspoilt_after (states c.args.self.now) (states c.ready.new.self) c.args.at
+    (length c.args.bytes.now)
     c.requires.inside.inside ready.ready ready.reads.stays can.told))
 
 pub returns-in-Ok-clause-moves : goal.returns-in-Ok-clause-moves
 returns-in-Ok-clause-moves g c =
     let space = g.S.Space in
     MovesOnly-after (shown space.state) (HashKeeps space.keeps) (hash_lands space.lands)
-    (HashKeeps-join space.keeps g.met.S.Space.keeps_join) c.args.self.now c.ready.new.self c.put_ready.new.self c.args.at
+    (HashKeeps-join space.keeps g.met.S.Space.keeps_join) c.args.self.now c.ready.new.self c.put_ready.new.self
+    c.args.at
     (length c.args.bytes.now) (result_err c.put_ready.result)
     (HashKeeps-hold space.keeps g.met.S.Space.keeps_hold c.args.self.now c.ready.new.self)
     c.requires.inside.inside c.in-Ok.ensures.reads c.put_ready.ensures.moves
@@ -39,10 +42,12 @@ returns-in-Ok-clause-came g c told =
     let view = c.args.self.now in
     let ready = c.in-Ok.ensures in
     let read = came_read space.state space.keeps space.lands view c.ready.new.self
-    (shown_tree space.state g.met.S.Space.size_fits view c.requires.inside.sound) g.met.S.Space.keeps_cells None ready.reads in
+    (shown_tree space.state g.met.S.Space.size_fits view c.requires.inside.sound) g.met.S.Space.keeps_cells None
+    ready.reads in
     let put = c.put_ready.ensures.came (unspoilt_after (states view) (states c.ready.new.self) c.args.at
     (length c.args.bytes.now) c.requires.inside.inside ready.ready ready.reads.stays told) in
-    came_then space.state view c.ready.new.self c.put_ready.new.self (result_err c.put_ready.result) ready.reads.stays.space.told read
+    came_then space.state view c.ready.new.self c.put_ready.new.self (result_err c.put_ready.result)
+    ready.reads.stays.space.told read
     put told
 
 pub returns-in-Err-clause-came : goal.returns-in-Err-clause-came
@@ -50,5 +55,6 @@ returns-in-Err-clause-came g c =
     let space = g.S.Space in
     let view = c.args.self.now in
     came_read space.state space.keeps space.lands view c.ready.new.self
-    (shown_tree space.state g.met.S.Space.size_fits view c.requires.inside.sound) g.met.S.Space.keeps_cells (Some c.in-Err.bad)
+    (shown_tree space.state g.met.S.Space.size_fits view c.requires.inside.sound) g.met.S.Space.keeps_cells
+    (Some c.in-Err.bad)
     c.in-Err.ensures.reads

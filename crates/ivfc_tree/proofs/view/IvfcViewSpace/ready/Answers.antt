@@ -18,12 +18,15 @@ loop-done-preserved g c =
     let run = c.in-Ok.ensures in
     record {
       within = omega (arith, run.ready.bounded, before.within, c.loop-done-test.true);
-      unspoilt = λ told. unspoilt_more (shown space.state c.args.self.now) (shown space.state c.loop-done.self) c.args.at
+      unspoilt = λ told. unspoilt_more (shown space.state c.args.self.now) (shown space.state c.loop-done.self)
+          c.args.at
           c.loop-done.done c.in-Ok.run'
           (omega (arith, run.ready.bounded, before.within, c.requires.inside))
-          (before.reads.stays.cells told) (before.unspoilt told) (run.ready.unspoilt (before.reads.stays.space.told told));
+          (before.reads.stays.cells told) (before.unspoilt told)
+          (run.ready.unspoilt (before.reads.stays.space.told told));
       reads = Reads-join (shown space.state) (HashKeeps space.keeps) (hash_lands space.lands)
-          (HashKeeps-join space.keeps g.met.S.Space.keeps_join) c.args.self.now c.loop-done.self c.ready_run.new.self None
+          (HashKeeps-join space.keeps g.met.S.Space.keeps_join) c.args.self.now c.loop-done.self c.ready_run.new.self
+          None
           before.reads run.reads;
     }
 
@@ -31,5 +34,6 @@ pub returns-in-Err-clause-reads : goal.returns-in-Err-clause-reads
 returns-in-Err-clause-reads g c =
     let space = g.S.Space in
     Reads-join (shown space.state) (HashKeeps space.keeps) (hash_lands space.lands)
-    (HashKeeps-join space.keeps g.met.S.Space.keeps_join) c.args.self.now c.loop-done.self c.ready_run.new.self (Some c.in-Err.bad)
+    (HashKeeps-join space.keeps g.met.S.Space.keeps_join) c.args.self.now c.loop-done.self c.ready_run.new.self
+    (Some c.in-Err.bad)
     c.loop-done.invariant.reads c.in-Err.ensures.reads

@@ -9,7 +9,8 @@ invariant-loop-done g l = record {
   within : l.done ≤ l.n;
   unspoilt : IsTrue (shown g.S.Space.state l.initial.self).told
       → (k : ℕ) → k < l.done → IsUnspoilt ((shown g.S.Space.state l.initial.self).cells (l.at + k));
-  reads : Reads (shown g.S.Space.state) (HashKeeps g.S.Space.keeps) (hash_lands g.S.Space.lands) l.initial.self l.self None;
+  reads : Reads (shown g.S.Space.state) (HashKeeps g.S.Space.keeps) (hash_lands g.S.Space.lands) l.initial.self
+      l.self None;
 }
 
 abbrev pub decreases-loop-done : goal.decreases-loop-done
