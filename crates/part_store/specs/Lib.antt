@@ -6,3 +6,4 @@ pub mod Calls
 pub mod Under
 pub mod Held
 pub mod ViewLaws
+pub mod FloorLaws

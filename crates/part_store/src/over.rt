@@ -60,3 +60,49 @@ pub(crate) fn put_over<S: Space>(
     let mut view = IvfcView::new(contents, number, difi, master, state);
     view.put(at, bytes)
 }
+
+/// Whether the block of a byte may be cleared.
+pub(crate) fn clear_ready_over<S: Space>(
+    contents: &mut S,
+    number: u8,
+    difi: &Difi,
+    master: &mut [u8],
+    state: &mut IvfcState,
+    at: u64,
+) -> Result<(), Bad>
+    requires view { CanViewHashes (S.state contents.old).shape difi.now (length master.old) state.old }
+    requires inside { at + 1 ≤ difi.now.ivfc4.size }
+    ensures ready { IsClearReady (under_state S.state number difi.now (record { contents = contents.old; master = master.old; ivfc = state.old }))
+        at (result_err result) }
+    ensures reads { Reads (under_state S.state number difi.now) (UnderKeeps S.keeps) (under_lands S.lands difi.now)
+        (record { contents = contents.old; master = master.old; ivfc = state.old })
+        (record { contents = contents.new; master = master.new; ivfc = state.new }) (result_err result) }
+{
+    let mut view = IvfcView::new(contents, number, difi, master, state);
+    view.clear_ready(at)
+}
+
+/// Clears the block of a byte.
+pub(crate) fn clear_over<S: Space>(
+    contents: &mut S,
+    number: u8,
+    difi: &Difi,
+    master: &mut [u8],
+    state: &mut IvfcState,
+    at: u64,
+) -> Result<(), Bad>
+    requires view { CanViewHashes (S.state contents.old).shape difi.now (length master.old) state.old }
+    requires inside { at + 1 ≤ difi.now.ivfc4.size }
+    ensures ready { IsClearReady (under_state S.state number difi.now (record { contents = contents.old; master = master.old; ivfc = state.old }))
+        at (result_err result) }
+    ensures puts { let old = under_state S.state number difi.now (record { contents = contents.old; master = master.old; ivfc = state.old }) in
+        Puts old (old.shape.block_start at) (replicate (old.shape.block_len at) 0)
+        (under_state S.state number difi.now (record { contents = contents.new; master = master.new; ivfc = state.new })) (result_err result) }
+    ensures moves { let old = under_state S.state number difi.now (record { contents = contents.old; master = master.old; ivfc = state.old }) in
+        MovesOnly (UnderKeeps S.keeps) (under_lands S.lands difi.now) old
+        (record { contents = contents.old; master = master.old; ivfc = state.old }) (old.shape.block_start at) (old.shape.block_len at)
+        (record { contents = contents.new; master = master.new; ivfc = state.new }) (result_err result) }
+{
+    let mut view = IvfcView::new(contents, number, difi, master, state);
+    view.clear(at)
+}

@@ -10,7 +10,7 @@ ghost use Rattle.part_store.specs.Parts.{CanViewPart};
 use super::*;
 use difi::Difi;
 use ivfc_tree::Status;
-use save_bytes::{Bad, MemSpace, Space, set_u32};
+use save_bytes::{Bad, Floor, MemSpace, Space, set_u32};
 use save_samples::{LONE_DIFI, Sample, sample};
 use std::alloc::{AllocError, Global};
 use std::test::Fail;
@@ -106,6 +106,36 @@ fn four_lent(alloc: Global, image: &mut [u8], at: u64) -> Result<Result<[u8; 4],
             let n = piece.len();
             four[..n].copy_from_slice(piece);
             Ok(Ok(four))
+        }
+        Err(bad) => Ok(Err(bad)),
+    }
+}
+
+/// What is answered of the first four bytes at a place of level four once its block was cleared, and where the block
+/// lies.
+fn four_cleared(
+    alloc: Global,
+    image: &mut [u8],
+    at: u64,
+) -> Result<Result<([u8; 4], (u64, u64)), Bad>, AllocError>
+    requires image { length image.old ≡ 110592 }
+    requires inside { at < 34816 }
+{
+    let mut table = table_of(image);
+    let mut part = open(alloc, 0)?;
+    let mut space = MemSpace::new(image, 512);
+    let mut view = PartView::new(&mut space, &mut part, &mut table);
+    let block = view.block_of(at);
+    match view.clear(at) {
+        Ok(()) => (),
+        Err(bad) => return Ok(Err(bad)),
+    }
+    let mut four = [1; 4];
+    match view.piece(at, 4) {
+        Ok(piece) => {
+            let n = piece.len();
+            four[..n].copy_from_slice(piece);
+            Ok(Ok((four, block)))
         }
         Err(bad) => Ok(Err(bad)),
     }
@@ -237,5 +267,35 @@ fn status_is_by_the_topmost_hash_that_fails(rt: HostRuntime) -> Result<(), Fail>
         image[place] ^= 1;
         assert_eq!(rt; statuses(alloc, &mut image)?, want);
     }
+    Ok(())
+}
+
+// The last block of level four is shorter than the others, and was never written, as the second.
+#[test]
+fn cleared_block_holds_zeros(rt: HostRuntime) -> Result<(), Fail> {
+    let alloc = rt.alloc();
+    for (at, block) in [
+        (0, (0, 4096)),
+        (8188, (4096, 4096)),
+        (34_000, (32_768, 2048)),
+    ] {
+        let mut image = sample(alloc, Sample::Single)?;
+        assert_eq!(rt; four_cleared(alloc, &mut image, at)?, Ok(([0; 4], block)));
+    }
+    // A block of level 4 that is spoilt can be cleared; below one of level 3 none can.
+    let mut image = sample(alloc, Sample::Single)?;
+    image[LEVEL_FOUR] ^= 1;
+    assert_eq!(rt;
+        four_cleared(alloc, &mut image, 0)?,
+        Ok(([0; 4], (0, 4096)))
+    );
+    let mut image = sample(alloc, Sample::Single)?;
+    image[20_480 + 287] ^= 1;
+    let blames = Bad::Damaged {
+        part: 0,
+        level: 3,
+        block: 0,
+    };
+    assert_eq!(rt; four_cleared(alloc, &mut image, 0)?, Err(blames));
     Ok(())
 }

@@ -8,7 +8,9 @@ ghost use Rattle.save_bytes.specs.State.{IsInside};
 ghost use Rattle.save_bytes.specs.Refusals.{NeverDamaged};
 ghost use Rattle.save_bytes.specs.Answers.{IsPiece};
 ghost use Rattle.save_bytes.specs.Reads.{Reads};
+ghost use Rattle.difi.specs.Places.{block_size};
 ghost use Rattle.ivfc_tree.specs.Levels.{HasBlock};
+ghost use Rattle.part_store.specs.FloorLaws.{shown_ground, shown_blocks, shown_alike};
 ghost use Rattle.part_store.specs.Parts.{CanViewPart, status_in, IsFound};
 ghost use Rattle.part_store.specs.Held.{shown, IsPartViewOf, PartKeeps, part_lands};
 ghost use Rattle.std.proofs.lemmas.Bool.{false≢true};
@@ -18,9 +20,10 @@ ghost use mir.Syntax.{named};
 
 use crate::calls::{find, status};
 use crate::part::Part;
-use crate::puts::{put_in, ready_in};
+use crate::puts::{clear_in, clear_ready_in, put_in, ready_in};
+use difi::LevelPlace;
 use ivfc_tree::Status;
-use save_bytes::{Bad, Space};
+use save_bytes::{Bad, Floor, Space};
 
 /// The bytes of a partition's level four, each lent only where it has a hash path up to the master hash in the table.
 #[derive(Drop)]
@@ -138,4 +141,41 @@ impl<S: Space> Space for PartView<'_, S> {
         let table = &mut *self.table;
         put_in(base, part, table, at, bytes)
     }
+}
+
+// Damage spreads in blocks of level four.
+impl<S: Space> Floor for PartView<'_, S> {
+    ghost ground = { shown_ground S.state };
+
+    ghost blocks = { shown_blocks S.state };
+
+    ghost alike = { shown_alike S.state };
+
+    fn block_of(&self, at: u64) -> (u64, u64) {
+        let size = block_size(&self.part.difi.ivfc4);
+        let start = at / size * size;
+        (start, size.min(self.part.difi.ivfc4.size - start))
+    }
+
+    fn clear_ready(&mut self, at: u64) -> Result<(), Bad> {
+        let base = &mut *self.base;
+        let part = &mut *self.part;
+        let table = &mut *self.table;
+        clear_ready_in(base, part, table, at)
+    }
+
+    fn clear(&mut self, at: u64) -> Result<(), Bad> {
+        let base = &mut *self.base;
+        let part = &mut *self.part;
+        let table = &mut *self.table;
+        clear_in(base, part, table, at)
+    }
+}
+
+// How many bytes the blocks of level four have; the last may be shorter.
+fn block_size(level: &LevelPlace) -> u64
+    requires { level.now.log ≤ 16 }
+    ensures { result ≡ block_size level.now }
+{
+    1 << level.log
 }

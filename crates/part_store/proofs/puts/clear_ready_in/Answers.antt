@@ -1,0 +1,39 @@
+use Rattle.std.proofs.Common.{◌≡◌, ◌+◌, ◌-◌, take, drop, refl, sym, ◌∙◌, ap, arith, rules}
+use Rattle.std.specs.Result.{result_err}
+use Rattle.part_store.specs.declared.part.Part.{Part}
+use Rattle.part_store.proofs.PartLemmas.{part_is_hashed}
+use Rattle.part_store.proofs.UnderLemmas.{part_reads}
+use Rattle.part_store.proofs.puts.clear_ready_in.Goals as goal
+
+pub returns-clause-ready : goal.returns-clause-ready
+returns-clause-ready g c =
+    let part = c.args.part.now in
+    let start = part.difi.place + part.difi.master.at in
+    let n = start + part.difi.master.size - start in
+    let size : n ≡ part.difi.master.size = omega arith in
+    let holds = c.new-contents.ensures.holds in
+    let ready = rw (holds.base_now, holds.same_place, holds.same_difi, holds.state_now, size)
+    at c.clear_ready_over.ensures.ready in
+    rw (part_is_hashed (g.S.Space.state c.args.base.now) part c.args.table.now c.requires.view) ready
+
+pub returns-clause-reads : goal.returns-clause-reads
+returns-clause-reads g c = λ s t over later names.
+    let part = c.args.part.now in
+    let start = part.difi.place + part.difi.master.at in
+    let n = start + part.difi.master.size - start in
+    let size : n ≡ part.difi.master.size = omega arith in
+    let holds = c.new-contents.ensures.holds in
+    let new = c.clear_ready_over.new.contents in
+    let end : _ ≡ new.base.now = search rules in
+    part_reads g.S.Space.state g.S.Space.keeps s t c.new-contents.result new
+    (take n (drop start c.args.table.now)) c.clear_ready_over.new.master
+    c.clear_ready_over.new.state n names.same_base names.same_part names.same_table (holds.base_now ∙ sym over.base_now)
+    (later.base_now ∙ end) (holds.same_place ∙ ap (λ (p : Part). p.at) (sym over.part_now))
+    (holds.same_difi ∙ ap (λ (p : Part). p.difi) (sym over.part_now))
+    (holds.state_now ∙ ap (λ (p : Part). p.dpfs) (sym over.part_now))
+    (later.part_now ∙ rw over.part_now refl) (rw over.part_now size) (rw (over.part_now, over.table_now) refl)
+    (later.table_now ∙ rw (over.part_now, over.table_now) refl)
+    (rw (over.part_now, over.table_now) c.requires.view.master)
+    g.S.Space.lands g.met.S.Space.keeps_hold g.met.S.Space.keeps_shape
+    (rw (over.base_now, over.part_now, over.table_now) c.requires.view) (result_err c.clear_ready_over.result)
+    (rw over.part_now c.clear_ready_over.ensures.reads)
