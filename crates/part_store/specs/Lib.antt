@@ -7,3 +7,4 @@ pub mod Under
 pub mod Held
 pub mod ViewLaws
 pub mod FloorLaws
+pub mod Ends

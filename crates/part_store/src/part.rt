@@ -5,9 +5,11 @@ ghost use Rattle.save_bytes.specs.Cells.{Cell};
 ghost use Rattle.difi.specs.Contents.{view_size};
 ghost use Rattle.difi.specs.Sound.{HasBlockSizes};
 ghost use Rattle.dpfs_tree.specs.Picks.{chosen};
-ghost use Rattle.dpfs_tree.specs.Marks.{place_of, IsFreshContents};
+ghost use Rattle.save_bytes.specs.State.{Shape};
+ghost use Rattle.dpfs_tree.specs.Marks.{place_of, IsMadeForContents, IsFreshContents};
 ghost use Rattle.ivfc_tree.specs.Marks.{IsMadeFor, HasNoMarks};
 ghost use Rattle.ivfc_tree.specs.Paths.{IsStateOf, block_state};
+ghost use Rattle.ivfc_tree.specs.Settles.{settled, dropped, TurnsMarks, SettlesHashed, RemembersOrigin};
 
 use difi::Difi;
 use dpfs_tree::DpfsState;
@@ -25,7 +27,8 @@ pub struct Part {
 }
 
 impl Part {
-    ghost use Rattle.part_store.specs.Parts.{HasNoMemory};
+    ghost use Rattle.part_store.specs.Ends.{EndsPart, HasNoChanges};
+    ghost use Rattle.part_store.specs.Parts.{CanViewPart, HasNoMemory};
 
     /// The partition that begins at `part_at` in the image, with nothing changed.
     ///
@@ -55,6 +58,39 @@ impl Part {
             dpfs: DpfsState::new(alloc, difi)?,
             ivfc: IvfcState::new(alloc, difi)?,
         })
+    }
+
+    /// Ends a transaction that was committed: the part takes the selector that its seal answered. A block that was put or
+    /// cleared is known to be good by its hashes.
+    pub fn settle(&mut self, selector: u8)
+        requires { selector < 2 }
+        ensures ends { EndsPart selector self.old self.new }
+        ensures descriptor { self.new.difi ≡ record self.old.difi { selector = selector } }
+        ensures fresh { IsMadeForContents self.old.difi self.old.dpfs → IsFreshContents self.new.difi self.new.dpfs }
+        ensures view { (base : Shape) (table_len : ℕ) → CanViewPart base self.old table_len → CanViewPart base self.new table_len }
+        ensures unchanged { HasNoChanges self.new }
+        ensures turned { TurnsMarks settled self.old.ivfc self.new.ivfc }
+        ensures settles { SettlesHashed self.old.ivfc self.new.ivfc }
+    {
+        self.difi.selector = selector;
+        self.dpfs.settle(selector);
+        self.ivfc.settle();
+    }
+
+    /// Ends a transaction whose changes are dropped: so the part is as it was before the first put. A block that was put or
+    /// cleared is not known any more.
+    pub fn drop_changes(&mut self)
+        ensures ends { EndsPart self.old.dpfs.selector self.old self.new }
+        ensures descriptor { self.new.difi ≡ self.old.difi }
+        ensures fresh { IsMadeForContents self.old.difi self.old.dpfs → self.old.dpfs.selector ≡ self.old.difi.selector
+            → IsFreshContents self.new.difi self.new.dpfs }
+        ensures view { (base : Shape) (table_len : ℕ) → CanViewPart base self.old table_len → CanViewPart base self.new table_len }
+        ensures unchanged { HasNoChanges self.new }
+        ensures turned { TurnsMarks dropped self.old.ivfc self.new.ivfc }
+        ensures remembers { RemembersOrigin self.old.ivfc self.new.ivfc }
+    {
+        self.dpfs.drop_changes();
+        self.ivfc.drop_changes();
     }
 
     /// The partition's descriptor.

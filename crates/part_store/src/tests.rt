@@ -1,6 +1,6 @@
 //! Cells of a sample image's only partition through both of its trees.
 
-ghost use Rattle.std.specs.Prelude.{◌≡◌, ◌+◌, ◌<◌, length, IfOk};
+ghost use Rattle.std.specs.Prelude.{◌≡◌, ◌+◌, ◌<◌, ◌≤◌, length, IfOk};
 ghost use Rattle.save_bytes.specs.Memory.{memory_shape};
 ghost use Rattle.save_bytes.specs.Extents.{AreApart};
 ghost use Rattle.difi.specs.Sound.{HasSoundLevels, difi_part};
@@ -136,6 +136,71 @@ fn four_cleared(
             let n = piece.len();
             four[..n].copy_from_slice(piece);
             Ok(Ok((four, block)))
+        }
+        Err(bad) => Ok(Err(bad)),
+    }
+}
+
+/// As `four_at`, once a selector was taken.
+fn four_settled(
+    alloc: Global,
+    image: &mut [u8],
+    selector: u8,
+) -> Result<Result<[u8; 4], Bad>, AllocError>
+    requires image { length image.old ≡ 110592 }
+    requires selector { selector < 2 }
+{
+    let mut table = table_of(image);
+    let mut part = open(alloc, 0)?;
+    part.settle(selector);
+    let mut space = MemSpace::new(image, 512);
+    let mut view = PartView::new(&mut space, &mut part, &mut table);
+    let mut four = [0; 4];
+    match view.piece(0, 4) {
+        Ok(piece) => {
+            let n = piece.len();
+            four[..n].copy_from_slice(piece);
+            Ok(Ok(four))
+        }
+        Err(bad) => Ok(Err(bad)),
+    }
+}
+
+/// Puts the first four bytes of level four.
+fn put_first<S: Space>(
+    base: &mut S,
+    part: &mut Part,
+    table: &mut [u8],
+    bytes: &[u8; 4],
+) -> Result<(), Bad>
+    requires view { CanViewPart (S.state base.old).shape part.old (length table.old) }
+    requires inside { 4 ≤ part.old.difi.ivfc4.size }
+    ensures view { CanViewPart (S.state base.new).shape part.new (length table.new) }
+    ensures descriptor { part.new.difi ≡ part.old.difi }
+{
+    let mut view = PartView::new(base, part, table);
+    view.put(0, bytes)
+}
+
+/// As `four_at`, once four other bytes were put there and dropped again.
+fn four_dropped(alloc: Global, image: &mut [u8]) -> Result<Result<[u8; 4], Bad>, AllocError>
+    requires { length image.old ≡ 110592 }
+{
+    let mut table = table_of(image);
+    let mut part = open(alloc, 0)?;
+    let mut space = MemSpace::new(image, 512);
+    match put_first(&mut space, &mut part, &mut table, b"DATA") {
+        Ok(()) => (),
+        Err(bad) => return Ok(Err(bad)),
+    }
+    part.drop_changes();
+    let mut view = PartView::new(&mut space, &mut part, &mut table);
+    let mut four = [0; 4];
+    match view.piece(0, 4) {
+        Ok(piece) => {
+            let n = piece.len();
+            four[..n].copy_from_slice(piece);
+            Ok(Ok(four))
         }
         Err(bad) => Ok(Err(bad)),
     }
@@ -297,5 +362,34 @@ fn cleared_block_holds_zeros(rt: HostRuntime) -> Result<(), Fail> {
         block: 0,
     };
     assert_eq!(rt; four_cleared(alloc, &mut image, 0)?, Err(blames));
+    Ok(())
+}
+
+#[test]
+fn settled_selector_chooses(rt: HostRuntime) -> Result<(), Fail> {
+    let alloc = rt.alloc();
+    let mut image = sample(alloc, Sample::Single)?;
+    let blames = Bad::Damaged {
+        part: 0,
+        level: 4,
+        block: 0,
+    };
+    image.copy_within(LEVEL_FOUR..LEVEL_FOUR + 4096, LEVEL_FOUR + COPY);
+    image[LEVEL_FOUR] = b'D';
+    // The first copy of level 1 chooses bits that are all 0, and the second those that choose the second copy.
+    set_u32(&mut image, LEVEL_ONE, 0x8000_0000);
+    set_u32(&mut image, LEVEL_TWO, 0x1000_0000);
+    assert_eq!(rt; four_settled(alloc, &mut image, 0)?, Err(blames));
+    assert_eq!(rt; four_settled(alloc, &mut image, 1)?, Ok(*b"SAVE"));
+    Ok(())
+}
+
+#[test]
+fn dropped_put_is_gone(rt: HostRuntime) -> Result<(), Fail> {
+    let alloc = rt.alloc();
+    let mut image = sample(alloc, Sample::Single)?;
+    assert_eq!(rt; four_dropped(alloc, &mut image)?, Ok(*b"SAVE"));
+    // The other copy has the bytes that were put.
+    assert!(rt; image[LEVEL_FOUR + COPY..].starts_with(b"DATA"));
     Ok(())
 }
