@@ -6,3 +6,4 @@ pub mod TakeLemmas
 pub mod PlanLemmas
 pub mod SwapLemmas
 pub mod AnswerLemmas
+pub mod PlanRunLemmas

@@ -10,15 +10,17 @@ ghost use Rattle.chain_nodes.specs.Chains.{IsLinkedBy, IsChain, IsFreeList};
 ghost use Rattle.chain_nodes.specs.Faults.{FailsAt, IsBroken, IsFreeBroken, IsFreeNeeded, refusal_of, FaultsOnly};
 ghost use Rattle.chain_nodes.specs.Runs.{IsListPlace, HasLength, IsAtEnd, HasPosition, DoneUnlessDisk, IsRunIn};
 ghost use Rattle.chain_nodes.specs.Runs.{IsRestOfNode};
-ghost use Rattle.std.specs.Prelude.{◌++◌, IsFalse, IfErr, Some};
+ghost use Rattle.std.specs.Prelude.{◌++◌, IsFalse, IfErr, Some, take};
 ghost use Rattle.save_bytes.specs.Refusals.{UnlessDisk, NeverDamaged};
 ghost use Rattle.save_bytes.specs.Stays.{SameCells, SameSpace};
 ghost use Rattle.save_bytes.specs.Spots.{Hold};
 ghost use Rattle.alloc_chain.specs.Alters.{Alters};
 ghost use Rattle.alloc_chain.specs.Swaps.{ShareNone, CanSwap, IsSwapAnswer, IsReadyAnswer, IsSwapSite};
+ghost use Rattle.alloc_chain.specs.PlanRuns.{PlanFaultsOnly};
 ghost use Rattle.alloc_chain.specs.Held.{below, table_of, IsChainOver, SameChain};
 
 use crate::lists::{chain_len, chain_run, free_len, free_start, next_run};
+use crate::plan_runs::planned_run;
 use crate::swap::{ready_in, swap_in};
 use chain_nodes::{ChainFault, ChainInfo, Cursor, Run};
 use save_bytes::Space;
@@ -197,5 +199,24 @@ impl<'a, S: Space> Chain<'a, S> {
     {
         let base = &mut *self.base;
         ready_in(base, self.info, given, n)
+    }
+    /// The run from block number `pos` on of the chain that `swap` would take: first the blocks of the old chain in its
+    /// order, then those of the free list. It is the rest of the node that has the block, or as much of it as lies in the
+    /// first `n` blocks. `Broken` comes where there is no such block too. It changes nothing.
+    pub fn plan_run(&mut self, old: Option<u32>, n: u64, pos: u32) -> Result<Run, ChainFault>
+        requires table { HasAllocationTable (below S.state self.old).shape self.old.info }
+        requires position { pos < n }
+        ensures some { IfOk result (λ run. 1 ≤ run.len) }
+        ensures inside { IfOk result (λ run. run.block + run.len ≤ self.old.info.count) }
+        ensures within { IfOk result (λ run. pos + run.len ≤ n) }
+        ensures exact { IsTrue (below S.state self.old).told → (mine free : List ℕ)
+            → CanSwap (table_of S.state self.old) self.old.info.count old mine free → n ≤ length mine + length free
+            → DoneUnlessDisk result (IsRunIn (take n (mine ++ free)) pos) }
+        ensures faults { PlanFaultsOnly (below S.state self.old) self.old.info old pos (result_err result) }
+        ensures reads { Reads S.state S.keeps S.lands self.old.base.now self.new.base.now (refusal_of (result_err result)) }
+        ensures same { SameChain self.old self.new }
+    {
+        let base = &mut *self.base;
+        planned_run(base, self.info, old, n, pos)
     }
 }

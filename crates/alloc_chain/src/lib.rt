@@ -5,6 +5,7 @@ mod chain;
 mod links;
 mod lists;
 mod plan;
+mod plan_runs;
 mod swap;
 mod words;
 

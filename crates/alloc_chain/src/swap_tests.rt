@@ -1,4 +1,4 @@
-ghost use Rattle.std.specs.Prelude.{◌≡◌, ◌+◌, ◌*◌, ◌≤◌, length};
+ghost use Rattle.std.specs.Prelude.{◌≡◌, ◌+◌, ◌*◌, ◌<◌, ◌≤◌, length};
 
 use super::*;
 use save_bytes::{MemSpace, set_u32, u32_at};
@@ -201,4 +201,78 @@ fn what_a_swap_would_refuse_is_said_before_it(rt: HostRuntime) {
         assert_eq!(rt; chain.ready_swap(given, n), want);
         assert_eq!(rt; words(&bytes), words(&chain_and_free()));
     }
+}
+
+// What the plan of a swap says of the run from a block on.
+fn planned(old: Option<u32>, n: u64, pos: u32) -> Result<Run, ChainFault>
+    requires { pos < n }
+{
+    let mut bytes = chain_and_free();
+    let mut space = MemSpace::new(&mut bytes, 16);
+    let mut chain = Chain::new(&mut space, NINE);
+    chain.plan_run(old, n, pos)
+}
+
+// The first block and the length of each run of the plan of a swap.
+fn planned_runs(old: Option<u32>, n: u64) -> [(u32, u32); 8] {
+    let mut runs = [(0, 0); 8];
+    for pos in 0..8usize {
+        if (pos as u64) < n {
+            if let Ok(run) = planned(old, n, pos as u32) {
+                runs[pos] = (run.block, run.len);
+            }
+        }
+    }
+    runs
+}
+
+#[test]
+fn a_plan_goes_over_the_old_chain_and_then_the_free_list(rt: HostRuntime) {
+    let none = (0, 0);
+    let old = [(2, 3), (3, 2), (4, 1), (8, 1)];
+    let [one, two, three, four] = old;
+    let whole = [one, two, three, four, (5, 3), (6, 2), (7, 1), none];
+    assert_eq!(rt; planned_runs(Some(3), 7), whole);
+    let five = [one, two, three, four, (5, 1), none, none, none];
+    assert_eq!(rt; planned_runs(Some(3), 5), five);
+    let same = [one, two, three, four, none, none, none, none];
+    assert_eq!(rt; planned_runs(Some(3), 4), same);
+}
+
+#[test]
+fn a_plan_of_fewer_blocks_ends_within_a_node(rt: HostRuntime) {
+    let none = (0, 0);
+    let want = [(2, 2), (3, 1), none, none, none, none, none, none];
+    assert_eq!(rt; planned_runs(Some(3), 2), want);
+}
+
+#[test]
+fn a_plan_without_an_old_chain_is_of_free_blocks(rt: HostRuntime) {
+    let none = (0, 0);
+    let want = [(5, 2), (6, 1), none, none, none, none, none, none];
+    assert_eq!(rt; planned_runs(None, 2), want);
+}
+
+#[test]
+fn a_plan_past_the_last_free_block_has_no_run(rt: HostRuntime) {
+    assert_eq!(rt;
+        planned(Some(3), 8, 7),
+        Err(ChainFault::Broken { entry: 6 })
+    );
+    assert_eq!(rt;
+        planned(None, u64::MAX, u32::MAX),
+        Err(ChainFault::Broken { entry: 6 })
+    );
+}
+
+#[test]
+fn a_plan_of_a_chain_of_no_entry_is_refused(rt: HostRuntime) {
+    assert_eq!(rt;
+        planned(Some(10), 1, 0),
+        Err(ChainFault::Broken { entry: 10 })
+    );
+    assert_eq!(rt;
+        planned(Some(0), 1, 0),
+        Err(ChainFault::Broken { entry: 0 })
+    );
 }
