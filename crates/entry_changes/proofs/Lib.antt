@@ -1,4 +1,6 @@
 pub mod CutLemmas
+pub mod PlanLemmas
+pub mod PlannedLemmas
 pub mod RemovedLemmas
 pub mod WalkLemmas
 pub mod WordLemmas

@@ -168,7 +168,7 @@ module _ (s t : State) (dirs files : TableInfo) (tables : HasEntryTables s.shape
   there_fits = subst (λ (shape : Shape). WordFits shape.size dirs files word) (sym stays.space.shape)
       (word_fits s dirs files tables can word has)
 
-  same_cell : (k : ℕ) → k < 4 → t.cells (word_place dirs files word + k) ≡ s.cells (word_place dirs files word + k)
+  pub same_cell : (k : ℕ) → k < 4 → t.cells (word_place dirs files word + k) ≡ s.cells (word_place dirs files word + k)
   same_cell k less =
       let lies = word_run s dirs files tables can word has in
       stays.cells (can.tells Dir).told (word_place dirs files word + k)

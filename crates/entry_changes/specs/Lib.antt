@@ -2,3 +2,4 @@ pub mod Removed
 pub mod Lacks
 pub mod Lists
 pub mod EntryWords
+pub mod Plans
