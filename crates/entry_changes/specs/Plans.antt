@@ -39,3 +39,8 @@ IsRemovalPlan s dirs files kind e None = ⊥
 IsRemovalPlan s dirs files kind e (Some edits) =
     (xs us : List ℕ) × IsListedBehind (tables_in s.cells dirs files) kind e xs us
     × (edits ≡ removal_edits (tables_in s.cells dirs files) kind e xs us) × CanSetAll s dirs files edits
+
+-- an entry's words were found, and may be put
+abbrev pub IsRemovalReady : State → TableInfo → TableInfo → EntryKind → ℕ → Type 0
+IsRemovalReady s dirs files kind e = (xs us : List ℕ) × IsListedBehind (tables_in s.cells dirs files) kind e xs us
+    × CanSetAll s dirs files (removal_edits (tables_in s.cells dirs files) kind e xs us)

@@ -5,7 +5,7 @@ mod change;
 mod list;
 mod words;
 
-pub use change::removal;
+pub use change::{ready_remove_in, removal, remove_in};
 pub use list::{EntryList, word_before};
 pub use words::{EntryWords, read_entry};
 
