@@ -1,6 +1,7 @@
 //! The entries of the tables in a space.
 
 ghost use Rattle.std.specs.Prelude.{◌≡◌, ◌<◌, IsTrue, IfOk, OnOk, ⊤};
+ghost use Rattle.save_bytes.specs.Stays.{SameCells};
 ghost use Rattle.entry_tables.specs.declared.table.EntryKind.TheVariants.{Dir, File};
 ghost use Rattle.save_bytes.specs.Answers.{IsReady};
 ghost use Rattle.save_bytes.specs.Refusals.{IfDamaged};
@@ -11,15 +12,18 @@ ghost use Rattle.entry_tables.specs.Tables.{HasEntry, info_of};
 ghost use Rattle.entry_tables.specs.Used.{used_entries};
 ghost use Rattle.entry_tables.specs.Rules.{HasFreedList, HasBucketLists, IsOrderly};
 ghost use Rattle.entry_tables.specs.Words.{with_fields};
-ghost use Rattle.entry_tables.specs.Fails.{NamesWrongly, IsBrokenBucket};
+ghost use Rattle.entry_tables.specs.Fails.{NamesWrongly, IsBrokenBucket, RuleFailsAt};
 ghost use Rattle.entry_tables.specs.Layout.{HasCounts, HasEntryTables, HasLink, BlamesTable};
-ghost use Rattle.entry_tables.specs.Causes.{bad_of, HasEntryCause};
+ghost use Rattle.entry_tables.specs.Causes.{bad_of, IfRuleBroken, HasEntryCause};
+ghost use Rattle.entry_changes.specs.Lacks.{IsTakenOut, IsRemovalSite};
+ghost use Rattle.entry_changes.specs.Plans.{HasChangeCause, MayRemove, IsRemovalReady};
 ghost use Rattle.name_buckets.specs.Replies.{IsFoundEntry, IsRoom, IsFirstChild, IsNextChild};
 ghost use Rattle.name_buckets.specs.Held.{space_of, tables_of, place_of, HoldsTables, TellsTableOf, IsEntriesIn, ReadsEntries};
 ghost use Rattle.name_buckets.specs.Held.{CanChange, fields_place, ChangesEntries};
 
 use crate::find::find_in;
 use crate::free::free_in;
+use entry_changes::{ready_remove_in, remove_in};
 use entry_tables::{
     Counts, EntryFault, EntryKind, FileFields, TableInfo, counts_in, fields_in, head_in, link_in,
     name_in, set_fields_in, word_in,
@@ -224,6 +228,55 @@ impl<'a, S: Space> Entries<'a, S> {
         let space = &mut *self.space;
         set_fields_in(space, dirs, files, entry, fields)?;
         Ok(())
+    }
+
+    /// Takes an entry out of its table, one other than the root, and of a directory none that has entries: out of its
+    /// bucket's list and its directory's, and into that of the freed ones. The rules hold as before, and all other
+    /// entries have their parents, names and fields. What is needed is read first; from the first word on only `Disk`
+    /// can come, and any other refusal changes nothing. Where one of the two lists lacks the entry, nothing changes.
+    pub fn remove(&mut self, kind: EntryKind, entry: u32) -> Result<(), EntryFault>
+        requires { HoldsTables S.state self.old }
+        ensures removed { CanChange S.state self.old → MayRemove (tables_of S.state self.old) kind entry
+            → OnOk result (IsTakenOut (space_of S.state self.old) (space_of S.state self.new) self.old.dirs self.old.files
+            kind entry) }
+        ensures still { CanChange S.state self.old → MayRemove (tables_of S.state self.old) kind entry
+            → OnOk result (CanChange S.state self.new) }
+        ensures cause { let t = tables_of S.state self.old in
+            HasChangeCause (space_of S.state self.old) self.old.dirs self.old.files (MayRemove t kind entry)
+            (λ table number. used_entries (t.table kind) entry → used_entries (t.table Dir) ((t.table kind).parent entry)
+            → RuleFailsAt t table number) result }
+        ensures never_broken { CanChange S.state self.old → MayRemove (tables_of S.state self.old) kind entry
+            → IfRuleBroken result (λ _ _. ⊥) }
+        ensures broken { IsTrue (space_of S.state self.old).told
+            → IfRuleBroken result (λ _ _. SameCells (space_of S.state self.old) (space_of S.state self.new)) }
+        ensures changes { let t = tables_of S.state self.old in
+            ChangesEntries S.state S.keeps S.lands (CanChange S.state self.old × MayRemove t kind entry)
+            (IsRemovalSite t self.old.dirs self.old.files kind entry) self.old self.new (bad_of result) }
+    {
+        let dirs = self.dirs;
+        let files = self.files;
+        let space = &mut *self.space;
+        remove_in(space, dirs, files, kind, entry)
+    }
+
+    /// Whether an entry may be taken out of its table: the refusal of `remove`, but for what comes from the disk as it
+    /// writes. It changes nothing.
+    pub fn ready_remove(&mut self, kind: EntryKind, entry: u32) -> Result<(), EntryFault>
+        requires { HoldsTables S.state self.old }
+        ensures ready { CanChange S.state self.old → MayRemove (tables_of S.state self.old) kind entry
+            → OnOk result (IsRemovalReady (space_of S.state self.old) self.old.dirs self.old.files kind entry) }
+        ensures cause { let t = tables_of S.state self.old in
+            HasChangeCause (space_of S.state self.old) self.old.dirs self.old.files (MayRemove t kind entry)
+            (λ table number. used_entries (t.table kind) entry → used_entries (t.table Dir) ((t.table kind).parent entry)
+            → RuleFailsAt t table number) result }
+        ensures never_broken { CanChange S.state self.old → MayRemove (tables_of S.state self.old) kind entry
+            → IfRuleBroken result (λ _ _. ⊥) }
+        ensures reads { ReadsEntries S.state S.keeps S.lands self.old self.new (bad_of result) }
+    {
+        let dirs = self.dirs;
+        let files = self.files;
+        let space = &mut *self.space;
+        ready_remove_in(space, dirs, files, kind, entry)
     }
 
     /// How many entries of a kind can still be added. It is answered only where the freed entries of this kind have the

@@ -1,5 +1,4 @@
-use Rattle.std.proofs.Common.{◌≡◌, refl, subst, sym}
-use Rattle.std.specs.Result.{result_err}
+use Rattle.std.proofs.Common.{refl, subst, sym}
 use Rattle.entry_tables.specs.Tables.{Tables}
 use Rattle.entry_tables.specs.Rules.{IsOrderly}
 use Rattle.entry_tables.proofs.CauseLemmas.{fields_cause, passed_on}
