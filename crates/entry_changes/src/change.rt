@@ -18,9 +18,9 @@ use crate::words::{EntryWords, read_entry};
 use entry_tables::{Edit, EntryFault, EntryKind, TableInfo, Word, info_for, read_word, set_words};
 use save_bytes::Space;
 
-/// Takes an entry out of its table: out of its bucket's list and its directory's, and into that of the freed ones. Where
-/// one of the two lists lacks it, nothing changes. What is needed is read first; from the first word on only `Disk` can
-/// come.
+/// Takes an entry out of its table: out of its bucket's list and its directory's, and into that of the freed ones.
+/// Where one of the two lists lacks it, nothing changes. What is needed is read first; from the first word on only
+/// `Disk` can come.
 pub fn remove_in<S: Space>(
     space: &mut S,
     dirs: TableInfo,
@@ -50,7 +50,8 @@ pub fn remove_in<S: Space>(
     Ok(())
 }
 
-/// Whether an entry may be taken out of its table: the refusal of that call, but for what comes from the disk as it writes.
+/// Whether an entry may be taken out of its table: the refusal of that call, but for what comes from the disk as it
+/// writes.
 pub fn ready_remove_in<S: Space>(
     space: &mut S,
     dirs: TableInfo,

@@ -103,6 +103,24 @@ fn set_fields_of(bytes: &mut [u8], entry: u32, fields: FileFields) -> Result<(),
     entries.set_fields(entry, fields)
 }
 
+/// Removes an entry from the tables in these bytes.
+fn remove_from(bytes: &mut [u8], kind: EntryKind, entry: u32) -> Result<(), EntryFault>
+    requires { 1584 ≤ length bytes.old }
+{
+    let mut space = MemSpace::new(bytes, 512);
+    let mut entries = Entries::new(&mut space, DIRS, FILES);
+    entries.remove(kind, entry)
+}
+
+/// Asks whether it may be removed.
+fn ready_in(bytes: &mut [u8], kind: EntryKind, entry: u32) -> Result<(), EntryFault>
+    requires { 1584 ≤ length bytes.old }
+{
+    let mut space = MemSpace::new(bytes, 512);
+    let mut entries = Entries::new(&mut space, DIRS, FILES);
+    entries.ready_remove(kind, entry)
+}
+
 fn answer<S: Space>(entries: &mut Entries<S>, call: Call) -> Reply
     requires tables { HoldsTables S.state entries.old }
     requires buckets { (kind : EntryKind) → (place_of entries.old kind).buckets ≡ 9 }
@@ -202,6 +220,91 @@ fn a_files_fields_change_and_no_other_byte(rt: HostRuntime) {
     assert_eq!(rt; bytes.as_slice(), want.as_slice());
     let read = reply_to(&mut bytes, Call::Fields(1));
     assert_eq!(rt; read, Reply::Fields(Ok(fields)));
+}
+
+// The file is in bucket 5, whose head stands at 192. Of directory 2 the first file stands at 1,132; the last words of
+// entries 0 and 1 of the files stand at 1,580 and 1,628.
+#[test]
+fn a_lone_file_is_removed_and_no_other_byte_changes(rt: HostRuntime) {
+    let mut want = tree();
+    set_u32(&mut want, 192, 0);
+    set_u32(&mut want, 1132, 0);
+    set_u32(&mut want, 1580, 1);
+    let mut bytes = tree();
+    assert_eq!(rt; ready_in(&mut bytes, EntryKind::File, 1), Ok(()));
+    assert_eq!(rt; bytes.as_slice(), tree().as_slice());
+    assert_eq!(rt; remove_from(&mut bytes, EntryKind::File, 1), Ok(()));
+    assert_eq!(rt; bytes.as_slice(), want.as_slice());
+    let found = reply_to(&mut bytes, Call::Find(EntryKind::File, 2, X));
+    assert_eq!(rt; found, Reply::Found(Ok(None)));
+    let room = reply_to(&mut bytes, Call::Free(EntryKind::File));
+    assert_eq!(rt; room, Reply::Number(Ok(8)));
+}
+
+// Its bucket is 6, at 160. Of the root the first directory stands at 1,088; the last words of entries 0 and 2 of the
+// directories stand at 1,060 and 1,140.
+#[test]
+fn an_empty_directory_is_removed(rt: HostRuntime) {
+    let mut bytes = tree();
+    assert_eq!(rt; remove_from(&mut bytes, EntryKind::File, 1), Ok(()));
+    let mut want = bytes;
+    set_u32(&mut want, 160, 0);
+    set_u32(&mut want, 1088, 0);
+    set_u32(&mut want, 1060, 2);
+    assert_eq!(rt; remove_from(&mut bytes, EntryKind::Dir, 2), Ok(()));
+    assert_eq!(rt; bytes.as_slice(), want.as_slice());
+}
+
+/// The root's files 1 and 2 are in bucket 3 in this order, and in the root's list in the other. Entry 3 is freed.
+fn two_files() -> [u8; 1968] {
+    let mut bytes = tree();
+    set_u32(&mut bytes, 192, 0);
+    set_u32(&mut bytes, 1132, 0);
+    set_u32(&mut bytes, 1536, 4);
+    set_u32(&mut bytes, 1580, 3);
+    set_u32(&mut bytes, 184, 1);
+    set_u32(&mut bytes, 1092, 2);
+    set_file(&mut bytes, 1, 1, &Name(*b"abcdefghijklmno0"), 2);
+    set_file(&mut bytes, 2, 1, &Name(*b"abcdefghijklmno9"), 0);
+    set_u32(&mut bytes, 1652, 1);
+    bytes
+}
+
+#[test]
+fn the_first_file_of_a_bucket_that_is_its_directorys_last_is_removed(rt: HostRuntime) {
+    let mut want = two_files();
+    set_u32(&mut want, 184, 2);
+    set_u32(&mut want, 1652, 0);
+    set_u32(&mut want, 1628, 3);
+    set_u32(&mut want, 1580, 1);
+    let mut bytes = two_files();
+    assert_eq!(rt; remove_from(&mut bytes, EntryKind::File, 1), Ok(()));
+    assert_eq!(rt; bytes.as_slice(), want.as_slice());
+}
+
+#[test]
+fn the_last_file_of_a_bucket_that_is_its_directorys_first_is_removed(rt: HostRuntime) {
+    let mut want = two_files();
+    set_u32(&mut want, 1628, 0);
+    set_u32(&mut want, 1092, 1);
+    set_u32(&mut want, 1676, 3);
+    set_u32(&mut want, 1580, 2);
+    let mut bytes = two_files();
+    assert_eq!(rt; remove_from(&mut bytes, EntryKind::File, 2), Ok(()));
+    assert_eq!(rt; bytes.as_slice(), want.as_slice());
+}
+
+#[test]
+fn a_list_without_an_end_keeps_its_files(rt: HostRuntime) {
+    for (at, number, table, entry) in [(1628, 1, 5, 3), (1628, 4, 5, 3), (1092, 9, 2, 1)] {
+        let mut bytes = two_files();
+        set_u32(&mut bytes, at, number);
+        let was = bytes;
+        let broken = Err(EntryFault::Broken { table, entry });
+        assert_eq!(rt; ready_in(&mut bytes, EntryKind::File, 2), broken);
+        assert_eq!(rt; remove_from(&mut bytes, EntryKind::File, 2), broken);
+        assert_eq!(rt; bytes.as_slice(), was.as_slice());
+    }
 }
 
 #[test]
