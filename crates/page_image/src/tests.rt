@@ -504,7 +504,7 @@ fn changed_pages_are_written_when_they_are_given_up(rt: HostRuntime) -> Result<(
 fn nothing_is_lost_where_a_call_fails(rt: HostRuntime) -> Result<(), Fail> {
     for is_wide in [false, true] {
         for kind in [Call::Read, Call::Write] {
-            for nth in [1u32, 2, 5, 9, 14] {
+            for nth in 1..=25u32 {
                 let mut desk = desk_with(rt.alloc(), LONG, is_wide)?;
                 let mut state = ImageState::open(rt.alloc(), &mut desk, LONG as u64)?;
                 desk.fail(kind, if kind == Call::Read { nth + 1 } else { nth });
