@@ -2,8 +2,7 @@
 use Rattle.std.proofs.Common.{◌≡◌, ◌⊎◌, ℕ, zero, suc, ◌+◌, ◌-◌, ◌*◌, ◌<◌, ◌≤◌, List, length, refl, sym, ◌∙◌, ap}
 use Rattle.std.proofs.Common.{arith, add-zero, ⊎_elim}
 use Rattle.std.proofs.Common.{◌++◌, take, drop, length-append, length-take-le}
-use Rattle.save_bytes.proofs.FieldLemmas.{number_at-same, number_at-take}
-use Rattle.std.proofs.lemmas.List.{get_or_append_left}
+use Rattle.save_bytes.proofs.FieldLemmas.{number_at-same, number_at-take, number_at-append}
 use Rattle.std.proofs.Math.Nat.{add-suc, suc-add}
 use Rattle.std.proofs.lemmas.Bool.{cases_lt}
 use Rattle.save_bytes.specs.Fields.{number_at, with_bytes}
@@ -23,12 +22,6 @@ use Rattle.entry_tables.specs.Tables.{most_in, entry_place, bucket_place, info_o
 use Rattle.entry_tables.specs.Layout.{HasEntryTables}
 use Rattle.entry_tables.proofs.ByteLemmas.{field_is}
 use Rattle.entry_tables.specs.Changes.{Area, EntriesOf, BucketsOf, IsAreaPlace, CanChangeTables}
-
--- a number in the first of two lists
-number_at-append : (n : ℕ) (xs ys : List ℕ) (at : ℕ) → at + n ≤ length xs
-    → number_at n (xs ++ ys) at ≡ number_at n xs at
-number_at-append n xs ys at fits = number_at-same n (xs ++ ys) xs at at (λ k h.
-    get_or_append_left xs ys 0 (at + k) (omega arith))
 
 -- the same values give the same bytes
 pub bytes_in-values : (one other : ℕ → Cell) (at n : ℕ)

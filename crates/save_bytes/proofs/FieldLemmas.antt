@@ -4,6 +4,7 @@ use Rattle.std.proofs.Common.{◌∙◌, ap, arith, append_assoc, add-zero, zero
 use Rattle.std.proofs.Common.{length-take-le}
 use Rattle.std.proofs.Math.Nat.{add-suc, suc-add}
 use Rattle.std.proofs.lemmas.List.{append-nil, drop-drop, drop_all, length-take, get_or-append-add, take_rest}
+use Rattle.std.proofs.lemmas.List.{get_or_append_left}
 use Rattle.byteorder.specs.Endian.{little_from, little_bytes}
 use Rattle.byteorder.specs.Numbers.{little_number-reads_back}
 use borrow.Rule.Slice.PartMut.{put_mid}
@@ -31,6 +32,12 @@ number_at-drop n xs at = number_at-same n (drop at xs) xs 0 at (λ k h. rw (zero
 -- a front has the fields that lie in it
 pub number_at-take : (n m : ℕ) (xs : List ℕ) (at : ℕ) → at + n ≤ m → number_at n (take m xs) at ≡ number_at n xs at
 number_at-take n m xs at fits = number_at-same n (take m xs) xs at at (λ k h. get_or-take m xs (at + k) 0 (omega arith))
+
+-- and the first of two lists those that lie in it
+pub number_at-append : (n : ℕ) (xs ys : List ℕ) (at : ℕ) → at + n ≤ length xs
+    → number_at n (xs ++ ys) at ≡ number_at n xs at
+number_at-append n xs ys at fits = number_at-same n (xs ++ ys) xs at at (λ k h.
+    get_or_append_left xs ys 0 (at + k) (omega arith))
 
 -- what was put is read again
 pub number_at-put : (n x : ℕ) (xs : List ℕ) (at : ℕ) → at ≤ length xs → x < 256 ^ n → number_at n (with_bytes xs at (little_bytes n x)) at ≡ x
