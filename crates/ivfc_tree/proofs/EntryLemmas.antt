@@ -19,7 +19,7 @@ use Rattle.difi.specs.declared.descriptor.Difi.{Difi}
 use Rattle.difi.specs.Places.{extent_of, block_size}
 use Rattle.ivfc_tree.specs.Levels.{IsLevel, level_of, len_of, HasBlock, padded_block, hash_entry, parent_of}
 use Rattle.ivfc_tree.specs.View.{HasLevels, HasTree}
-use Rattle.ivfc_tree.specs.Seals.{IsInEntry, IsInFirst, ChangesAt}
+use Rattle.ivfc_tree.specs.Seals.{IsInEntry, IsInFirst, DiffersAt}
 use Rattle.ivfc_tree.proofs.HashLemmas.{padded_block-is, hash_entry-below}
 use Rattle.ivfc_tree.proofs.LevelLemmas.{block_placed, entry_there}
 
@@ -66,7 +66,7 @@ part_written at n xs ys long fits =
 
 -- what it leaves
 pub part_changes : (at n : ℕ) (xs ys : List ℕ) → length ys ≡ n → at + n ≤ length xs
-    → ChangesAt (IsWithin at n) xs (put_mid at (at + n - at) xs ys)
+    → DiffersAt (IsWithin at n) xs (put_mid at (at + n - at) xs ys)
 part_changes at n xs ys long fits =
     let width : at + n - at ≡ n = omega arith in
     rw width (record {
@@ -82,14 +82,14 @@ part_changes at n xs ys long fits =
     })
 
 -- before the first change of a list
-pub ChangesAt-same : (sites : ℕ → Type 0) (xs : List ℕ) → ChangesAt sites xs xs
-ChangesAt-same sites xs = record { same_len = refl; others = λ x out. refl }
+pub DiffersAt-same : (sites : ℕ → Type 0) (xs : List ℕ) → DiffersAt sites xs xs
+DiffersAt-same sites xs = record { same_len = refl; others = λ x out. refl }
 
 -- a change behind another, at places of that one
-pub ChangesAt-then : (sites few : ℕ → Type 0) (xs ys zs : List ℕ) → ((x : ℕ) → few x → sites x) → ChangesAt sites
+pub DiffersAt-then : (sites few : ℕ → Type 0) (xs ys zs : List ℕ) → ((x : ℕ) → few x → sites x) → DiffersAt sites
     xs ys
-    → ChangesAt few ys zs → ChangesAt sites xs zs
-ChangesAt-then sites few xs ys zs wider h k = record {
+    → DiffersAt few ys zs → DiffersAt sites xs zs
+DiffersAt-then sites few xs ys zs wider h k = record {
   same_len = k.same_len ∙ h.same_len;
   others = λ x out. k.others x (λ site. out (wider x site)) ∙ h.others x out;
 }
@@ -193,7 +193,7 @@ module _ (base : Shape) (difi : Difi) (master_len : ℕ) (tree : HasTree base di
       ∙ ap (bytes_in cells at) (sym long) ∙ bytes_in-is cells at entry bytes
 
   module _ (old new : ℕ → Cell) (master new_master : List ℕ) (sites firsts : ℕ → Type 0)
-      (stays : (x : ℕ) → x < base.size → ¬ sites x → new x ≡ old x) (first : ChangesAt firsts master new_master) where
+      (stays : (x : ℕ) → x < base.size → ¬ sites x → new x ≡ old x) (first : DiffersAt firsts master new_master) where
     -- the entry of a block of level 1
     first_stays : (block : ℕ) → ((x : ℕ) → IsWithin (32 * block) 32 x → ¬ firsts x)
         → hash_entry new new_master difi 1 block ≡ hash_entry old master difi 1 block

@@ -13,7 +13,7 @@ use Rattle.ivfc_tree.specs.Levels.{IsLevel, level_of, HasBlock, padded_block, ha
 use Rattle.ivfc_tree.specs.Paths.{IsHashed, own_state, marked_state}
 use Rattle.ivfc_tree.specs.View.{HasTree}
 use Rattle.ivfc_tree.specs.ViewLaws.{parent_there, level4_size}
-use Rattle.ivfc_tree.specs.Seals.{HasMarkedBlock, MarksParents, HashSites, MasterSites, ChangesAt, AreDigests}
+use Rattle.ivfc_tree.specs.Seals.{HasMarkedBlock, MarksParents, HashSites, MasterSites, DiffersAt, AreDigests}
 use Rattle.ivfc_tree.specs.Seals.{HasNoZeroDigest, AreHashed, ShowsSame}
 use Rattle.ivfc_tree.proofs.EntryLemmas.{apart_levels, entry_inside, entries_apart, entry_in_block, in_base}
 use Rattle.ivfc_tree.proofs.EntryLemmas.{entry_stays, block_stays}
@@ -89,7 +89,7 @@ module _ (base : Shape) (difi : Difi) (master_len : ℕ) (tree : HasTree base di
 
     module _ (old new : ℕ → Cell) (master new_master : List ℕ)
         (stays : (x : ℕ) → x < base.size → ¬ HashSites difi marked x → new x ≡ old x)
-        (first : ChangesAt (MasterSites difi marked 1) master new_master) where
+        (first : DiffersAt (MasterSites difi marked 1) master new_master) where
       -- the bytes and the entry of a block that is not marked stay
       unmarked_block : (level block : ℕ) → HasBlock difi level block → marked level block ≡ false
           → padded_block new difi level block ≡ padded_block old difi level block

@@ -17,7 +17,7 @@ use Rattle.ivfc_tree.specs.Levels.{IsLevel, level_of, HasBlock, padded_block, ha
 use Rattle.ivfc_tree.specs.Marks.{mark_in, is_put, is_marked}
 use Rattle.ivfc_tree.specs.View.{HasTree}
 use Rattle.ivfc_tree.specs.Seals.{HasMarkedBlock, MarkedEntry, MarkedFirst, LevelSites, MasterSites, HashSites}
-use Rattle.ivfc_tree.specs.Seals.{ChangesAt, CountsOn, AreDigests, SealsTree}
+use Rattle.ivfc_tree.specs.Seals.{DiffersAt, CountsOn, AreDigests, SealsTree}
 use Rattle.ivfc_tree.proofs.EntryLemmas.{entry_in_block, entries_apart, digest_stays, padded-kept, block_inside}
 use Rattle.ivfc_tree.proofs.EntryLemmas.{in_base, entry_written}
 use Rattle.ivfc_tree.proofs.SealLemmas.{digests_hash, seal_shows}
@@ -52,7 +52,7 @@ module _ (base : Shape) (difi : Difi) (master_len : ℕ) (tree : HasTree base di
   -- a block more of a level was sealed
   pub digests_more : (block : ℕ) → HasBlock difi level block
       → ((x : ℕ) → x < base.size → ¬ MarkedEntry difi marked level block x → new x ≡ now x)
-      → ChangesAt (MarkedFirst difi marked level block) master new_master
+      → DiffersAt (MarkedFirst difi marked level block) master new_master
       → ((number : ℕ) → number < block → HasMarkedBlock difi marked level number → IsDigest now master level number)
       → (marked level block ≡ true → IsDigest new new_master level block)
       → (number : ℕ) → number < block + 1 → HasMarkedBlock difi marked level number → IsDigest new new_master
@@ -76,7 +76,7 @@ module _ (base : Shape) (difi : Difi) (master_len : ℕ) (tree : HasTree base di
 
   -- the digests of a deeper level stay
   digests_deeper : IsLevel level → ((x : ℕ) → x < base.size → ¬ LevelSites difi marked level x → new x ≡ now x)
-      → ChangesAt (MasterSites difi marked level) master new_master → (deeper : ℕ) → level < deeper
+      → DiffersAt (MasterSites difi marked level) master new_master → (deeper : ℕ) → level < deeper
       → AreDigests now master difi marked deeper → AreDigests new new_master difi marked deeper
   digests_deeper there stays first deeper less before block here =
       digest_stays base difi master_len tree now new master new_master (LevelSites difi marked level)
@@ -94,7 +94,7 @@ module _ (base : Shape) (difi : Difi) (master_len : ℕ) (tree : HasTree base di
 
   -- a level more was sealed
   pub levels_more : IsLevel level → ((x : ℕ) → x < base.size → ¬ LevelSites difi marked level x → new x ≡ now x)
-      → ChangesAt (MasterSites difi marked level) master new_master
+      → DiffersAt (MasterSites difi marked level) master new_master
       → ((deeper : ℕ) → level < deeper → AreDigests now master difi marked deeper)
       → AreDigests new new_master difi marked level → (deeper : ℕ) → level - 1 < deeper
       → AreDigests new new_master difi marked deeper
@@ -125,7 +125,7 @@ module _ {A : Type 0} (states : A → State) (keeps : Spot → A → A → Type 
       → HasTree (states s).shape difi (length master)
       → (IsTrue (states s).told → IfDone refusal ((level : ℕ) → 0 < level → AreDigests (states t).cells
       new_master difi marked level))
-      → Writes states keeps lands (HashSites difi marked) s t refusal → ChangesAt (MasterSites difi marked 1)
+      → Writes states keeps lands (HashSites difi marked) s t refusal → DiffersAt (MasterSites difi marked 1)
       master new_master
       → SealsTree states keeps lands difi marked s master t new_master refusal
   seals_tree s t difi marked master new_master refusal tree digests writes first = record {

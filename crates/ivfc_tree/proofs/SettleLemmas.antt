@@ -24,7 +24,7 @@ use Rattle.ivfc_tree.specs.Settles.{settled, dropped, TurnsMarks, SettlesHashed,
 use Rattle.ivfc_tree.proofs.LearnLemmas.{made_later}
 use Rattle.ivfc_tree.proofs.StepLemmas.{step-marked}
 use Rattle.ivfc_tree.proofs.EntryLemmas.{IsInBlock, apart_levels, entry_inside, block_inside, entry_stays}
-use Rattle.ivfc_tree.proofs.EntryLemmas.{block_stays, ChangesAt-same}
+use Rattle.ivfc_tree.proofs.EntryLemmas.{block_stays, DiffersAt-same}
 use Rattle.ivfc_tree.proofs.SealLemmas.{states_settle}
 use Rattle.ivfc_tree.proofs.OriginLemmas.{IsGoodOrBad, path_step, top_good, state-none, came_back_at}
 
@@ -63,7 +63,7 @@ module _ (base : Shape) (difi : Difi) (master : List ℕ) (tree : HasTree base d
   back_own level block there which =
       let entry = entry_stays base difi (length master) tree was now master master (InMarkedContents difi marked)
       (λ x. ⊥) back
-      (ChangesAt-same (λ x. ⊥) master) level block there
+      (DiffersAt-same (λ x. ⊥) master) level block there
       (λ x entry. (let inside = entry_inside base difi (length master) tree level block x there entry in
       off_level (level - 1) x (omega (arith, entry.0), omega (arith, there.in_tree.1)) (omega (
         arith,
@@ -74,7 +74,7 @@ module _ (base : Shape) (difi : Difi) (master : List ℕ) (tree : HasTree base d
       (λ x entry no. no) in
       let bytes = block_stays base difi (length master) tree was now master master (InMarkedContents difi marked)
       (λ x. ⊥) back
-      (ChangesAt-same (λ x. ⊥) master) level block there
+      (DiffersAt-same (λ x. ⊥) master) level block there
       (λ x within.
       (let inside = block_inside base difi (length master) tree level block x there within in
       ⊎_elim

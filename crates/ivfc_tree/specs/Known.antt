@@ -143,7 +143,7 @@ mark_for (BlankAt level block) = KnownBlank
 mark_for (BadAt level block) = KnownBad
 
 -- at most one block more was hashed, and no mark changed
-pub record Counts (old new : IvfcState) : Type 0 where
+pub record CountsHash (old new : IvfcState) : Type 0 where
   pub marks : new.marks ≡ old.marks
   pub counted : old.hashed ≤ new.hashed
   pub few : new.hashed ≤ old.hashed + 1
@@ -160,7 +160,7 @@ pub record Looks (base : State) (master : List ℕ) (difi : Difi) (old new : Ivf
     (result : Result BlockState Bad) : Type 0 where
   pub state : IsTrue base.told → IfOk result (λ found. found ≡ own_state base.cells master difi level block)
   pub notes : IfOk result (λ found. Notes level block found old new)
-  pub counts : OnErr result (Counts old new)
+  pub counts : OnErr result (CountsHash old new)
 
 -- What a call that tells a block's state answers and leaves. It answers as the marks do, where the state follows from
 -- them, and then it does from then on.

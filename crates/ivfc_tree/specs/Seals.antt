@@ -52,7 +52,7 @@ abbrev pub MasterSites : Difi → (ℕ → ℕ → Bool) → ℕ → ℕ → Typ
 MasterSites difi marked level x = (block : ℕ) × MarkedFirst difi marked level block x
 
 -- a list is as long as before, and all its numbers but at some places are the same
-pub record ChangesAt (sites : ℕ → Type 0) (old new : List ℕ) : Type 0 where
+pub record DiffersAt (sites : ℕ → Type 0) (old new : List ℕ) : Type 0 where
   pub same_len : length new ≡ length old
   pub others : (x : ℕ) → ¬ sites x → slice_index new x ≡ slice_index old x
 
@@ -95,7 +95,7 @@ pub record SealsMarked {A : Type 0} (states : A → State) (keeps : Spot → A �
       → hash_entry (states new).cells new_master difi level block
       ≡ sha256 (padded_block (states new).cells difi level block))
   pub writes : Writes states keeps lands (MarkedEntry difi marked level block) old new refusal
-  pub master_hash : ChangesAt (MarkedFirst difi marked level block) master new_master
+  pub master_hash : DiffersAt (MarkedFirst difi marked level block) master new_master
 
 -- a seal of all marked blocks of a level
 pub record SealsLevel {A : Type 0} (states : A → State) (keeps : Spot → A → A → Type 0) (lands : A → ℕ → Spot →
@@ -104,7 +104,7 @@ pub record SealsLevel {A : Type 0} (states : A → State) (keeps : Spot → A �
     (refusal : Option Bad) : Type 0 where
   pub digests : IsTrue (states old).told → IfDone refusal (AreDigests (states new).cells new_master difi marked level)
   pub writes : Writes states keeps lands (LevelSites difi marked level) old new refusal
-  pub master_hash : ChangesAt (MasterSites difi marked level) master new_master
+  pub master_hash : DiffersAt (MasterSites difi marked level) master new_master
 
 -- A seal of the marked blocks. Each has then its digest as its entry, and is hashed unless that is 32 zero bytes.
 -- Nothing changes but the entries of marked blocks: so what each block comes to stays, where the blocks above marked
@@ -117,4 +117,4 @@ pub record SealsTree {A : Type 0} (states : A → State) (keeps : Spot → A →
   pub shown : IsTrue (states old).told → MarksParents difi marked
       → UnlessDisk refusal (ShowsSame difi marked (states old).cells master (states new).cells new_master)
   pub writes : Writes states keeps lands (HashSites difi marked) old new refusal
-  pub master_hash : ChangesAt (MasterSites difi marked 1) master new_master
+  pub master_hash : DiffersAt (MasterSites difi marked 1) master new_master

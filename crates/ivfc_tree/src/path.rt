@@ -7,7 +7,7 @@ ghost use Rattle.save_bytes.specs.Reads.{Reads};
 ghost use Rattle.ivfc_tree.specs.Levels.{HasBlock, zero_entry};
 ghost use Rattle.ivfc_tree.specs.Marks.{IsMadeFor};
 ghost use Rattle.ivfc_tree.specs.Paths.{judged, own_state, block_state};
-ghost use Rattle.ivfc_tree.specs.Known.{IsOwn, Counts, Looks, Finds};
+ghost use Rattle.ivfc_tree.specs.Known.{IsOwn, CountsHash, Looks, Finds};
 ghost use Rattle.ivfc_tree.specs.View.{HasTree};
 
 use crate::hashing::{block_digest, entry_of};
@@ -41,7 +41,7 @@ fn judge<S: Space>(
     ensures state { IsTrue (S.state base.old).told
         → IfOk result (λ found. found ≡ own_state (S.state base.old).cells master.now difi.now level block) }
     ensures own { IfOk result (IsOwn level block) }
-    ensures counts { Counts state.old state.new }
+    ensures counts { CountsHash state.old state.new }
     ensures plain { NeverDamaged (result_err result) }
     ensures reads { Reads S.state S.keeps S.lands base.old base.new (result_err result) }
 {

@@ -9,7 +9,7 @@ ghost use Rattle.difi.specs.Places.{blocks_of};
 ghost use Rattle.ivfc_tree.specs.Levels.{IsLevel, level_of, HasBlock, padded_block, hash_entry};
 ghost use Rattle.ivfc_tree.specs.Marks.{is_marked};
 ghost use Rattle.ivfc_tree.specs.View.{HasTree};
-ghost use Rattle.ivfc_tree.specs.Seals.{IsInEntry, IsInFirst, ChangesAt, CountsOn, SealsMarked, SealsLevel};
+ghost use Rattle.ivfc_tree.specs.Seals.{IsInEntry, IsInFirst, DiffersAt, CountsOn, SealsMarked, SealsLevel};
 ghost use Rattle.ivfc_tree.specs.Seals.{SealsTree};
 
 use crate::hashing::block_digest;
@@ -23,7 +23,7 @@ use save_bytes::{Bad, Space};
 fn put_first(master: &mut [u8], block: u64, entry: &[u8; 32])
     requires { 32 * block + 32 ≤ length master.old }
     ensures entry { take 32 (drop (32 * block) master.new) ≡ entry.now }
-    ensures others { ChangesAt (IsWithin (32 * block) 32) master.old master.new }
+    ensures others { DiffersAt (IsWithin (32 * block) 32) master.old master.new }
 {
     let start = 32 * block as usize;
     master[start..start + 32].copy_from_slice(entry);
@@ -44,7 +44,7 @@ fn seal_block<S: Space>(
         ≡ sha256 (padded_block (S.state base.new).cells difi.now level block)) }
     ensures writes { Writes S.state S.keeps S.lands (IsInEntry difi.now level block) base.old base.new
         (result_err result) }
-    ensures master { ChangesAt (IsInFirst level block) master.old master.new }
+    ensures master { DiffersAt (IsInFirst level block) master.old master.new }
 {
     let digest = match block_digest(base, difi, level, block) {
         Ok(digest) => digest,

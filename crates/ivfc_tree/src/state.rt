@@ -6,7 +6,7 @@ ghost use Rattle.difi.specs.Sound.{HasBlockSizes};
 ghost use Rattle.ivfc_tree.specs.Levels.{IsLevel};
 ghost use Rattle.ivfc_tree.specs.Marks.{mark_at, is_marked, level_marks, IsMadeFor, HasNoMarks, IsEmpty, MarksBlock};
 ghost use Rattle.ivfc_tree.specs.Marks.{IsSet};
-ghost use Rattle.ivfc_tree.specs.Known.{recalled_by, mark_for, Counts};
+ghost use Rattle.ivfc_tree.specs.Known.{recalled_by, mark_for, CountsHash};
 ghost use Rattle.ivfc_tree.specs.Paths.{IsStateOf, block_state};
 ghost use Rattle.difi.specs.declared.descriptor.Difi.{Difi};
 ghost use Rattle.ivfc_tree.specs.Origins.{IsAtOrigin};
@@ -86,7 +86,7 @@ impl IvfcState {
 
     /// Counts a block that is hashed.
     pub(crate) fn count(&mut self)
-        ensures { Counts self.old self.new }
+        ensures { CountsHash self.old self.new }
     {
         self.hashed = self.hashed.saturating_add(1);
     }

@@ -4,7 +4,7 @@ use Rattle.save_bytes.proofs.WriteLemmas.{Writes-then}
 use Rattle.ivfc_tree.specs.Levels.{IsLevel}
 use Rattle.ivfc_tree.specs.Marks.{is_marked}
 use Rattle.ivfc_tree.specs.Seals.{LevelSites, HashSites, MasterSites, SealsLevel}
-use Rattle.ivfc_tree.proofs.EntryLemmas.{ChangesAt-then}
+use Rattle.ivfc_tree.proofs.EntryLemmas.{DiffersAt-then}
 use Rattle.ivfc_tree.proofs.SealStepLemmas.{marked-counts, CountsOn-join, levels_more, first_sites, seals_tree}
 use Rattle.ivfc_tree.proofs.seal.seal_in.Goals as goal
 
@@ -26,7 +26,7 @@ returns-in-Err g c =
           (Writes-then space.state space.keeps space.lands g.met.S.Space.keeps_join (HashSites difi marked)
           (LevelSites difi marked level) c.args.base.now c.loop-level.base c.seal_level.new.base (Some c.in-Err.bad)
           (λ told x inside site. (level, site)) before.writes sealed.writes)
-          (ChangesAt-then (MasterSites difi marked 1) (MasterSites difi marked level) c.args.master.now
+          (DiffersAt-then (MasterSites difi marked 1) (MasterSites difi marked level) c.args.master.now
           c.loop-level.master c.seal_level.new.master (first_sites difi marked level) before.master
           sealed.master_hash);
     }
@@ -56,7 +56,7 @@ loop-level-preserved g c =
       writes = Writes-then space.state space.keeps space.lands g.met.S.Space.keeps_join (HashSites difi marked)
           (LevelSites difi marked level) c.args.base.now c.loop-level.base c.seal_level.new.base None
           (λ told x inside site. (level, site)) before.writes sealed.writes;
-      master = ChangesAt-then (MasterSites difi marked 1) (MasterSites difi marked level) c.args.master.now
+      master = DiffersAt-then (MasterSites difi marked 1) (MasterSites difi marked level) c.args.master.now
           c.loop-level.master c.seal_level.new.master (first_sites difi marked level) before.master
           sealed.master_hash;
       counts = CountsOn-join c.args.state.now c.loop-level.state c.seal_level.new.state before.counts

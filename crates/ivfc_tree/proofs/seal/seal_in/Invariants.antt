@@ -1,7 +1,7 @@
 use Rattle.std.proofs.Common.{ℕ, ◌<◌, ◌≤◌, IsTrue, None}
 use Rattle.save_bytes.specs.Writes.{Writes}
 use Rattle.ivfc_tree.specs.Marks.{is_marked}
-use Rattle.ivfc_tree.specs.Seals.{HashSites, MasterSites, ChangesAt, CountsOn, AreDigests}
+use Rattle.ivfc_tree.specs.Seals.{HashSites, MasterSites, DiffersAt, CountsOn, AreDigests}
 use Rattle.ivfc_tree.proofs.seal.seal_in.Given as goal
 
 abbrev pub invariant-loop-level : goal.invariant-loop-level
@@ -12,7 +12,7 @@ invariant-loop-level g l = record {
   writes : Writes g.S.Space.state g.S.Space.keeps g.S.Space.lands (HashSites l.difi (is_marked l.fn.state))
       l.fn.base l.base
       None;
-  master : ChangesAt (MasterSites l.difi (is_marked l.fn.state) 1) l.fn.master l.master;
+  master : DiffersAt (MasterSites l.difi (is_marked l.fn.state) 1) l.fn.master l.master;
   counts : CountsOn l.fn.state l.state;
 }
 

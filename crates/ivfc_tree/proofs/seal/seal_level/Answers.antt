@@ -4,7 +4,7 @@ use Rattle.save_bytes.proofs.WriteLemmas.{Writes-then}
 use Rattle.ivfc_tree.specs.Levels.{HasBlock}
 use Rattle.ivfc_tree.specs.Marks.{is_marked}
 use Rattle.ivfc_tree.specs.Seals.{MarkedEntry, MarkedFirst, LevelSites, MasterSites, SealsMarked}
-use Rattle.ivfc_tree.proofs.EntryLemmas.{ChangesAt-then}
+use Rattle.ivfc_tree.proofs.EntryLemmas.{DiffersAt-then}
 use Rattle.ivfc_tree.proofs.SealStepLemmas.{marked-counts, CountsOn-join, digests_more}
 use Rattle.ivfc_tree.proofs.seal.seal_level.Goals as goal
 
@@ -29,7 +29,7 @@ returns-in-Err g c =
             c.seal_marked.new.base (Some c.in-Err.bad) (λ told x inside site. (c.loop-block.block, site))
             before.writes
             sealed.writes;
-        master_hash = ChangesAt-then (MasterSites difi marked c.args.level)
+        master_hash = DiffersAt-then (MasterSites difi marked c.args.level)
             (MarkedFirst difi marked c.args.level c.loop-block.block) c.args.master.now c.loop-block.master
             c.seal_marked.new.master (λ x site. (c.loop-block.block, site)) before.master sealed.master_hash;
       };
@@ -64,7 +64,7 @@ loop-block-preserved g c =
           c.args.level)
           (MarkedEntry difi marked c.args.level c.loop-block.block) c.args.base.now c.loop-block.base
           c.seal_marked.new.base None (λ told x inside site. (c.loop-block.block, site)) before.writes sealed.writes;
-      master = ChangesAt-then (MasterSites difi marked c.args.level)
+      master = DiffersAt-then (MasterSites difi marked c.args.level)
           (MarkedFirst difi marked c.args.level c.loop-block.block) c.args.master.now c.loop-block.master
           c.seal_marked.new.master (λ x site. (c.loop-block.block, site)) before.master sealed.master_hash;
       counts = CountsOn-join c.args.state.now c.loop-block.state c.seal_marked.new.state before.counts
