@@ -1,5 +1,6 @@
 -- The test that is named is met, and none before it.
-use Rattle.std.proofs.Common.{◌≡◌, ℕ, zero, suc, ◌+◌, ◌<◌, ◌≤◌, Bool, true, false, Some, List, [], ◌∷◌, slice_get, refl, ap, ◌∙◌, arith, zero-add}
+use Rattle.std.proofs.Common.{◌≡◌, ℕ, zero, suc, ◌+◌, ◌<◌, ◌≤◌, Bool, true, false, Some, List, [], ◌∷◌, slice_get, refl}
+use Rattle.std.proofs.Common.{ap, ◌∙◌, arith, zero-add}
 use Rattle.container_header.specs.Conditions.{first_failing}
 
 -- a test that is named has at least the first one's number
@@ -19,7 +20,8 @@ one_more tests k h (suc i) l = h i (omega arith)
 one_less : (test : Bool) (tests : List Bool) (k : ℕ) → NoneBefore (test ∷ tests) (suc k) → NoneBefore tests k
 one_less test tests k h = λ i l. h (suc i) (omega arith)
 
-pub first_from : (n k : ℕ) (tests : List Bool) → first_failing n tests ≡ Some (k + n) → (slice_get tests k ≡ Some true) × NoneBefore tests k
+pub first_from : (n k : ℕ) (tests : List Bool) → first_failing n tests ≡ Some (k + n) → (slice_get tests k ≡ Some true)
+    × NoneBefore tests k
 first_from n k [] e = cc
 first_from n zero (true ∷ tests) e = (refl, λ i l. absurd (omega arith))
 first_from n (suc k) (true ∷ tests) e = let same : n ≡ suc k + n = cc in absurd (omega arith)
@@ -29,7 +31,8 @@ first_from n (suc k) (false ∷ tests) e =
     let rest = first_from (n + 1) k tests (e ∙ ap (λ (c : ℕ). Some c) number) in
     (rest.0, one_more tests k rest.1)
 
-pub first_to : (n k : ℕ) (tests : List Bool) → slice_get tests k ≡ Some true → NoneBefore tests k → first_failing n tests ≡ Some (k + n)
+pub first_to : (n k : ℕ) (tests : List Bool) → slice_get tests k ≡ Some true → NoneBefore tests k
+    → first_failing n tests ≡ Some (k + n)
 first_to n k [] met none = cc
 first_to n zero (true ∷ tests) met none = rw zero-add refl
 first_to n zero (false ∷ tests) met none = cc

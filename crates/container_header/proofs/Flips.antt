@@ -1,7 +1,8 @@
 -- A flip changes the active byte and the hash, in the fields and in the bytes alike.
 use Rattle.std.proofs.Common.{◌≡◌, ℕ, ◌+◌, ◌-◌, ◌<◌, ◌≤◌, List, [], ◌∷◌, ◌++◌, length, get_or, take, drop, set, refl}
 use Rattle.std.proofs.Common.{sym, ap, ◌∙◌, arith, append_assoc, length-append, add-one, lit<, lit≤}
-use Rattle.std.proofs.lemmas.List.{places, take-append-le, take-take, set_split, drop-drop, take_at, drop_at, length-take, length-take-le, length-drop}
+use Rattle.std.proofs.lemmas.List.{places, take-append-le, take-take, set_split, drop-drop, take_at, drop_at}
+use Rattle.std.proofs.lemmas.List.{length-take, length-take-le, length-drop}
 use borrow.Rule.Slice.PartMut.{put_mid}
 use Rattle.save_bytes.specs.Fields.{number_at, with_bytes}
 use Rattle.container_header.specs.declared.header.Kind.{Kind}
@@ -37,7 +38,8 @@ pub places_fit : (kind : Kind) → (active_place kind < hash_place kind) × (has
 places_fit Disa = (lit< tt, lit≤ tt)
 places_fit Diff = (lit< tt, lit≤ tt)
 
-length-with_bytes : (xs : List ℕ) (at : ℕ) (piece : List ℕ) → at + length piece ≤ length xs → length (with_bytes xs at piece) ≡ length xs
+length-with_bytes : (xs : List ℕ) (at : ℕ) (piece : List ℕ) → at + length piece ≤ length xs
+    → length (with_bytes xs at piece) ≡ length xs
 length-with_bytes xs at piece fits = simp (length-append, length-take, length-drop) (omega arith)
 
 -- the bytes before a piece stay, and those behind it
@@ -49,7 +51,8 @@ with_bytes-above : (xs : List ℕ) (at : ℕ) (piece : List ℕ) (k : ℕ) → a
     → at + length piece ≤ k → get_or (with_bytes xs at piece) k 0 ≡ get_or xs k 0
 with_bytes-above xs at piece k fits h = grind (arith, places)
 
-take-with_bytes : (xs : List ℕ) (at : ℕ) (piece : List ℕ) (n : ℕ) → at + length piece ≤ length xs → n ≤ at → take n (with_bytes xs at piece) ≡ take n xs
+take-with_bytes : (xs : List ℕ) (at : ℕ) (piece : List ℕ) (n : ℕ) → at + length piece ≤ length xs → n ≤ at
+    → take n (with_bytes xs at piece) ≡ take n xs
 take-with_bytes xs at piece n fits h =
     let long : length (take at xs) ≡ at = length-take-le at xs (omega arith) in
     let rest = drop (at + length piece) xs in
@@ -58,7 +61,8 @@ take-with_bytes xs at piece n fits h =
     ∙ take-take n at xs h
 
 -- a piece stands where it was put
-with_bytes-piece : (xs : List ℕ) (at : ℕ) (piece : List ℕ) → at + length piece ≤ length xs → take (length piece) (drop at (with_bytes xs at piece)) ≡ piece
+with_bytes-piece : (xs : List ℕ) (at : ℕ) (piece : List ℕ) → at + length piece ≤ length xs
+    → take (length piece) (drop at (with_bytes xs at piece)) ≡ piece
 with_bytes-piece xs at piece fits =
     let long : length (take at xs) ≡ at = length-take-le at xs (omega arith) in
     let rest = drop (at + length piece) xs in
@@ -70,7 +74,8 @@ with_bytes-piece xs at piece fits =
 abbrev with_both : List ℕ → ℕ → ℕ → ℕ → List ℕ → List ℕ
 with_both raw at x place hash = with_bytes (with_bytes raw at (x ∷ [])) place hash
 
-module _ (raw hash : List ℕ) (at place x : ℕ) (long : length raw ≡ 256) (size : length hash ≡ 32) (apart : at < place) (fits : place + 32 ≤ 256) where
+module _ (raw hash : List ℕ) (at place x : ℕ) (long : length raw ≡ 256) (size : length hash ≡ 32) (apart : at < place)
+    (fits : place + 32 ≤ 256) where
   one_long : length (with_bytes raw at (x ∷ [])) ≡ 256
   one_long = length-with_bytes raw at (x ∷ []) (omega arith) ∙ long
 
@@ -88,7 +93,8 @@ module _ (raw hash : List ℕ) (at place x : ℕ) (long : length raw ≡ 256) (s
       ∙ with_bytes-above raw at (x ∷ []) k (omega arith) (omega arith)
 
   both-active : get_or (with_both raw at x place hash) at 0 ≡ x
-  both-active = with_bytes-below (with_bytes raw at (x ∷ [])) place hash at (omega (arith, one_long)) apart ∙ grind (arith, places)
+  both-active = with_bytes-below (with_bytes raw at (x ∷ [])) place hash at (omega (arith, one_long)) apart
+      ∙ grind (arith, places)
 
   both-hash : take 32 (drop place (with_both raw at x place hash)) ≡ hash
   both-hash =
@@ -98,13 +104,16 @@ module _ (raw hash : List ℕ) (at place x : ℕ) (long : length raw ≡ 256) (s
 -- the fields of a header's bytes
 module _ (raw : List ℕ) (long : length raw ≡ 256) where
   number_of : (n off : ℕ) → off + n ≤ 256 → number_at n (image_of raw) (256 + off) ≡ number_at n raw off
-  number_of n off fits = number_at-raw (image_of raw) n off fits ∙ ap (λ (bytes : List ℕ). number_at n bytes off) (raw_of-image_of raw long)
+  number_of n off fits = number_at-raw (image_of raw) n off fits
+      ∙ ap (λ (bytes : List ℕ). number_at n bytes off) (raw_of-image_of raw long)
 
   byte_of : (off : ℕ) → off < 256 → byte_at (image_of raw) off ≡ get_or raw off 0
-  byte_of off fits = byte_at-raw (image_of raw) off fits ∙ ap (λ (bytes : List ℕ). get_or bytes off 0) (raw_of-image_of raw long)
+  byte_of off fits = byte_at-raw (image_of raw) off fits
+      ∙ ap (λ (bytes : List ℕ). get_or bytes off 0) (raw_of-image_of raw long)
 
   bytes_of : (off n : ℕ) → off + n ≤ 256 → bytes_at (image_of raw) off n ≡ take n (drop off raw)
-  bytes_of off n fits = bytes_at-raw (image_of raw) off n fits ∙ ap (λ (bytes : List ℕ). take n (drop off bytes)) (raw_of-image_of raw long)
+  bytes_of off n fits = bytes_at-raw (image_of raw) off n fits
+      ∙ ap (λ (bytes : List ℕ). take n (drop off bytes)) (raw_of-image_of raw long)
 
 -- a number all of whose bytes are as they were
 number_kept : (raw new : List ℕ) → length raw ≡ 256 → length new ≡ 256 → (n off : ℕ) → off + n ≤ 256
@@ -114,11 +123,13 @@ number_kept raw new long new_long n off fits keeps = number_of new new_long n of
     ∙ number_at-same n new raw off off keeps ∙ sym (number_of raw long n off fits)
 
 -- the fields after the change: the numbers before the active byte and behind the hash stay
-module _ (raw hash : List ℕ) (at place x : ℕ) (long : length raw ≡ 256) (size : length hash ≡ 32) (apart : at < place) (fits : place + 32 ≤ 256) where
+module _ (raw hash : List ℕ) (at place x : ℕ) (long : length raw ≡ 256) (size : length hash ≡ 32) (apart : at < place)
+    (fits : place + 32 ≤ 256) where
   new_long : length (with_both raw at x place hash) ≡ 256
   new_long = both_long raw hash at place x long size apart fits
 
-  before : (n off : ℕ) → off + n ≤ at → number_at n (image_of (with_both raw at x place hash)) (256 + off) ≡ number_at n (image_of raw) (256 + off)
+  before : (n off : ℕ) → off + n ≤ at → number_at n (image_of (with_both raw at x place hash)) (256 + off)
+      ≡ number_at n (image_of raw) (256 + off)
   before n off h = number_kept raw (with_both raw at x place hash) long new_long n off (omega arith)
       (λ k l. both-below raw hash at place x long size apart fits (off + k) (omega arith))
 
@@ -128,15 +139,18 @@ module _ (raw hash : List ℕ) (at place x : ℕ) (long : length raw ≡ 256) (s
       (λ k l. both-above raw hash at place x long size apart fits (off + k) (omega arith))
 
   new_active : byte_at (image_of (with_both raw at x place hash)) at ≡ x
-  new_active = byte_of (with_both raw at x place hash) new_long at (omega arith) ∙ both-active raw hash at place x long size apart fits
+  new_active = byte_of (with_both raw at x place hash) new_long at (omega arith)
+      ∙ both-active raw hash at place x long size apart fits
 
   new_hash : bytes_at (image_of (with_both raw at x place hash)) place 32 ≡ hash
-  new_hash = bytes_of (with_both raw at x place hash) new_long place 32 fits ∙ both-hash raw hash at place x long size apart fits
+  new_hash = bytes_of (with_both raw at x place hash) new_long place 32 fits
+      ∙ both-hash raw hash at place x long size apart fits
 
   new_front : (n : ℕ) → n ≤ at → bytes_at (image_of (with_both raw at x place hash)) 0 n ≡ bytes_at (image_of raw) 0 n
   new_front n h =
       bytes_of (with_both raw at x place hash) new_long 0 n (omega arith)
-      ∙ take-with_bytes (with_bytes raw at (x ∷ [])) place hash n (omega (arith, one_long raw hash at place x long size apart fits)) (omega arith)
+      ∙ take-with_bytes (with_bytes raw at (x ∷ [])) place hash n
+      (omega (arith, one_long raw hash at place x long size apart fits)) (omega arith)
       ∙ take-with_bytes raw at (x ∷ []) n (omega arith) h
       ∙ sym (bytes_of raw long 0 n (omega arith))
 
@@ -165,7 +179,8 @@ front_fits Disa = lit≤ tt
 front_fits Diff = lit≤ tt
 
 -- a flipped header's fields are those of its bytes
-pub flipped-of_raw : (header : Header) (hash : List ℕ) → length hash ≡ 32 → IsOfRaw header → IsOfRaw (flipped header hash)
+pub flipped-of_raw : (header : Header) (hash : List ℕ) → length hash ≡ 32 → IsOfRaw header
+    → IsOfRaw (flipped header hash)
 flipped-of_raw header hash size h =
     let kind = header.kind in
     let raw = header.raw in

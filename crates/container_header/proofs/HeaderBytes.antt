@@ -37,7 +37,8 @@ module _ (image : List ℕ) where
       at (λ k h. ap (λ (i : ℕ). get_or image i 0) (add_assoc 256 at k) ∙ byte_at-raw (at + k) (omega arith))
 
   pub bytes_at-raw : (at n : ℕ) → at + n ≤ 256 → bytes_at image at n ≡ take n (drop at (raw_of image))
-  bytes_at-raw at n fits = sym (take-drop-take n at 256 (drop 256 image) fits ∙ ap (λ (ys : List ℕ). take n ys) (drop-drop at 256 image))
+  bytes_at-raw at n fits = sym (take-drop-take n at 256 (drop 256 image) fits
+      ∙ ap (λ (ys : List ℕ). take n ys) (drop-drop at 256 image))
 
 -- The fields of an image that has the numbers before the active byte of another one: a DISA's, and a DIFF's.
 pub disa_from : (image new : List ℕ) (active : ℕ) (hash raw : List ℕ)
@@ -77,10 +78,12 @@ module _ (one other : List ℕ) (same : raw_of one ≡ raw_of other) where
   byte_same at h = byte_at-raw one at h ∙ ap (λ (raw : List ℕ). get_or raw at 0) same ∙ sym (byte_at-raw other at h)
 
   number_same : (n at : ℕ) → at + n ≤ 256 → number_at n one (256 + at) ≡ number_at n other (256 + at)
-  number_same n at fits = number_at-raw one n at fits ∙ ap (λ (raw : List ℕ). number_at n raw at) same ∙ sym (number_at-raw other n at fits)
+  number_same n at fits = number_at-raw one n at fits ∙ ap (λ (raw : List ℕ). number_at n raw at) same
+      ∙ sym (number_at-raw other n at fits)
 
   bytes_same : (at n : ℕ) → at + n ≤ 256 → bytes_at one at n ≡ bytes_at other at n
-  bytes_same at n fits = bytes_at-raw one at n fits ∙ ap (λ (raw : List ℕ). take n (drop at raw)) same ∙ sym (bytes_at-raw other at n fits)
+  bytes_same at n fits = bytes_at-raw one at n fits ∙ ap (λ (raw : List ℕ). take n (drop at raw)) same
+      ∙ sym (bytes_at-raw other at n fits)
 
   disa_same : disa_fields one ≡ disa_fields other
   disa_same = disa_from other one (byte_at other 0x68) (bytes_at other 0x6C 32) (raw_of other)
@@ -107,7 +110,8 @@ module _ (one other : List ℕ) (same : raw_of one ≡ raw_of other) where
       let outcome : ℕ → Header → Result Header HeaderFault =
       λ version header. cond (eqb version (version_of kind))
       (checked header (first_failing 1 (layout_faults header n))) (Err Version) in
-      ap (λ (version : ℕ). outcome version (fields_of kind one)) version_same ∙ ap (λ (header : Header). outcome (word_at other 0x04) header) (fields_same kind)
+      ap (λ (version : ℕ). outcome version (fields_of kind one)) version_same
+      ∙ ap (λ (header : Header). outcome (word_at other 0x04) header) (fields_same kind)
 
   pub reading_same : (n : ℕ) → reading_of one n ≡ reading_of other n
   unfolding reading_of
@@ -124,12 +128,14 @@ reading_of-short image n short = rw (lt-ltb n 512 short) refl
 first_raw : (image : List ℕ) → 512 ≤ length image → raw_of (first_bytes image) ≡ raw_of image
 first_raw image long =
     let none : 512 - length image ≡ 0 = omega arith in
-    let front : first_bytes image ≡ take 512 image = ap (λ (n : ℕ). take 512 image ++ replicate n 0) none ∙ append-nil (take 512 image) in
+    let front : first_bytes image ≡ take 512 image = ap (λ (n : ℕ). take 512 image ++ replicate n 0) none
+    ∙ append-nil (take 512 image) in
     ap raw_of front ∙ take-drop-take 256 256 512 image (lit≤ tt)
 
 -- what the first 512 bytes say of an image, with zeros after its end, is what the image says
 pub reading_of-first : (image : List ℕ) → reading_of (first_bytes image) (length image) ≡ reading image
 reading_of-first image = elim (cases_lt (length image) 512) [
-  | inl short ↦ reading_of-short (first_bytes image) (length image) short ∙ sym (reading_of-short image (length image) short)
+  | inl short ↦ reading_of-short (first_bytes image) (length image) short
+      ∙ sym (reading_of-short image (length image) short)
   | inr long ↦ reading_same (first_bytes image) image (first_raw image long) (length image)
 ]

@@ -9,7 +9,8 @@ use Rattle.container_header.specs.declared.header.Header.{Header}
 use Rattle.container_header.specs.declared.fault.HeaderFault.{HeaderFault}
 use Rattle.container_header.specs.declared.fault.HeaderFault.TheVariants.{NotImage, Version}
 use Rattle.container_header.specs.Fields.{word_at}
-use Rattle.container_header.specs.Conditions.{kind_of, version_of, fields_of, layout_faults, first_failing, checked, reading_as, reading_of, reading}
+use Rattle.container_header.specs.Conditions.{kind_of, version_of, fields_of, layout_faults, first_failing, checked}
+use Rattle.container_header.specs.Conditions.{reading_as, reading_of, reading}
 use Rattle.container_header.specs.Sound.{IsSoundHeader, IsHeaderOf}
 use Rattle.container_header.specs.Raw.{image_of, IsOfRaw}
 use Rattle.container_header.proofs.HeaderBytes.{raw_of, kind_same, version_same, fields_same}
@@ -23,7 +24,8 @@ pub record IsRead (bytes : List ℕ) (n : ℕ) (header : Header) : Type 0 where
   pub fields_are : fields_of header.kind bytes ≡ header
   pub none_fails : first_failing 1 (layout_faults header n) ≡ None
 
-checked-ok : (header found : Header) (fault : Option ℕ) → checked header fault ≡ Ok found → (header ≡ found) × (fault ≡ None)
+checked-ok : (header found : Header) (fault : Option ℕ) → checked header fault ≡ Ok found → (header ≡ found)
+    × (fault ≡ None)
 checked-ok header found None e = (cc, refl)
 checked-ok header found (Some c) e = cc
 
@@ -32,7 +34,8 @@ kind_kept Disa bytes = refl
 kind_kept Diff bytes = refl
 
 -- by the test of the version
-versioned : (test : Bool) (x : Result Header HeaderFault) (header : Header) → cond test x (Err Version) ≡ Ok header → (test ≡ true) × (x ≡ Ok header)
+versioned : (test : Bool) (x : Result Header HeaderFault) (header : Header) → cond test x (Err Version) ≡ Ok header
+    → (test ≡ true) × (x ≡ Ok header)
 versioned true x header e = (refl, e)
 versioned false x header e = cc
 
@@ -42,7 +45,8 @@ reading_as-ok None bytes n header long is e = cc
 reading_as-ok (Some kind) bytes n header long is e =
     let by_version = versioned (eqb (word_at bytes 0x04) (version_of kind))
     (checked (fields_of kind bytes) (first_failing 1 (layout_faults (fields_of kind bytes) n))) header e in
-    let by_fault = checked-ok (fields_of kind bytes) header (first_failing 1 (layout_faults (fields_of kind bytes) n)) by_version.1 in
+    let by_fault = checked-ok (fields_of kind bytes) header (first_failing 1 (layout_faults (fields_of kind bytes) n))
+    by_version.1 in
     let same : kind ≡ header.kind = sym (kind_kept kind bytes) ∙ ap (λ (h : Header). h.kind) by_fault.0 in
     record {
       longer = long;
@@ -52,7 +56,8 @@ reading_as-ok (Some kind) bytes n header long is e =
       none_fails = ap (λ (h : Header). first_failing 1 (layout_faults h n)) (sym by_fault.0) ∙ by_fault.1;
     }
 
-short_first : (test : Bool) (x : Result Header HeaderFault) (header : Header) → cond test (Err NotImage) x ≡ Ok header → (test ≡ false) × (x ≡ Ok header)
+short_first : (test : Bool) (x : Result Header HeaderFault) (header : Header) → cond test (Err NotImage) x ≡ Ok header
+    → (test ≡ false) × (x ≡ Ok header)
 short_first true x header e = cc
 short_first false x header e = (refl, e)
 
@@ -67,8 +72,10 @@ unfolding reading_of
 reading_of-is bytes n header h =
     let kind = header.kind in
     let fault : Header → Option ℕ = λ found. first_failing 1 (layout_faults found n) in
-    let by_version : Bool → Header → Result Header HeaderFault = λ test found. cond test (checked found (fault found)) (Err Version) in
-    let known : eqb (word_at bytes 0x04) (version_of kind) ≡ true = eq-eqb (word_at bytes 0x04) (version_of kind) h.version_is in
+    let by_version : Bool → Header → Result Header HeaderFault = λ test found.
+    cond test (checked found (fault found)) (Err Version) in
+    let known : eqb (word_at bytes 0x04) (version_of kind) ≡ true =
+    eq-eqb (word_at bytes 0x04) (version_of kind) h.version_is in
     ap (λ (test : Bool). cond test (Err NotImage) (reading_as (kind_of bytes) bytes n)) (le-ltb n 512 h.longer)
     ∙ ap (λ (found : Option Kind). reading_as found bytes n) h.kind_is
     ∙ ap (λ (test : Bool). by_version test (fields_of kind bytes)) known
@@ -81,18 +88,22 @@ behind_zeros n xs = drop_at (replicate n 0) xs n (length-replicate n 0)
 -- the header's bytes in an image that holds them
 pub raw_of-image_of : (raw : List ℕ) → length raw ≡ 256 → raw_of (image_of raw) ≡ raw
 unfolding image_of
-raw_of-image_of raw size = ap (λ (bytes : List ℕ). take 256 bytes) (behind_zeros 256 raw) ∙ take_all 256 raw (omega arith)
+raw_of-image_of raw size = ap (λ (bytes : List ℕ). take 256 bytes) (behind_zeros 256 raw)
+    ∙ take_all 256 raw (omega arith)
 
 raw_kept : (kind : Kind) (bytes : List ℕ) → (fields_of kind bytes).raw ≡ raw_of bytes
 raw_kept Disa bytes = refl
 raw_kept Diff bytes = refl
 
 -- the fields of a header that was read are those of its bytes
-pub read_of_raw : (bytes : List ℕ) (n : ℕ) (header : Header) → 512 ≤ length bytes → reading_of bytes n ≡ Ok header → IsOfRaw header
+pub read_of_raw : (bytes : List ℕ) (n : ℕ) (header : Header) → 512 ≤ length bytes → reading_of bytes n ≡ Ok header
+    → IsOfRaw header
 read_of_raw bytes n header long e =
     let h = reading_of-ok bytes n header e in
-    let raw : header.raw ≡ raw_of bytes = ap (λ (found : Header). found.raw) (sym h.fields_are) ∙ raw_kept header.kind bytes in
-    let size : length header.raw ≡ 256 = ap length raw ∙ length-take-le 256 (drop 256 bytes) (omega (arith, length-drop 256 bytes)) in
+    let raw : header.raw ≡ raw_of bytes = ap (λ (found : Header). found.raw) (sym h.fields_are)
+    ∙ raw_kept header.kind bytes in
+    let size : length header.raw ≡ 256 = ap length raw
+    ∙ length-take-le 256 (drop 256 bytes) (omega (arith, length-drop 256 bytes)) in
     let held = image_of header.raw in
     let same : raw_of held ≡ raw_of bytes = raw_of-image_of header.raw size ∙ raw in
     record {
@@ -144,10 +155,12 @@ reading-is image header h =
       none_fails = sound_to header (length image) h.sound;
     })
 
-pub ok_of_raw : (bytes : List ℕ) (n : ℕ) (result : Result Header HeaderFault) → 512 ≤ length bytes → result ≡ reading_of bytes n → IfOk result IsOfRaw
+pub ok_of_raw : (bytes : List ℕ) (n : ℕ) (result : Result Header HeaderFault) → 512 ≤ length bytes
+    → result ≡ reading_of bytes n → IfOk result IsOfRaw
 ok_of_raw bytes n (Ok header) long e = read_of_raw bytes n header long (sym e)
 ok_of_raw bytes n (Err fault) long e = tt
 
-pub ok_sound : (bytes : List ℕ) (n : ℕ) (result : Result Header HeaderFault) → result ≡ reading_of bytes n → IfOk result (λ header. IsSoundHeader header n)
+pub ok_sound : (bytes : List ℕ) (n : ℕ) (result : Result Header HeaderFault) → result ≡ reading_of bytes n
+    → IfOk result (λ header. IsSoundHeader header n)
 ok_sound bytes n (Ok header) e = read_sound bytes n header (sym e)
 ok_sound bytes n (Err fault) e = tt

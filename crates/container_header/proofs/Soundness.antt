@@ -1,13 +1,16 @@
 -- No condition of the layout fails exactly where a header is sound.
-use Rattle.std.proofs.Common.{◌≡◌, ℕ, suc, ◌+◌, ◌≤◌, Bool, true, false, ◌==◌, ◌&&◌, ◌||◌, not, nat_lt, cond, None, List, [], ◌∷◌, refl, arith, lit≤}
+use Rattle.std.proofs.Common.{◌≡◌, ℕ, suc, ◌+◌, ◌≤◌, Bool, true, false, ◌==◌, ◌&&◌, ◌||◌, not, nat_lt, cond, None, List}
+use Rattle.std.proofs.Common.{[], ◌∷◌, refl, arith, lit≤}
 use Rattle.std.proofs.lemmas.Bool.{ltb-false, le-ltb, eqb-true, eq-eqb}
 use Rattle.std.proofs.lemmas.Bool.{cond_both, or_parts, or_from}
 use Rattle.std.proofs.lemmas.Bool.Decides.{nat_tests}
 use Rattle.save_bytes.specs.declared.extent.Extent.{Extent}
 use Rattle.container_header.specs.declared.header.Header.{Header}
 use Rattle.save_bytes.specs.Extents.{lies_inside, LiesInside, AreApart}
-use Rattle.save_bytes.proofs.ExtentLemmas.{inside, not-lies_inside, apart, overlap-apart, AllApart, all_apart, some_overlap-apart}
-use Rattle.container_header.specs.Conditions.{max_length, table_at, regions, is_bad_descriptor, is_bad_partition, layout_faults, first_failing}
+use Rattle.save_bytes.proofs.ExtentLemmas.{inside, not-lies_inside, apart, overlap-apart, AllApart, all_apart}
+use Rattle.save_bytes.proofs.ExtentLemmas.{some_overlap-apart}
+use Rattle.container_header.specs.Conditions.{max_length, table_at, regions, is_bad_descriptor, is_bad_partition}
+use Rattle.container_header.specs.Conditions.{layout_faults, first_failing}
 use Rattle.container_header.specs.Sound.{IsDescriptorPlace, IsPartition, IsSoundHeader, active_at, inactive_at}
 use Rattle.container_header.specs.Raw.{other_table, flipped}
 
@@ -32,15 +35,19 @@ second_from parts test h two = rw two at h
 second_to : (parts : ℕ) (test : Bool) → (parts ≡ 2 → test ≡ false) → ((parts == 2) && test) ≡ false
 second_to parts test h = grind (arith, nat_tests)
 
-descriptor_from : (header : Header) (e : Extent) → is_bad_descriptor header e ≡ false → IsDescriptorPlace e header.table_size
-descriptor_from header e h = let both = or_parts _ _ h in record { shortest = ltb-false e.size 0x44 both.1; inside = inside e 0 header.table_size both.0 }
+descriptor_from : (header : Header) (e : Extent) → is_bad_descriptor header e ≡ false
+    → IsDescriptorPlace e header.table_size
+descriptor_from header e h = let both = or_parts _ _ h in record
+    { shortest = ltb-false e.size 0x44 both.1; inside = inside e 0 header.table_size both.0 }
 
-descriptor_to : (header : Header) (e : Extent) → IsDescriptorPlace e header.table_size → is_bad_descriptor header e ≡ false
+descriptor_to : (header : Header) (e : Extent) → IsDescriptorPlace e header.table_size
+    → is_bad_descriptor header e ≡ false
 descriptor_to header e h = or_from _ _ (not-lies_inside e 0 header.table_size h.inside) (le-ltb e.size 0x44 h.shortest)
 
 partition_from : (e : Extent) (n : ℕ) → is_bad_partition e n ≡ false → IsPartition e n
 partition_from e n h =
-    let both : ((e.size == 0) ≡ false) × (not (lies_inside e 512 n) ≡ false) = or_parts (e.size == 0) (not (lies_inside e 512 n)) h in
+    let both : ((e.size == 0) ≡ false) × (not (lies_inside e 512 n) ≡ false) =
+    or_parts (e.size == 0) (not (lies_inside e 512 n)) h in
     record { some = grind (arith, nat_tests); inside = inside e 512 n both.1 }
 
 partition_to : (e : Extent) (n : ℕ) → IsPartition e n → is_bad_partition e n ≡ false
@@ -48,7 +55,8 @@ partition_to e n h = or_from _ _ (grind (arith, nat_tests, h.some)) (not-lies_in
 
 -- the tables and the partitions
 abbrev regions_with : Header → Bool → List Extent
-regions_with header two = table_at header header.primary ∷ table_at header header.secondary ∷ header.part_a ∷ cond two (header.part_b ∷ []) []
+regions_with header two = table_at header header.primary ∷ table_at header header.secondary ∷ header.part_a ∷ cond two
+    (header.part_b ∷ []) []
 
 regions_to : (header : Header) (n : ℕ) (two : Bool) → (two ≡ true → header.parts ≡ 2) → IsSoundHeader header n
     → AllApart (regions_with header two)
@@ -77,7 +85,10 @@ active_apart header true h = h
 active_apart header false h = λ x a b c d. h x c d a b
 
 none_sound : (header : Header) (n : ℕ) → NoneHolds (layout_faults header n) → IsSoundHeader header n
-none_sound header n (longest, (parts, (active, (table, (primary, (secondary, (a, (b, (a_b, (part_a, (part_b, (regions, _)))))))))))) =
+none_sound header n (
+  longest,
+  (parts, (active, (table, (primary, (secondary, (a, (b, (a_b, (part_a, (part_b, (regions, _))))))))))),
+) =
     let count = in_two_from header.parts 1 parts in
     let byte = in_two_from header.active 0 active in
     let size = or_parts (nat_lt header.table_size 0x44) (nat_lt 65536 header.table_size) table in
@@ -106,11 +117,15 @@ none_sound header n (longest, (parts, (active, (table, (primary, (secondary, (a,
       primary_b_apart = λ two. (with_b two).0.1.1.0;
       secondary_b_apart = λ two. (with_b two).1.0.1.0;
       partitions_apart = λ two. (with_b two).1.1.0.0;
-      active_inside = either first header.primary header.secondary (λ at. LiesInside (table_at header at) 512 n) in_primary in_secondary;
-      inactive_inside = either first header.secondary header.primary (λ at. LiesInside (table_at header at) 512 n) in_secondary in_primary;
+      active_inside = either first header.primary header.secondary (λ at. LiesInside (table_at header at) 512 n)
+          in_primary in_secondary;
+      inactive_inside = either first header.secondary header.primary (λ at. LiesInside (table_at header at) 512 n)
+          in_secondary in_primary;
       active_inactive_apart = active_apart header first pairs.0.0;
-      active_a_apart = either first header.primary header.secondary (λ at. AreApart (table_at header at) header.part_a) pairs.0.1.0 pairs.1.0.0;
-      inactive_a_apart = either first header.secondary header.primary (λ at. AreApart (table_at header at) header.part_a) pairs.1.0.0 pairs.0.1.0;
+      active_a_apart = either first header.primary header.secondary (λ at. AreApart (table_at header at) header.part_a)
+          pairs.0.1.0 pairs.1.0.0;
+      inactive_a_apart = either first header.secondary header.primary
+          (λ at. AreApart (table_at header at) header.part_a) pairs.1.0.0 pairs.0.1.0;
       active_b_apart = λ two. either first header.primary header.secondary
           (λ at. AreApart (table_at header at) header.part_b) (with_b two).0.1.1.0
           (with_b two).1.0.1.0;
@@ -149,11 +164,13 @@ at_most_one : (active : ℕ) → other_table active ≤ 1
 at_most_one active = cond_both (active == 0) 1 0 (λ x. x ≤ 1) (λ _. lit≤ tt) (λ _. lit≤ tt)
 
 -- a flipped header is as sound as it was
-pub sound-flipped : (header : Header) (hash : List ℕ) (n : ℕ) → IsSoundHeader header n → IsSoundHeader (flipped header hash) n
+pub sound-flipped : (header : Header) (hash : List ℕ) (n : ℕ) → IsSoundHeader header n
+    → IsSoundHeader (flipped header hash) n
 sound-flipped header hash n s =
     let none = sound_none header n s in
     let active = other_table header.active in
-    none_sound (flipped header hash) n (none.0, (none.1.0, (in_two_to active 0 (omega arith) (at_most_one header.active), none.1.1.1)))
+    none_sound (flipped header hash) n
+    (none.0, (none.1.0, (in_two_to active 0 (omega arith) (at_most_one header.active), none.1.1.1)))
 
 -- and its tables change their places
 pub active_at-flipped : (header : Header) (hash : List ℕ) → active_at (flipped header hash) ≡ inactive_at header

@@ -32,7 +32,8 @@ table_at header at = record { at = at; size = header.table_size }
 
 -- the tables and partitions that the header has
 abbrev pub regions : Header → List Extent
-regions header = table_at header header.primary ∷ table_at header header.secondary ∷ header.part_a ∷ (if header.parts == 2 then header.part_b ∷ [] else [])
+regions header = table_at header header.primary ∷ table_at header header.secondary ∷ header.part_a ∷
+    (if header.parts == 2 then header.part_b ∷ [] else [])
 
 abbrev pub max_length : ℕ
 max_length = 67108864
@@ -51,7 +52,8 @@ count_faults header image_length =
     ∷ not (header.parts == 1 || header.parts == 2)
     ∷ []
 
--- 3: the active byte names a table; 4: the size of a table; 5, 6: both tables lie in the image behind its first 512 bytes
+-- 3: the active byte names a table; 4: the size of a table; 5, 6: both tables lie in the image behind its first 512
+-- bytes
 abbrev pub table_faults : Header → ℕ → List Bool
 table_faults header image_length =
     not (header.active == 0 || header.active == 1)
@@ -101,7 +103,8 @@ reading_as (Some kind) image image_length =
 
 -- the header that these bytes give an image of a length, or the first fault
 unfoldable pub reading_of : List ℕ → ℕ → Result Header HeaderFault
-reading_of image image_length = if nat_lt image_length 512 then Err NotImage else reading_as (kind_of image) image image_length
+reading_of image image_length = if nat_lt image_length 512 then Err NotImage else reading_as (kind_of image) image
+    image_length
 
 -- the header of an image, or the first fault
 abbrev pub reading : List ℕ → Result Header HeaderFault

@@ -36,5 +36,6 @@ abbrev pub flipped : Header → List ℕ → Header
 flipped header hash = record header {
   active = other_table header.active;
   hash = hash;
-  raw = with_bytes (with_bytes header.raw (active_place header.kind) (other_table header.active ∷ [])) (hash_place header.kind) hash;
+  raw = with_bytes (with_bytes header.raw (active_place header.kind) (other_table header.active ∷ []))
+      (hash_place header.kind) hash;
 }

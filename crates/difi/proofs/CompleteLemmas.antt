@@ -11,7 +11,8 @@ use Rattle.difi.specs.Conditions.{reading, parts, difi_tests, name_tests, level_
 use Rattle.difi.specs.Conditions.{has_no_place, has_bad_copies, has_short_bitmap, has_overlapping_copies, pairs}
 use Rattle.difi.specs.Conditions.{inner_levels, has_bad_level, has_overlapping_levels, external_extent}
 use Rattle.difi.specs.Conditions.{has_bad_external, has_too_few_entries}
-use Rattle.difi.specs.Sound.{HasParts, HasBlockSizes, IsPlaced, HasCopies, HasHashLevels, HasExternalLevel, HasSoundLevels, IsSoundDifi, IsDescriptor}
+use Rattle.difi.specs.Sound.{HasParts, HasBlockSizes, IsPlaced, HasCopies, HasHashLevels, HasExternalLevel}
+use Rattle.difi.specs.Sound.{HasSoundLevels, IsSoundDifi, IsDescriptor}
 use Rattle.save_bytes.specs.Extents.{lies_inside, overlap, AreApart}
 use Rattle.save_bytes.proofs.ExtentLemmas.{AllApart, some_overlap-apart, list_any-apart}
 use Rattle.difi.proofs.TestLemmas.{inner, some_outside-inside, not-ends_inside, is_outside-between}
@@ -32,8 +33,10 @@ has_bad_log-none difi h =
     (is_outside-between 9 16 _ h.ivfc3))
     (is_outside-between 9 16 _ h.ivfc4)
 
-has_no_place-placed : (level : LevelPlace) (part_len : ℕ) → IsPlaced level part_len → has_no_place level part_len ≡ false
-has_no_place-placed level part_len h = or_from _ _ (eqb-not_empty level.size h.some) (not-ends_inside (copies_of level) part_len h.inside)
+has_no_place-placed : (level : LevelPlace) (part_len : ℕ) → IsPlaced level part_len
+    → has_no_place level part_len ≡ false
+has_no_place-placed level part_len h = or_from _ _ (eqb-not_empty level.size h.some)
+    (not-ends_inside (copies_of level) part_len h.inside)
 
 has_bad_copies-none : (difi : Difi) (part_len : ℕ) → HasCopies difi part_len → has_bad_copies difi part_len ≡ false
 unfolding has_bad_copies
@@ -46,20 +49,24 @@ has_short_bitmap-none : (difi : Difi) (part_len : ℕ) → HasCopies difi part_l
 unfolding has_short_bitmap
 has_short_bitmap-none difi part_len h = or_from _ _ (le-ltb _ _ h.bits1) (le-ltb _ _ h.bits2)
 
-has_overlapping_copies-none : (difi : Difi) (part_len : ℕ) → HasCopies difi part_len → has_overlapping_copies difi ≡ false
+has_overlapping_copies-none : (difi : Difi) (part_len : ℕ) → HasCopies difi part_len
+    → has_overlapping_copies difi ≡ false
 unfolding has_overlapping_copies
-has_overlapping_copies-none difi part_len h = some_overlap-apart (pairs difi) ((h.apart12, (h.apart13, tt)), ((h.apart23, tt), (tt, tt)))
+has_overlapping_copies-none difi part_len h = some_overlap-apart (pairs difi)
+    ((h.apart12, (h.apart13, tt)), ((h.apart23, tt), (tt, tt)))
 
 inner_apart : (external : Bool) (one two three four : Extent) → AreApart one two → AreApart one three
     → AreApart two three → (external ≡ false → AreApart one four) → (external ≡ false → AreApart two four)
     → (external ≡ false → AreApart three four) → AllApart (inner external one two three four)
 inner_apart true one two three four a b c d e f = ((a, (b, tt)), ((c, tt), (tt, tt)))
-inner_apart false one two three four a b c d e f = ((a, (b, (d refl, tt))), ((c, (e refl, tt)), ((f refl, tt), (tt, tt))))
+inner_apart false one two three four a b c d e f =
+    ((a, (b, (d refl, tt))), ((c, (e refl, tt)), ((f refl, tt), (tt, tt))))
 
 inner_inside : (external : Bool) (one two three four : Extent) (end : ℕ) → one.at + one.size ≤ end
     → two.at + two.size ≤ end → three.at + three.size ≤ end → (external ≡ false → four.at + four.size ≤ end)
     → some_outside (inner external one two three four) end ≡ false
-inner_inside true one two three four end a b c d = some_outside-inside (inner true one two three four) end (a, (b, (c, tt)))
+inner_inside true one two three four end a b c d = some_outside-inside (inner true one two three four) end
+    (a, (b, (c, tt)))
 inner_inside false one two three four end a b c d =
     some_outside-inside (inner false one two three four) end (a, (b, (c, (d refl, tt))))
 
@@ -93,16 +100,19 @@ external_inside : (external : Bool) (level : Extent) (others : List Extent) (par
     → (external ≡ true → level.at + level.size ≤ part_len)
     → (external ≡ true → list_any (overlap level) others ≡ false)
     → (external && (not (lies_inside level 0 part_len) || list_any (overlap level) others)) ≡ false
-external_inside true level others part_len inside apart = or_from _ _ (not-ends_inside level part_len (inside refl)) (apart refl)
+external_inside true level others part_len inside apart = or_from _ _ (not-ends_inside level part_len (inside refl))
+    (apart refl)
 external_inside false level others part_len inside apart = refl
 
-has_bad_external-none : (difi : Difi) (part_len : ℕ) → (difi.external ≡ true → HasExternalLevel difi part_len) → has_bad_external difi part_len ≡ false
+has_bad_external-none : (difi : Difi) (part_len : ℕ) → (difi.external ≡ true → HasExternalLevel difi part_len)
+    → has_bad_external difi part_len ≡ false
 unfolding has_bad_external
 has_bad_external-none difi part_len h =
     external_inside difi.external (external_extent difi) (pairs difi) part_len (λ e. (h e).inside)
     (λ e. list_any-apart (external_extent difi) (pairs difi) ((h e).apart1, ((h e).apart2, ((h e).apart3, tt))))
 
-pub levels_pass : (difi : Difi) (part_len : ℕ) → HasSoundLevels difi part_len → verdict (level_tests difi part_len) ≡ Ok tt
+pub levels_pass : (difi : Difi) (part_len : ℕ) → HasSoundLevels difi part_len
+    → verdict (level_tests difi part_len) ≡ Ok tt
 unfolding level_tests
 levels_pass difi part_len h =
     passes _ _ _ (has_bad_log-none difi h.block_sizes)

@@ -1,6 +1,8 @@
 -- A table that keeps the parts of a descriptor has that descriptor, with its own selector.
-use Rattle.std.proofs.Common.{◌≡◌, ℕ, ◌+◌, ◌-◌, ◌<◌, ◌≤◌, ◌≢◌, List, length, slice_index, get_or, take, drop, set, Ok, sym, ◌∙◌, ap, subst, arith}
-use Rattle.std.proofs.lemmas.List.{ext_get_or, length-take, length-drop, length-set, get_or-take, get_or-drop, get_or-set_same, get_or-set_other}
+use Rattle.std.proofs.Common.{◌≡◌, ℕ, ◌+◌, ◌-◌, ◌<◌, ◌≤◌, ◌≢◌, List, length, slice_index, get_or, take, drop, set, Ok}
+use Rattle.std.proofs.Common.{sym, ◌∙◌, ap, subst, arith}
+use Rattle.std.proofs.lemmas.List.{ext_get_or, length-take, length-drop, length-set, get_or-take, get_or-drop}
+use Rattle.std.proofs.lemmas.List.{get_or-set_same, get_or-set_other}
 use Rattle.save_bytes.specs.Fields.{number_at}
 use Rattle.save_bytes.proofs.FieldLemmas.{number_at-same}
 use Rattle.save_bytes.specs.declared.extent.Extent.{Extent}
@@ -31,7 +33,8 @@ module _ (old new : List ℕ) (start n : ℕ) (kept : KeepsBytes old new start n
       rw place at same
 
   number_kept : (size at : ℕ) → start ≤ at → at + size ≤ start + n → number_at size new at ≡ number_at size old at
-  number_kept size at low high = number_at-same size new old at at (λ k h. byte_kept (at + k) (omega arith) (omega arith))
+  number_kept size at low high = number_at-same size new old at at
+      (λ k h. byte_kept (at + k) (omega arith) (omega arith))
 
   extent_kept : (at : ℕ) → start ≤ at → at + 16 ≤ start + n → extent_at new at ≡ extent_at old at
   extent_kept at low high =
@@ -46,7 +49,8 @@ module _ (old new : List ℕ) (start n : ℕ) (kept : KeepsBytes old new start n
       let log = number_kept 4 (at + 16) (omega arith) (omega arith) in
       cc
 
-  name_kept : length new ≡ length old → (at : ℕ) → start ≤ at → at + 4 ≤ start + n → take 4 (drop at new) ≡ take 4 (drop at old)
+  name_kept : length new ≡ length old → (at : ℕ) → start ≤ at → at + 4 ≤ start + n
+      → take 4 (drop at new) ≡ take 4 (drop at old)
   name_kept len at low high =
       ext_get_or 0 (take 4 (drop at new)) (take 4 (drop at old))
       (simp (length-take, length-drop, len))
@@ -78,7 +82,15 @@ with_selector difi size part_len selector h chosen =
       };
       levels = record {
         selector = chosen;
-        block_sizes = record { dpfs2 = b.dpfs2; dpfs3 = b.dpfs3; ivfc1 = b.ivfc1; ivfc2 = b.ivfc2; ivfc3 = b.ivfc3; ivfc4 = b.ivfc4 };
+        block_sizes = record {
+          dpfs2 = b.dpfs2;
+          dpfs3 = b.dpfs3;
+          ivfc1 = b.ivfc1;
+          ivfc2 = b.ivfc2;
+          ivfc3 =
+              b.ivfc3;
+          ivfc4 = b.ivfc4;
+        };
         copies = record {
           level1 = c.level1;
           level2 = c.level2;
@@ -110,24 +122,31 @@ with_selector difi size part_len selector h chosen =
           entries3 = t.entries3;
           entries4 = t.entries4;
         };
-        external_level = λ e. let x = h.levels.external_level e in record { inside = x.inside; apart1 = x.apart1; apart2 = x.apart2; apart3 = x.apart3 };
+        external_level = λ e. let x = h.levels.external_level e in record
+            { inside = x.inside; apart1 = x.apart1; apart2 = x.apart2; apart3 = x.apart3 };
       };
     }
 
-module _ (old new : List ℕ) (place : ℕ) (front : KeepsBytes old new place 0x39) (back : KeepsBytes old new (place + 0x3A) 0x0A) where
+module _ (old new : List ℕ) (place : ℕ) (front : KeepsBytes old new place 0x39)
+    (back : KeepsBytes old new (place + 0x3A) 0x0A) where
   ivfc_place_kept : ivfc_place new place ≡ ivfc_place old place
-  ivfc_place_kept = ap (λ n. place + n) (number_kept old new place 0x39 front 8 (place + 0x08) (omega arith) (omega arith))
+  ivfc_place_kept = ap (λ n. place + n)
+      (number_kept old new place 0x39 front 8 (place + 0x08) (omega arith) (omega arith))
 
   dpfs_place_kept : dpfs_place new place ≡ dpfs_place old place
-  dpfs_place_kept = ap (λ n. place + n) (number_kept old new place 0x39 front 8 (place + 0x18) (omega arith) (omega arith))
+  dpfs_place_kept = ap (λ n. place + n)
+      (number_kept old new place 0x39 front 8 (place + 0x18) (omega arith) (omega arith))
 
-  module _ (ivfc : KeepsBytes old new (ivfc_place old place) 0x78) (dpfs : KeepsBytes old new (dpfs_place old place) 0x50) where
-    ivfc_level : (offset : ℕ) → offset + 20 ≤ 0x78 → level_at new (ivfc_place new place + offset) ≡ level_at old (ivfc_place old place + offset)
+  module _ (ivfc : KeepsBytes old new (ivfc_place old place) 0x78)
+      (dpfs : KeepsBytes old new (dpfs_place old place) 0x50) where
+    ivfc_level : (offset : ℕ) → offset + 20 ≤ 0x78 → level_at new (ivfc_place new place + offset)
+        ≡ level_at old (ivfc_place old place + offset)
     ivfc_level offset inside = ap (λ at. level_at new (at + offset)) ivfc_place_kept
         ∙ level_kept old new (ivfc_place old place) 0x78 ivfc (ivfc_place old place + offset) (omega arith)
         (omega arith)
 
-    dpfs_level : (offset : ℕ) → offset + 20 ≤ 0x50 → level_at new (dpfs_place new place + offset) ≡ level_at old (dpfs_place old place + offset)
+    dpfs_level : (offset : ℕ) → offset + 20 ≤ 0x50 → level_at new (dpfs_place new place + offset)
+        ≡ level_at old (dpfs_place old place + offset)
     dpfs_level offset inside = ap (λ at. level_at new (at + offset)) dpfs_place_kept
         ∙ level_kept old new (dpfs_place old place) 0x50 dpfs (dpfs_place old place + offset) (omega arith)
         (omega arith)
@@ -155,7 +174,8 @@ module _ (old new : List ℕ) (place : ℕ) (front : KeepsBytes old new place 0x
         let dpfs_extent_kept = extent_kept old new place 0x39 front (place + 0x18) (omega arith) (omega arith) in
         record {
           difi_name = name_kept old new place 0x39 front len place (omega arith) (omega arith) ∙ h.difi_name;
-          difi_version = number_kept old new place 0x39 front 4 (place + 4) (omega arith) (omega arith) ∙ h.difi_version;
+          difi_version = number_kept old new place 0x39 front 4 (place + 4) (omega arith) (omega arith)
+              ∙ h.difi_version;
           ivfc_name = ap (λ at. take 4 (drop at new)) ivfc_place_kept
               ∙ name_kept old new (ivfc_place old place) 0x78 ivfc len (ivfc_place old place) (omega arith)
               (omega arith) ∙ h.ivfc_name;
@@ -187,14 +207,18 @@ reading-kept old new size part_len difi kept chosen h =
     let place = difi.place in
     let read = is_read old place size part_len difi h in
     let begin = parts_begin old place difi read.fields in
-    let ivfc : KeepsBytes old new (ivfc_place old place) 0x78 = subst (λ at. KeepsBytes old new at 0x78) begin.0 kept.ivfc in
-    let dpfs : KeepsBytes old new (dpfs_place old place) 0x50 = subst (λ at. KeepsBytes old new at 0x50) begin.1 kept.dpfs in
+    let ivfc : KeepsBytes old new (ivfc_place old place) 0x78 =
+    subst (λ at. KeepsBytes old new at 0x78) begin.0 kept.ivfc in
+    let dpfs : KeepsBytes old new (dpfs_place old place) 0x50 =
+    subst (λ at. KeepsBytes old new at 0x50) begin.1 kept.dpfs in
     let front = kept.before_selector in
     let back = kept.behind_selector in
     let same : fields new place ≡ record difi { selector = slice_index new (place + 0x39) } =
-    fields_kept old new place front back ivfc dpfs ∙ ap (λ (d : Difi). record d { selector = slice_index new (place + 0x39) }) (sym read.fields) in
+    fields_kept old new place front back ivfc dpfs
+    ∙ ap (λ (d : Difi). record d { selector = slice_index new (place + 0x39) }) (sym read.fields) in
     let sound = with_selector difi size part_len (slice_index new (place + 0x39)) read.sound chosen in
-    reading-sound new place size part_len (descriptor_kept old new place front back ivfc dpfs size kept.len read.descriptor)
+    reading-sound new place size part_len
+    (descriptor_kept old new place front back ivfc dpfs size kept.len read.descriptor)
     (subst (λ (d : Difi). IsSoundDifi d size part_len) (sym same) sound) ∙ ap Ok same
 
 -- a table that changes in the selector and the master hash alone keeps the parts
@@ -206,7 +230,8 @@ keeps_parts old new size part_len difi sound len same =
     let p = sound.parts in
     record {
       len = len;
-      before_selector = λ k h. same (difi.place + k) (omega arith) (λ low high. p.difi_master k (omega arith) (omega arith) (omega arith) (omega arith));
+      before_selector = λ k h. same (difi.place + k) (omega arith)
+          (λ low high. p.difi_master k (omega arith) (omega arith) (omega arith) (omega arith));
       behind_selector = λ k h. same (difi.place + 0x3A + k) (omega arith)
           (λ low high. p.difi_master (0x3A + k) (omega arith) (omega arith) (omega arith) (omega arith));
       ivfc = λ k h. same (difi.place + difi.ivfc_at + k)
@@ -226,6 +251,7 @@ reading-set table size part_len selector difi inside chosen h =
     let sound = (is_read table difi.place size part_len difi h).sound in
     let kept = keeps_parts table new size part_len difi sound (length-set table (difi.place + 0x39) selector)
     (λ x other _. get_or-set_other table (difi.place + 0x39) x selector 0 other) in
-    let is_set : slice_index new (difi.place + 0x39) ≡ selector = get_or-set_same table (difi.place + 0x39) selector 0 inside in
+    let is_set : slice_index new (difi.place + 0x39) ≡ selector =
+    get_or-set_same table (difi.place + 0x39) selector 0 inside in
     reading-kept table new size part_len difi kept (rw is_set chosen) h
     ∙ ap (λ s. Ok (record difi { selector = s })) is_set

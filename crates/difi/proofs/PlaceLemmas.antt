@@ -16,5 +16,6 @@ pub block_begins : (block size log : ℕ) → block < div_ceil size (2 ^ log) �
 block_begins block size log h =
     let bound = div_ceil_times size (2 ^ log) (pow_pos log) in
     let blocks = div_ceil size (2 ^ log) in
-    let next : (block + 1) * 2 ^ log ≤ blocks * 2 ^ log = mul-le-mul_right {m = block + 1} (2 ^ log) (omega (arith, h)) in
+    let next : (block + 1) * 2 ^ log ≤ blocks * 2 ^ log = mul-le-mul_right {m = block + 1} (2 ^ log) (omega (arith, h))
+    in
     omega (arith, bound.1, next)

@@ -1,5 +1,6 @@
 -- A descriptor on which no test fails is sound.
-use Rattle.std.proofs.Common.{◌≡◌, ℕ, ◌+◌, ◌<◌, ◌≤◌, Bool, true, false, List, [], ◌∷◌, take, drop, codes, cond, Result, Ok, Err, IfOk, IsOk, refl}
+use Rattle.std.proofs.Common.{◌≡◌, ℕ, ◌+◌, ◌<◌, ◌≤◌, Bool, true, false, List, [], ◌∷◌, take, drop, codes, cond, Result}
+use Rattle.std.proofs.Common.{Ok, Err, IfOk, IsOk, refl}
 use Rattle.std.proofs.lemmas.Bool.{or_parts, ltb-false}
 use Rattle.save_bytes.specs.declared.extent.Extent.{Extent}
 use Rattle.difi.specs.declared.places.LevelPlace.{LevelPlace}
@@ -11,7 +12,8 @@ use Rattle.difi.specs.Conditions.{reading, parts, difi_tests, name_tests, level_
 use Rattle.difi.specs.Conditions.{has_no_place, has_bad_copies, has_short_bitmap, has_overlapping_copies, pairs}
 use Rattle.difi.specs.Conditions.{inner_levels, has_bad_level, has_overlapping_levels, external_extent}
 use Rattle.difi.specs.Conditions.{has_bad_external, has_too_few_entries}
-use Rattle.difi.specs.Sound.{HasParts, HasBlockSizes, IsPlaced, HasCopies, HasHashLevels, HasExternalLevel, IsSoundDifi, IsDescriptor}
+use Rattle.difi.specs.Sound.{HasParts, HasBlockSizes, IsPlaced, HasCopies, HasHashLevels, HasExternalLevel, IsSoundDifi}
+use Rattle.difi.specs.Sound.{IsDescriptor}
 use Rattle.save_bytes.proofs.ExtentLemmas.{all_apart, apart_from}
 use Rattle.difi.proofs.TestLemmas.{inner, all_inside, ends_inside, between, not_empty, enough_entries}
 use Rattle.difi.proofs.TestLemmas.{part_inside, part_size, one_of_two, named, numbered}
@@ -64,7 +66,8 @@ inner_is : (external : Bool) (one two three four : Extent)
 inner_is true one two three four = refl
 inner_is false one two three four = refl
 
-pub hash_tree : (difi : Difi) → has_bad_level difi ≡ false → has_overlapping_levels difi ≡ false → has_too_few_entries difi ≡ false → HasHashLevels difi
+pub hash_tree : (difi : Difi) → has_bad_level difi ≡ false → has_overlapping_levels difi ≡ false
+    → has_too_few_entries difi ≡ false → HasHashLevels difi
 unfolding has_bad_level has_overlapping_levels has_too_few_entries
 hash_tree difi in_level3 none_overlap enough =
     let parts = or_parts _ _ in_level3 in
@@ -72,7 +75,8 @@ hash_tree difi in_level3 none_overlap enough =
     let some2 = or_parts _ _ some1.1 in
     let some3 = or_parts _ _ some2.1 in
     let some4 = or_parts _ _ some3.1 in
-    let are = inner_is difi.external (extent_of difi.ivfc1) (extent_of difi.ivfc2) (extent_of difi.ivfc3) (extent_of difi.ivfc4) in
+    let are = inner_is difi.external (extent_of difi.ivfc1) (extent_of difi.ivfc2) (extent_of difi.ivfc3)
+    (extent_of difi.ivfc4) in
     let inside = rw are at (all_inside (inner_levels difi) difi.dpfs3.size parts.1) in
     let apart = rw are at (all_apart (inner_levels difi) none_overlap) in
     let inside_all = λ (e : difi.external ≡ false). rw e at inside in
@@ -101,12 +105,19 @@ hash_tree difi in_level3 none_overlap enough =
       entries4 = enough_entries _ _ fourth.1;
     }
 
-external_level : (difi : Difi) (part_len : ℕ) → has_bad_external difi part_len ≡ false → difi.external ≡ true → HasExternalLevel difi part_len
+external_level : (difi : Difi) (part_len : ℕ) → has_bad_external difi part_len ≡ false → difi.external ≡ true
+    → HasExternalLevel difi part_len
 unfolding has_bad_external
 external_level difi part_len h external =
     let parts = or_parts _ _ (rw external at h) in
     let apart = apart_from (external_extent difi) (pairs difi) parts.1 in
-    record { inside = ends_inside (external_extent difi) part_len parts.0; apart1 = apart.0; apart2 = apart.1.0; apart3 = apart.1.1.0 }
+    record {
+      inside = ends_inside (external_extent difi) part_len parts.0;
+      apart1 = apart.0;
+      apart2 =
+          apart.1.0;
+      apart3 = apart.1.1.0;
+    }
 
 -- what the tests on the levels give
 pub record HasTestedLevels (difi : Difi) (part_len : ℕ) : Type 0 where
@@ -138,8 +149,10 @@ on_levels difi part_len h =
 record HasDifi (table : List ℕ) (place size : ℕ) : Type 0 where
   name : take 4 (drop place table) ≡ codes "DIFI"
   version : word_at table (place + 4) ≡ 0x10000
-  ivfc : (0x78 ≤ (ivfc_extent table place).size) × ((ivfc_extent table place).at + (ivfc_extent table place).size ≤ size)
-  dpfs : (0x50 ≤ (dpfs_extent table place).size) × ((dpfs_extent table place).at + (dpfs_extent table place).size ≤ size)
+  ivfc : (0x78 ≤ (ivfc_extent table place).size)
+      × ((ivfc_extent table place).at + (ivfc_extent table place).size ≤ size)
+  dpfs : (0x50 ≤ (dpfs_extent table place).size)
+      × ((dpfs_extent table place).at + (dpfs_extent table place).size ≤ size)
   parts : HasParts (fields table place) size
   selector : (fields table place).selector < 2
 
@@ -153,7 +166,8 @@ on_difi table place size h =
     let master = holds _ _ _ dpfs.1 in
     let overlaps = holds _ _ _ master.1 in
     let selector = holds _ _ _ overlaps.1 in
-    let apart = all_apart (parts (ivfc_extent table place).at (dpfs_extent table place).at (master_extent table place)) overlaps.0 in
+    let apart = all_apart (parts (ivfc_extent table place).at (dpfs_extent table place).at (master_extent table place))
+    overlaps.0 in
     record {
       name = named _ _ name.0;
       version = numbered _ _ version.0;
@@ -200,7 +214,8 @@ pub record IsRead (table : List ℕ) (place size part_len : ℕ) (difi : Difi) :
   pub descriptor : IsDescriptor table place size
   pub sound : IsSoundDifi difi size part_len
 
-pub is_read : (table : List ℕ) (place size part_len : ℕ) (difi : Difi) → reading table place size part_len ≡ Ok difi → IsRead table place size part_len difi
+pub is_read : (table : List ℕ) (place size part_len : ℕ) (difi : Difi) → reading table place size part_len ≡ Ok difi
+    → IsRead table place size part_len difi
 is_read table place size part_len difi h =
     let passed = all_pass table place size part_len difi h in
     let first = on_difi table place size passed.difi in

@@ -12,10 +12,12 @@ use Rattle.difi.specs.Sound.{IsBetween}
 use Rattle.difi.specs.Conditions.{is_outside, is_bad_part}
 
 -- a range lies inside 0 to an end where its own end does
-pub ends_inside : (extent : Extent) (high : ℕ) → not (lies_inside extent 0 high) ≡ false → extent.at + extent.size ≤ high
+pub ends_inside : (extent : Extent) (high : ℕ) → not (lies_inside extent 0 high) ≡ false
+    → extent.at + extent.size ≤ high
 ends_inside extent high h = (inside extent 0 high h).ends
 
-pub not-ends_inside : (extent : Extent) (high : ℕ) → extent.at + extent.size ≤ high → not (lies_inside extent 0 high) ≡ false
+pub not-ends_inside : (extent : Extent) (high : ℕ) → extent.at + extent.size ≤ high
+    → not (lies_inside extent 0 high) ≡ false
 not-ends_inside extent high h = not-lies_inside extent 0 high (record { begins = omega arith; ends = h })
 
 -- each of a list lies inside 0 to an end
@@ -30,7 +32,8 @@ all_inside (extent ∷ extents) end h =
 
 pub some_outside-inside : (extents : List Extent) (end : ℕ) → AllInside extents end → some_outside extents end ≡ false
 some_outside-inside [] end h = refl
-some_outside-inside (extent ∷ extents) end h = or_from _ _ (not-ends_inside extent end h.0) (some_outside-inside extents end h.1)
+some_outside-inside (extent ∷ extents) end h = or_from _ _ (not-ends_inside extent end h.0)
+    (some_outside-inside extents end h.1)
 
 -- four levels, of which the last is not looked at where it is external
 abbrev pub inner : Bool → Extent → Extent → Extent → Extent → List Extent
@@ -57,10 +60,12 @@ ltb-enough_entries bytes blocks h = le-ltb (bytes / 32) blocks (omega arith)
 pub part_inside : (part : Extent) (least size : ℕ) → is_bad_part part least size ≡ false → part.at + least ≤ size
 part_inside part least size h = grind (arith, nat_tests)
 
-pub is_bad_part-inside : (part : Extent) (least size : ℕ) → least ≤ part.size → part.at + part.size ≤ size → is_bad_part part least size ≡ false
+pub is_bad_part-inside : (part : Extent) (least size : ℕ) → least ≤ part.size → part.at + part.size ≤ size
+    → is_bad_part part least size ≡ false
 is_bad_part-inside part least size long inside = grind (arith, nat_tests)
 
-pub part_size : (part : Extent) (least size : ℕ) → is_bad_part part least size ≡ false → (least ≤ part.size) × (part.at + part.size ≤ size)
+pub part_size : (part : Extent) (least size : ℕ) → is_bad_part part least size ≡ false → (least ≤ part.size)
+    × (part.at + part.size ≤ size)
 part_size part least size h = grind (arith, nat_tests)
 
 pub one_of_two : (n : ℕ) → nat_lt 1 n ≡ false → n < 2

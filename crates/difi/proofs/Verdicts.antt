@@ -23,7 +23,8 @@ holds true fault others h = cc
 holds false fault others h = (refl, h)
 
 -- and back
-pub passes : (fails : Bool) (fault : DifiFault) (others : Result (Unit {0}) DifiFault) → fails ≡ false → others ≡ Ok tt → cond fails (Err fault) others ≡ Ok tt
+pub passes : (fails : Bool) (fault : DifiFault) (others : Result (Unit {0}) DifiFault) → fails ≡ false → others ≡ Ok tt
+    → cond fails (Err fault) others ≡ Ok tt
 passes fails fault others none h = rw none h
 
 -- three verdicts that are no fault, and the value
@@ -39,7 +40,8 @@ passed : {A : Type 0} (first second third : Result (Unit {0}) DifiFault) (value 
 passed (Err fault) second third value found h = cc
 passed (Ok _) (Err fault) third value found h = cc
 passed (Ok _) (Ok _) (Err fault) value found h = cc
-passed (Ok _) (Ok _) (Ok _) value found h = record { first_passed = refl; second_passed = refl; third_passed = refl; is_value = cc }
+passed (Ok _) (Ok _) (Ok _) value found h =
+    record { first_passed = refl; second_passed = refl; third_passed = refl; is_value = cc }
 
 module _ (table : List ℕ) (place size part_len : ℕ) where
   by_groups : reading table place size part_len ≡ with_value (fields table place)
@@ -54,7 +56,8 @@ module _ (table : List ℕ) (place size part_len : ℕ) where
       (verdict-append (difi_tests table place size) (names ++ levels)
       ∙ ap (then_verdict (verdict (difi_tests table place size))) (verdict-append names levels))
 
-  pub reading-difi_fault : (fault : DifiFault) → verdict (difi_tests table place size) ≡ Err fault → reading table place size part_len ≡ Err fault
+  pub reading-difi_fault : (fault : DifiFault) → verdict (difi_tests table place size) ≡ Err fault
+      → reading table place size part_len ≡ Err fault
   reading-difi_fault fault on_difi = rw on_difi at by_groups
 
   pub reading-name_fault : (fault : DifiFault) → verdict (difi_tests table place size) ≡ Ok tt

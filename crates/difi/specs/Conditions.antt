@@ -1,5 +1,6 @@
 -- Which conditions of a descriptor fail, in the order in which a fault is named.
-use Rattle.std.specs.Prelude.{ℕ, ◌+◌, Bool, ◌&&◌, ◌||◌, not, ◌==◌, nat_lt, List, [], ◌∷◌, ◌++◌, take, codes, Result, Ok, Err, if◌then◌else◌}
+use Rattle.std.specs.Prelude.{ℕ, ◌+◌, Bool, ◌&&◌, ◌||◌, not, ◌==◌, nat_lt, List, [], ◌∷◌, ◌++◌, take, codes, Result, Ok}
+use Rattle.std.specs.Prelude.{Err, if◌then◌else◌}
 use Rattle.std.specs.List.{list_any}
 use Rattle.save_bytes.specs.declared.extent.Extent.{Extent}
 use Rattle.save_bytes.specs.Extents.{lies_inside, overlap, some_overlap}
@@ -8,7 +9,8 @@ use Rattle.difi.specs.declared.descriptor.Difi.{Difi}
 use Rattle.difi.specs.declared.fault.DifiFault.{DifiFault}
 use Rattle.difi.specs.declared.fault.DifiFault.TheVariants.{Magic, Version, Layout}
 use Rattle.difi.specs.Places.{some_empty, some_outside, extent_of, copies_of, blocks_of, bitmap_size, entries_in}
-use Rattle.difi.specs.Fields.{has_name, word_at, ivfc_extent, dpfs_extent, master_extent, selector_at, ivfc_place, dpfs_place, fields}
+use Rattle.difi.specs.Fields.{has_name, word_at, ivfc_extent, dpfs_extent, master_extent, selector_at, ivfc_place}
+use Rattle.difi.specs.Fields.{dpfs_place, fields}
 
 -- the bytes of each part that are read
 abbrev pub difi_size : ℕ
@@ -42,7 +44,11 @@ difi_tests table place size =
     ∷ (Layout 1, is_bad_part (ivfc_extent table place) ivfc_size size)
     ∷ (Layout 2, is_bad_part (dpfs_extent table place) dpfs_size size)
     ∷ (Layout 3, not (lies_inside (master_extent table place) 0 size))
-    ∷ (Layout 4, some_overlap (parts (ivfc_extent table place).at (dpfs_extent table place).at (master_extent table place)))
+    ∷ (
+      Layout 4,
+      some_overlap
+          (parts (ivfc_extent table place).at (dpfs_extent table place).at (master_extent table place)),
+    )
     ∷ (Layout 5, nat_lt 1 (selector_at table place))
     ∷ []
 
@@ -69,11 +75,13 @@ abbrev pub has_no_place : LevelPlace → ℕ → Bool
 has_no_place level part_len = (level.size == 0) || not (lies_inside (copies_of level) 0 part_len)
 
 unfoldable pub has_bad_copies : Difi → ℕ → Bool
-has_bad_copies difi part_len = has_no_place difi.dpfs1 part_len || has_no_place difi.dpfs2 part_len || has_no_place difi.dpfs3 part_len
+has_bad_copies difi part_len = has_no_place difi.dpfs1 part_len || has_no_place difi.dpfs2 part_len || has_no_place
+    difi.dpfs3 part_len
 
 -- a level has no bit for some block of the next
 unfoldable pub has_short_bitmap : Difi → Bool
-has_short_bitmap difi = nat_lt difi.dpfs1.size (bitmap_size difi.dpfs2) || nat_lt difi.dpfs2.size (bitmap_size difi.dpfs3)
+has_short_bitmap difi = nat_lt difi.dpfs1.size (bitmap_size difi.dpfs2) || nat_lt difi.dpfs2.size
+    (bitmap_size difi.dpfs3)
 
 -- the three pairs of copies in the partition
 abbrev pub pairs : Difi → List Extent
@@ -112,8 +120,10 @@ has_bad_external difi part_len =
 -- the master hash or an IVFC level has no entry for some block of the level below it
 unfoldable pub has_too_few_entries : Difi → Bool
 has_too_few_entries difi =
-    nat_lt (entries_in difi.master.size) (blocks_of difi.ivfc1) || nat_lt (entries_in difi.ivfc1.size) (blocks_of difi.ivfc2)
-    || nat_lt (entries_in difi.ivfc2.size) (blocks_of difi.ivfc3) || nat_lt (entries_in difi.ivfc3.size) (blocks_of difi.ivfc4)
+    nat_lt (entries_in difi.master.size) (blocks_of difi.ivfc1) || nat_lt (entries_in difi.ivfc1.size)
+    (blocks_of difi.ivfc2)
+    || nat_lt (entries_in difi.ivfc2.size) (blocks_of difi.ivfc3) || nat_lt (entries_in difi.ivfc3.size)
+    (blocks_of difi.ivfc4)
 
 -- whether each condition on the levels fails, for a partition of a length
 unfoldable pub level_tests : Difi → ℕ → List (DifiFault × Bool)

@@ -58,7 +58,8 @@ pub record HasCopies (difi : Difi) (part_len : ℕ) : Type 0 where
   pub apart13 : AreApart (copies_of difi.dpfs1) (copies_of difi.dpfs3)
   pub apart23 : AreApart (copies_of difi.dpfs2) (copies_of difi.dpfs3)
 
--- the hash tree: no level is empty, those in DPFS level 3 lie inside it and apart, and there is an entry of 32 bytes for each block
+-- the hash tree: no level is empty, those in DPFS level 3 lie inside it and apart, and there is an entry of 32 bytes
+-- for each block
 pub record HasHashLevels (difi : Difi) : Type 0 where
   pub some1 : 0 < difi.ivfc1.size
   pub some2 : 0 < difi.ivfc2.size
@@ -105,7 +106,8 @@ pub record CopiesFit (difi : Difi) : Type 0 where
   pub level2 : 2 * difi.dpfs2.size < 2 ^ 64
   pub level3 : 2 * difi.dpfs3.size < 2 ^ 64
 
--- the bytes at a place are a descriptor: its three parts have their names and versions, and DIFI gives the other two no less
+-- the bytes at a place are a descriptor: its three parts have their names and versions, and DIFI gives the other two no
+-- less
 -- than what is read of them, inside the descriptor
 pub record IsDescriptor (table : List ℕ) (place size : ℕ) : Type 0 where
   pub difi_name : take 4 (drop place table) ≡ codes "DIFI"

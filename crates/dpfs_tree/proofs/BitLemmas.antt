@@ -11,7 +11,8 @@ use Rattle.dpfs_tree.specs.SameLaws.{bit_of-same, word_inside}
 use Rattle.dpfs_tree.proofs.PickLemmas.{word_in_block}
 
 -- the number in four cells is their word
-pub number_in-word : (cells : ℕ → Cell) (from n : ℕ) → number_in 4 cells (from + 4 * n) ≡ word_of (λ x. bytes_of cells (from + x)) n
+pub number_in-word : (cells : ℕ → Cell) (from n : ℕ) → number_in 4 cells (from + 4 * n)
+    ≡ word_of (λ x. bytes_of cells (from + x)) n
 unfolding number_at bytes_in word_of
 number_in-word cells from n =
     let one : suc (from + 4 * n) ≡ from + (4 * n + 1) = omega arith in
@@ -22,7 +23,8 @@ number_in-word cells from n =
 pub bit_of-number : (cells : ℕ → Cell) (from k number : ℕ) → number ≡ number_in 4 cells (from + 4 * (k / 32))
     → number / 2 ^ (31 - k % 32) % 2 ≡ bit_of (λ x. bytes_of cells (from + x)) k
 unfolding bit_of
-bit_of-number cells from k number is = ap (λ (n : ℕ). n / 2 ^ (31 - k % 32) % 2) (is ∙ number_in-word cells from (k / 32))
+bit_of-number cells from k number is = ap (λ (n : ℕ). n / 2 ^ (31 - k % 32) % 2)
+    (is ∙ number_in-word cells from (k / 32))
 
 -- a bit of a copy of level 1 is one of the chosen level 1 where the selector chooses that copy
 pub bit_of-pick1 : (bytes : ℕ → ℕ) (part_at : ℕ) (difi : Difi) (selector from k : ℕ)
@@ -41,13 +43,16 @@ bit_of-pick2 bytes part_at difi selector from copy k least is chosen =
     bit_of-same _ _ k (λ i h. rw (is, chosen, word_in_block (k / 32) i difi.dpfs2.log least h) refl)
 
 -- the word of a level 3 block's bit lies in a block of level 2
-pub word_block_below : (difi : Difi) (block : ℕ) → block < blocks_of difi.dpfs3 → bitmap_size difi.dpfs3 ≤ difi.dpfs2.size
+pub word_block_below : (difi : Difi) (block : ℕ) → block < blocks_of difi.dpfs3
+    → bitmap_size difi.dpfs3 ≤ difi.dpfs2.size
     → 4 * (block / 32) / 2 ^ difi.dpfs2.log < blocks_of difi.dpfs2
 word_block_below difi block h enough =
-    block_below (4 * (block / 32)) difi.dpfs2.size difi.dpfs2.log (omega (arith, word_inside block (blocks_of difi.dpfs3) h, enough))
+    block_below (4 * (block / 32)) difi.dpfs2.size difi.dpfs2.log
+    (omega (arith, word_inside block (blocks_of difi.dpfs3) h, enough))
 
 -- bits stay where the cells do
 pub bit_of-stays : (old new : ℕ → Cell) (size from k : ℕ) → ((x : ℕ) → x < size → new x ≡ old x)
-    → from + (4 * (k / 32) + 4) ≤ size → bit_of (λ x. bytes_of new (from + x)) k ≡ bit_of (λ x. bytes_of old (from + x)) k
+    → from + (4 * (k / 32) + 4) ≤ size → bit_of (λ x. bytes_of new (from + x)) k
+    ≡ bit_of (λ x. bytes_of old (from + x)) k
 bit_of-stays old new size from k same fits =
     bit_of-same _ _ k (λ i h. rw (same (from + (4 * (k / 32) + i)) (omega (arith, fits, h))) refl)

@@ -1,5 +1,6 @@
 -- Where the bytes of a view lie: apart from levels 1 and 2, and by blocks.
-use Rattle.std.proofs.Common.{◌≡◌, ◌≢◌, ℕ, ◌+◌, ◌-◌, ◌*◌, ◌/◌, ◌%◌, ◌^◌, ◌<◌, ◌≤◌, min, Bool, true, refl, sym, ◌∙◌, ap, arith, inl, inr, ⊎_elim, add-zero}
+use Rattle.std.proofs.Common.{◌≡◌, ◌≢◌, ℕ, ◌+◌, ◌-◌, ◌*◌, ◌/◌, ◌%◌, ◌^◌, ◌<◌, ◌≤◌, min, Bool, true, refl, sym, ◌∙◌, ap}
+use Rattle.std.proofs.Common.{arith, inl, inr, ⊎_elim, add-zero}
 use Rattle.std.proofs.lemmas.Bool.{cases_lt, lt-ltb, le-ltb}
 use Rattle.std.proofs.lemmas.Nat.{pow_pos, div-add-mod', div-mul-add, mod_below, same_from_place}
 use Rattle.save_bytes.specs.Cells.{Cell}
@@ -21,12 +22,15 @@ use Rattle.dpfs_tree.specs.Puts.{AreCopiesAt, WritesIn}
 use Rattle.dpfs_tree.specs.SameLaws.{SameUpper, in_copy, bit_of-lt, copy_read-lt, behind_level3}
 
 -- two levels whose copies lie apart share no place
-pub levels_apart : (part_at : ℕ) (one other : LevelPlace) → AreApart (copies_of one) (copies_of other) → (c x d y : ℕ) → c < 2 → x < one.size
+pub levels_apart : (part_at : ℕ) (one other : LevelPlace) → AreApart (copies_of one) (copies_of other) → (c x d y : ℕ)
+    → c < 2 → x < one.size
     → d < 2 → y < other.size → copy_place part_at one c x ≢ copy_place part_at other d y
 levels_apart part_at one other apart c x d y first inside second below same =
     let here = in_copy one.at one.size c (x + 1) (one.at + 2 * one.size) first (omega (arith, inside)) (omega arith) in
-    let there = in_copy other.at other.size d (y + 1) (other.at + 2 * other.size) second (omega (arith, below)) (omega arith) in
-    apart (one.at + c * one.size + x) (omega arith) (omega (arith, here)) (omega (arith, same)) (omega (arith, same, there))
+    let there = in_copy other.at other.size d (y + 1) (other.at + 2 * other.size) second (omega (arith, below))
+    (omega arith) in
+    apart (one.at + c * one.size + x) (omega arith) (omega (arith, here)) (omega (arith, same))
+    (omega (arith, same, there))
 
 -- one place of a level lies in one of its copies
 pub one_copy : (part_at : ℕ) (level : LevelPlace) (c x d y : ℕ) → x < level.size → y < level.size
@@ -35,7 +39,8 @@ one_copy part_at level c x d y inside below same = same_from_place c x d y level
 
 module _ (base : Shape) (part_at : ℕ) (difi : Difi) (selector : ℕ) (tree : HasContents base part_at difi selector) where
   -- the place of a byte of level 3, by its block's mark and bit
-  pub place_in_block : (bytes : ℕ → ℕ) (marked : ℕ → Bool) (x block : ℕ) → x < difi.dpfs3.size → x / 2 ^ difi.dpfs3.log ≡ block
+  pub place_in_block : (bytes : ℕ → ℕ) (marked : ℕ → Bool) (x block : ℕ) → x < difi.dpfs3.size
+      → x / 2 ^ difi.dpfs3.log ≡ block
       → place_by bytes part_at difi selector marked x
       ≡ copy_place part_at difi.dpfs3 (copy_read (marked block) (bit_of (pick2 bytes part_at difi selector) block)) x
   unfolding place_by
@@ -49,26 +54,32 @@ module _ (base : Shape) (part_at : ℕ) (difi : Difi) (selector : ℕ) (tree : H
 
   -- no byte of a view lies in a level that is apart from level 3 and from external level four
   pub off_level : (level : LevelPlace) → AreApart (copies_of level) (copies_of difi.dpfs3)
-      → (difi.external ≡ true → AreApart (external_extent difi) (copies_of level)) → (bytes : ℕ → ℕ) (marked : ℕ → Bool) (y : ℕ)
+      → (difi.external ≡ true → AreApart (external_extent difi) (copies_of level))
+      → (bytes : ℕ → ℕ) (marked : ℕ → Bool) (y : ℕ)
       → y < view_size difi → (copy x : ℕ) → copy < 2 → x < level.size
       → copy_place part_at level copy x ≢ place_by bytes part_at difi selector marked y
   off_level level apart external_apart bytes marked y inside copy x one h same =
       let z : ℕ = level.at + copy * level.size + x in
-      let there = in_copy level.at level.size copy (x + 1) (level.at + 2 * level.size) one (omega (arith, h)) (omega arith) in
+      let there = in_copy level.at level.size copy (x + 1) (level.at + 2 * level.size) one (omega (arith, h))
+      (omega arith) in
       ⊎_elim
       (λ (below : y < difi.dpfs3.size).
       let bit = bit_of (pick2 bytes part_at difi selector) (y / 2 ^ difi.dpfs3.log) in
       let read = copy_read (marked (y / 2 ^ difi.dpfs3.log)) bit in
       let size = difi.dpfs3.size in
-      let read_one = copy_read-lt (marked (y / 2 ^ difi.dpfs3.log)) bit (bit_of-lt (pick2 bytes part_at difi selector) (y / 2 ^ difi.dpfs3.log)) in
+      let read_one = copy_read-lt (marked (y / 2 ^ difi.dpfs3.log)) bit
+      (bit_of-lt (pick2 bytes part_at difi selector) (y / 2 ^ difi.dpfs3.log)) in
       let is : part_at + level.at + copy * level.size + x ≡ part_at + difi.dpfs3.at + read * size + y =
       same ∙ place_in_block bytes marked y (y / 2 ^ difi.dpfs3.log) below refl in
-      let inside3 = in_copy difi.dpfs3.at size read (y + 1) (difi.dpfs3.at + 2 * size) read_one (omega (arith, below)) (omega arith) in
+      let inside3 = in_copy difi.dpfs3.at size read (y + 1) (difi.dpfs3.at + 2 * size) read_one (omega (arith, below))
+      (omega arith) in
       apart z (omega arith) (omega (arith, there)) (omega (arith, is)) (omega (arith, is, inside3)))
       (λ (behind : difi.dpfs3.size ≤ y).
       let external = behind_level3 difi y behind inside in
-      let is : part_at + level.at + copy * level.size + x ≡ external_place part_at difi y = same ∙ place_behind bytes marked y behind in
-      external_apart external.0 z (omega (arith, is)) (omega (arith, is, inside, external.1, behind)) (omega arith) (omega (arith, there)))
+      let is : part_at + level.at + copy * level.size + x ≡ external_place part_at difi y = same
+      ∙ place_behind bytes marked y behind in
+      external_apart external.0 z (omega (arith, is)) (omega (arith, is, inside, external.1, behind)) (omega arith)
+      (omega (arith, there)))
       (cases_lt y difi.dpfs3.size)
 
   -- so a put into a view leaves levels 1 and 2 alone
@@ -77,25 +88,30 @@ module _ (base : Shape) (part_at : ℕ) (difi : Difi) (selector : ℕ) (tree : H
       → SameUpper part_at difi selector (bytes_of old) (bytes_of new)
   upper_stays old new at n stays = record {
     level1 = λ x h.
-        (let there = in_copy (part_at + difi.dpfs1.at) difi.dpfs1.size selector (x + 1) base.size tree.one_of_two (omega (arith, h)) tree.level1 in
+        (let there = in_copy (part_at + difi.dpfs1.at) difi.dpfs1.size selector (x + 1) base.size tree.one_of_two
+        (omega (arith, h)) tree.level1 in
         let same = stays (copy_place part_at difi.dpfs1 selector x) (omega (arith, there))
         (λ (k, y, less, inside, beside, is).
-        off_level difi.dpfs1 tree.apart13 (λ external. (tree.external_apart external).0) (bytes_of old) (λ block. true) y inside selector
+        off_level difi.dpfs1 tree.apart13 (λ external. (tree.external_apart external).0) (bytes_of old) (λ block. true)
+        y inside selector
         x tree.one_of_two h is) in
         rw same refl);
     level2 = λ x h.
         (let bits = pick1 (bytes_of old) part_at difi selector in
         let copy = bit_of bits (x / 2 ^ difi.dpfs2.log) in
         let one = bit_of-lt bits (x / 2 ^ difi.dpfs2.log) in
-        let there = in_copy (part_at + difi.dpfs2.at) difi.dpfs2.size copy (x + 1) base.size one (omega (arith, h)) tree.level2 in
+        let there = in_copy (part_at + difi.dpfs2.at) difi.dpfs2.size copy (x + 1) base.size one (omega (arith, h))
+        tree.level2 in
         let same = stays (copy_place part_at difi.dpfs2 copy x) (omega (arith, there))
         (λ (k, y, less, inside, beside, is).
-        off_level difi.dpfs2 tree.apart23 (λ external. (tree.external_apart external).1) (bytes_of old) (λ block. true) y inside copy x one h is) in
+        off_level difi.dpfs2 tree.apart23 (λ external. (tree.external_apart external).1) (bytes_of old) (λ block. true)
+        y inside copy x one h is) in
         rw same refl);
   }
 
 -- the block of a place of a level
-module _ (part_at : ℕ) (level : LevelPlace) (at chosen : ℕ) (copies : BlockCopies) (are : AreCopiesAt part_at level at chosen copies)
+module _ (part_at : ℕ) (level : LevelPlace) (at chosen : ℕ) (copies : BlockCopies)
+    (are : AreCopiesAt part_at level at chosen copies)
     (below : at < level.size) where
   abbrev pub begin : ℕ
   begin = at - at % 2 ^ level.log
@@ -151,7 +167,8 @@ module _ (part_at : ℕ) (level : LevelPlace) (at chosen : ℕ) (copies : BlockC
       }
 
 -- the block of a place of level 3
-module _ (part_at : ℕ) (difi : Difi) (at chosen : ℕ) (copies : BlockCopies) (are : AreCopiesAt part_at difi.dpfs3 at chosen copies)
+module _ (part_at : ℕ) (difi : Difi) (at chosen : ℕ) (copies : BlockCopies)
+    (are : AreCopiesAt part_at difi.dpfs3 at chosen copies)
     (below : at < difi.dpfs3.size) where
   abbrev start : ℕ
   start = begin part_at difi.dpfs3 at chosen copies are below
@@ -167,7 +184,8 @@ module _ (part_at : ℕ) (difi : Difi) (at chosen : ℕ) (copies : BlockCopies) 
   block_sites bytes selector n some view is place within =
       let y : ℕ = start + (place - copies.to) in
       let inside : y < difi.dpfs3.size = omega (arith, within.0, within.1, finish) in
-      let block = in_block part_at difi.dpfs3 at chosen copies are below y (omega arith) (omega (arith, within.0, within.1)) in
+      let block = in_block part_at difi.dpfs3 at chosen copies are below y (omega arith)
+      (omega (arith, within.0, within.1)) in
       let beside : IsBeside difi (at + 0) y = rw add-zero (inr (below, inside, block)) in
       let bit = bit_of (pick2 bytes part_at difi selector) (at / 2 ^ difi.dpfs3.log) in
       let there : place ≡ copy_place part_at difi.dpfs3 (1 - chosen) y = omega (arith, within.0, are.to) in
@@ -192,7 +210,8 @@ module _ (part_at : ℕ) (difi : Difi) (at chosen : ℕ) (copies : BlockCopies) 
       omega (arith, run, rest, are.skipped, are.len, split, below)
 
 -- external level four may be written, and that is what a put behind level 3 writes
-module _ (base : Shape) (part_at : ℕ) (difi : Difi) (selector : ℕ) (tree : HasContents base part_at difi selector) (at n : ℕ)
+module _ (base : Shape) (part_at : ℕ) (difi : Difi) (selector : ℕ) (tree : HasContents base part_at difi selector)
+    (at n : ℕ)
     (behind : difi.dpfs3.size ≤ at) (inside : at + n ≤ view_size difi) where
   pub external_writable : at < view_size difi → IsWritable base (external_place part_at difi at) n
   external_writable view =

@@ -13,10 +13,12 @@ module _ (old now new : ℕ → Cell) (size from to n : ℕ) (from_inside : from
     (apart : (x : ℕ) → IsWithin from n x → ¬ IsWithin to n x) where
   -- the next bytes of a range were copied
   pub copied_more : (done m : ℕ) → done + m ≤ n → IsCopied old from to done now → StaysBut size to n old now
-      → IsCopied now (from + done) (to + done) m new → StaysBut size (to + done) m now new → IsCopied old from to (done + m) new
+      → IsCopied now (from + done) (to + done) m new → StaysBut size (to + done) m now new
+      → IsCopied old from to (done + m) new
   copied_more done m fits copied stays next then_stays k less =
       ⊎_elim
-      (λ (front : k < done). then_stays (to + k) (omega arith) (λ within. omega (arith, within.0, front)) ∙ copied k front)
+      (λ (front : k < done). then_stays (to + k) (omega arith) (λ within. omega (arith, within.0, front))
+      ∙ copied k front)
       (λ (behind : done ≤ k).
       let there : to + done + (k - done) ≡ to + k = omega arith in
       let source : from + done + (k - done) ≡ from + k = omega arith in
@@ -25,12 +27,14 @@ module _ (old now new : ℕ → Cell) (size from to n : ℕ) (from_inside : from
       (cases_lt k done)
 
   -- what lies before a range and what lies behind it were copied
-  pub copied_around : (skipped m : ℕ) → skipped + m ≤ n → IsCopied old from to skipped now → StaysBut size to skipped old now
+  pub copied_around : (skipped m : ℕ) → skipped + m ≤ n → IsCopied old from to skipped now
+      → StaysBut size to skipped old now
       → IsCopied now (from + (skipped + m)) (to + (skipped + m)) (n - (skipped + m)) new
       → StaysBut size (to + (skipped + m)) (n - (skipped + m)) now new → IsCopiedAround old from to n skipped m new
   copied_around skipped m fits copied stays next then_stays k less out =
       ⊎_elim
-      (λ (front : k < skipped). then_stays (to + k) (omega arith) (λ within. omega (arith, within.0, front)) ∙ copied k front)
+      (λ (front : k < skipped). then_stays (to + k) (omega arith) (λ within. omega (arith, within.0, front))
+      ∙ copied k front)
       (λ (from_there : skipped ≤ k).
       ⊎_elim
       (λ (inside : k < skipped + m). absurd (out (from_there, inside)))

@@ -15,7 +15,8 @@ cond_out f true p q = refl
 cond_out f false p q = refl
 
 -- marks that are all clear
-pub unmarked : (touched : List Bool) (n : ℕ) → touched ≡ replicate n false → (block : ℕ) → is_marked touched block ≡ false
+pub unmarked : (touched : List Bool) (n : ℕ) → touched ≡ replicate n false → (block : ℕ)
+    → is_marked touched block ≡ false
 unmarked touched n clear block =
     rw clear
     (⊎_elim (λ (within : block < n). get_or-replicate n block false false within)
@@ -42,7 +43,8 @@ four_in m i c p r split below h = omega arith
 
 -- a power of two is four times one
 pub four_parts : (log : ℕ) → 2 ≤ log → 2 ^ log ≡ 4 * 2 ^ (log - 2)
-four_parts log least = let parts : 2 + (log - 2) ≡ log = omega arith in ap (λ n. 2 ^ n) (sym parts) ∙ pow-add 2 2 (log - 2)
+four_parts log least = let parts : 2 + (log - 2) ≡ log = omega arith in ap (λ n. 2 ^ n) (sym parts)
+    ∙ pow-add 2 2 (log - 2)
 
 -- the bytes of a word lie in one block
 pub word_in_block : (m i log : ℕ) → 7 ≤ log → i < 4 → (4 * m + i) / 2 ^ log ≡ 4 * m / 2 ^ log
@@ -63,10 +65,13 @@ unfolding place_by run_of
 place_of-run bytes part_at difi state at k h =
     ⊎_elim
     (λ (below : at < difi.dpfs3.size).
-    let run : k < min (2 ^ difi.dpfs3.log - at % 2 ^ difi.dpfs3.log) (difi.dpfs3.size - at) = rw (lt-ltb at difi.dpfs3.size below) at h in
+    let run : k < min (2 ^ difi.dpfs3.log - at % 2 ^ difi.dpfs3.log) (difi.dpfs3.size - at) =
+    rw (lt-ltb at difi.dpfs3.size below) at h in
     let block = same_block at k (2 ^ difi.dpfs3.log) (pow_pos difi.dpfs3.log) (omega (arith, run)) in
     rw (lt-ltb (at + k) difi.dpfs3.size (omega (arith, run)), lt-ltb at difi.dpfs3.size below, block) (omega arith))
-    (λ (behind : difi.dpfs3.size ≤ at). rw (le-ltb (at + k) difi.dpfs3.size (omega (arith, behind)), le-ltb at difi.dpfs3.size behind) (omega (arith, behind)))
+    (λ (behind : difi.dpfs3.size ≤ at).
+    rw (le-ltb (at + k) difi.dpfs3.size (omega (arith, behind)), le-ltb at difi.dpfs3.size behind)
+    (omega (arith, behind)))
     (cases_lt at difi.dpfs3.size)
 
 -- the place of a byte of level 3, by its block's copy
@@ -97,7 +102,8 @@ run_of-is difi at inside =
     (λ (below : at < difi.dpfs3.size).
     let block = pow_pos difi.dpfs3.log in
     let rest = mod_below at (2 ^ difi.dpfs3.log) block in
-    rw (lt-ltb at difi.dpfs3.size below) (record { some = omega (arith, rest, below); in_view = omega (arith, below); in_level3 = λ _. omega arith }))
+    rw (lt-ltb at difi.dpfs3.size below)
+    (record { some = omega (arith, rest, below); in_view = omega (arith, below); in_level3 = λ _. omega arith }))
     (λ (behind : difi.dpfs3.size ≤ at). rw (le-ltb at difi.dpfs3.size behind)
     (record {
       some = omega (arith, inside);

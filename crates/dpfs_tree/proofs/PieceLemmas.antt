@@ -1,5 +1,6 @@
 -- Runs of a view, and pieces of them.
-use Rattle.std.proofs.Common.{◌≡◌, ℕ, ◌+◌, ◌≤◌, min, List, length, IsTrue, Result, Ok, Err, None, sym, ◌∙◌, ap, subst, arith}
+use Rattle.std.proofs.Common.{◌≡◌, ℕ, ◌+◌, ◌≤◌, min, List, length, IsTrue, Result, Ok, Err, None, sym, ◌∙◌, ap, subst}
+use Rattle.std.proofs.Common.{arith}
 use Rattle.std.specs.Borrow.{Bor}
 use Rattle.save_bytes.specs.declared.space.Bad.{Bad}
 use Rattle.save_bytes.specs.declared.space.Bad.TheVariants.{Disk, Damaged}
@@ -29,11 +30,13 @@ module _ (base : State) (part_at : ℕ) (difi : Difi) (state : DpfsState) (at : 
         longest = omega (arith, is);
         inside = omega (arith, whole.in_view, is);
         in_base = omega (arith, in_base, is);
-        places = λ told k h. place_of-run (bytes_of base.cells) part_at difi state at k (omega (arith, is, h)) ∙ ap (λ (p : ℕ). p + k) (sym (there told));
+        places = λ told k h. place_of-run (bytes_of base.cells) part_at difi state at k (omega (arith, is, h))
+            ∙ ap (λ (p : ℕ). p + k) (sym (there told));
         plain = tt;
       }
 
-  module _ (mid : State) (most place n : ℕ) (run : IsLocated base part_at difi state at most (Ok (place, n))) (stays : Stays base mid None) where
+  module _ (mid : State) (most place n : ℕ) (run : IsLocated base part_at difi state at most (Ok (place, n)))
+      (stays : Stays base mid None) where
     same_size : mid.shape.size ≡ base.shape.size
     same_size = ap (λ (shape : Shape). shape.size) stays.space.shape
 
@@ -62,7 +65,8 @@ module _ (base : State) (part_at : ℕ) (difi : Difi) (state : DpfsState) (at : 
       damaged = λ told. tt;
       plain = λ plain. tt;
     }
-    view_piece plain (Err Disk) h = record { some = tt; bounded = tt; inside = tt; bytes = λ told. tt; damaged = λ told. tt; plain = λ plain. tt }
+    view_piece plain (Err Disk) h =
+        record { some = tt; bounded = tt; inside = tt; bytes = λ told. tt; damaged = λ told. tt; plain = λ plain. tt }
     view_piece plain (Err (Damaged part level block)) h =
         absurd (h.plain (subst (λ (shape : Shape). IsTrue shape.plain) (sym stays.space.shape) plain))
 

@@ -17,14 +17,16 @@ use Rattle.dpfs_tree.specs.Copies.{IsFilled}
 use Rattle.dpfs_tree.specs.View.{HasContents}
 use Rattle.dpfs_tree.specs.Held.{MarksSpot, SameState}
 use Rattle.dpfs_tree.specs.Puts.{AreCopiesAt, IsMarked, MarksOnly, IsPut}
-use Rattle.dpfs_tree.specs.SameLaws.{SameUpper, in_copy, bit_of-lt, copy_read-lt, behind_level3, place_by-upper, place_by-inside}
+use Rattle.dpfs_tree.specs.SameLaws.{SameUpper, in_copy, bit_of-lt, copy_read-lt, behind_level3, place_by-upper}
+use Rattle.dpfs_tree.specs.SameLaws.{place_by-inside}
 use Rattle.dpfs_tree.proofs.CopyLemmas.{StaysBut}
 use Rattle.dpfs_tree.proofs.SameLemmas.{same_state}
 use Rattle.dpfs_tree.proofs.BlockLemmas.{place_in_block, place_behind, begin, at_is, ends, in_block, of_block}
 
 -- where a state stays, so do its marks
 pub marks_same : (difi : Difi) (at n : ℕ) (state : DpfsState) → MarksOnly difi at n state state
-marks_same difi at n state = record { marks = refl; selector = refl; spots = λ spot missed. same_state spot state state refl }
+marks_same difi at n state =
+    record { marks = refl; selector = refl; spots = λ spot missed. same_state spot state state refl }
 
 -- the mark of the block of a place is the only one that changes
 marked_spots : (difi : Difi) (at : ℕ) (old new : DpfsState) (spot : Spot) → IsMarked (at / 2 ^ difi.dpfs3.log) old new
@@ -34,7 +36,8 @@ marked_spots difi at old new (Mark part level block) marked below missed =
 marked_spots difi at old new Frame marked below missed = absurd (missed below)
 marked_spots difi at old new spot marked below missed = tt
 
-pub marks_block : (difi : Difi) (at n : ℕ) (old new : DpfsState) → 1 ≤ n → at < difi.dpfs3.size → IsMarked (at / 2 ^ difi.dpfs3.log) old new
+pub marks_block : (difi : Difi) (at n : ℕ) (old new : DpfsState) → 1 ≤ n → at < difi.dpfs3.size
+    → IsMarked (at / 2 ^ difi.dpfs3.log) old new
     → MarksOnly difi at n old new
 marks_block difi at n old new some below marked = record {
   marks = marked.marks;
@@ -45,24 +48,30 @@ marks_block difi at n old new some below marked = record {
       (subst (λ (x : ℕ). ¬ MarksSpot difi x spot) place (missed 0 (omega (arith, some)))));
 }
 
-module _ (base : Shape) (part_at : ℕ) (difi : Difi) (was : DpfsState) (tree : HasContents base part_at difi was.selector)
+module _ (base : Shape) (part_at : ℕ) (difi : Difi) (was : DpfsState)
+    (tree : HasContents base part_at difi was.selector)
     (old new : ℕ → Cell) (upper : SameUpper part_at difi was.selector (bytes_of old) (bytes_of new)) where
   -- the place of a byte later, by what the base was
   later_place : (now : DpfsState) (x : ℕ) → now.selector ≡ was.selector
-      → place_of (bytes_of new) part_at difi now x ≡ place_by (bytes_of old) part_at difi was.selector (is_marked now.touched.items) x
+      → place_of (bytes_of new) part_at difi now x ≡ place_by (bytes_of old) part_at difi was.selector
+      (is_marked now.touched.items) x
   later_place now x same =
-      rw same (place_by-upper base part_at difi was.selector tree (bytes_of old) (bytes_of new) upper (is_marked now.touched.items) x)
+      rw same (place_by-upper base part_at difi was.selector tree (bytes_of old) (bytes_of new) upper
+      (is_marked now.touched.items) x)
 
   module _ (at : ℕ) (bytes : List ℕ) where
     -- bytes were put behind level 3
     module _ (behind : difi.dpfs3.size ≤ at) (inside : at + length bytes ≤ view_size difi)
         (put : AreBytesAt new (external_place part_at difi at) bytes)
         (stays : StaysBut base.size (external_place part_at difi at) (length bytes) old new) where
-      behind_range : (k : ℕ) → k < length bytes → new (place_of (bytes_of new) part_at difi was (at + k)) ≡ Byte (get_or bytes k 0)
+      behind_range : (k : ℕ) → k < length bytes → new (place_of (bytes_of new) part_at difi was (at + k))
+          ≡ Byte (get_or bytes k 0)
       behind_range k less =
-          let there : external_place part_at difi (at + k) ≡ external_place part_at difi at + k = omega (arith, behind) in
+          let there : external_place part_at difi (at + k) ≡ external_place part_at difi at + k =
+          omega (arith, behind) in
           ap new (later_place was (at + k) refl
-          ∙ place_behind base part_at difi was.selector tree (bytes_of old) (is_marked was.touched.items) (at + k) (omega (arith, behind)) ∙ there)
+          ∙ place_behind base part_at difi was.selector tree (bytes_of old) (is_marked was.touched.items) (at + k)
+          (omega (arith, behind)) ∙ there)
           ∙ put k less
 
       -- no other byte of the view lies there
@@ -78,8 +87,10 @@ module _ (base : Shape) (part_at : ℕ) (difi : Difi) (was : DpfsState) (tree : 
           let read = copy_read (marked block) bit in
           let size = difi.dpfs3.size in
           let is = place_in_block base part_at difi was.selector tree (bytes_of old) marked x block in_level3 refl in
-          let one = copy_read-lt (marked block) bit (bit_of-lt (pick2 (bytes_of old) part_at difi was.selector) block) in
-          let there = in_copy difi.dpfs3.at size read (x + 1) (difi.dpfs3.at + 2 * size) one (omega (arith, in_level3)) (omega arith) in
+          let one = copy_read-lt (marked block) bit (bit_of-lt (pick2 (bytes_of old) part_at difi was.selector) block)
+          in
+          let there = in_copy difi.dpfs3.at size read (x + 1) (difi.dpfs3.at + 2 * size) one (omega (arith, in_level3))
+          (omega arith) in
           let external = behind_level3 difi at behind (omega (arith, inside, within.0, within.1)) in
           (tree.external_apart external.0).2 (difi.dpfs3.at + read * size + x) (omega (arith, is, within.0))
           (omega (arith, is, within.1, inside, external.1, behind)) (omega arith) (omega (arith, there)))
@@ -94,13 +105,15 @@ module _ (base : Shape) (part_at : ℕ) (difi : Difi) (was : DpfsState) (tree : 
         range = behind_range;
         others = λ x below out.
             ap new (later_place was x refl)
-            ∙ stays _ (place_by-inside base part_at difi was.selector tree (is_marked was.touched.items) (bytes_of old) x below)
+            ∙ stays _ (place_by-inside base part_at difi was.selector tree (is_marked was.touched.items) (bytes_of old)
+            x below)
             (behind_apart x below out);
       }
 
     -- bytes were put into the other copy of a block, and it was marked
     module _ (now : DpfsState) (copies : BlockCopies) (below : at < difi.dpfs3.size)
-        (are : AreCopiesAt part_at difi.dpfs3 at (bit_of (pick2 (bytes_of old) part_at difi was.selector) (at / 2 ^ difi.dpfs3.log)) copies)
+        (are : AreCopiesAt part_at difi.dpfs3 at
+        (bit_of (pick2 (bytes_of old) part_at difi was.selector) (at / 2 ^ difi.dpfs3.log)) copies)
         (inside : copies.skipped + length bytes ≤ copies.len) (marked : IsMarked (at / 2 ^ difi.dpfs3.log) was now)
         (filled : IsFilled old copies.from copies.to copies.len copies.skipped bytes
         (is_marked was.touched.items (at / 2 ^ difi.dpfs3.log)) new)
@@ -112,11 +125,14 @@ module _ (base : Shape) (part_at : ℕ) (difi : Difi) (was : DpfsState) (tree : 
       start = begin part_at difi.dpfs3 at bit copies are below
 
       -- a byte of the block later lies in its other copy
-      block_later : (x : ℕ) → IsWithin start copies.len x → place_of (bytes_of new) part_at difi now x ≡ copies.to + (x - start)
+      block_later : (x : ℕ) → IsWithin start copies.len x → place_of (bytes_of new) part_at difi now x ≡ copies.to
+          + (x - start)
       block_later x within =
-          let in_level3 : x < difi.dpfs3.size = omega (arith, within.1, ends part_at difi.dpfs3 at bit copies are below) in
+          let in_level3 : x < difi.dpfs3.size = omega (arith, within.1, ends part_at difi.dpfs3 at bit copies are below)
+          in
           let there = place_in_block base part_at difi was.selector tree (bytes_of old) (is_marked now.touched.items) x
-          (at / 2 ^ difi.dpfs3.log) in_level3 (in_block part_at difi.dpfs3 at bit copies are below x within.0 within.1) in
+          (at / 2 ^ difi.dpfs3.log) in_level3 (in_block part_at difi.dpfs3 at bit copies are below x within.0 within.1)
+          in
           let is : place_of (bytes_of new) part_at difi now x ≡ copy_place part_at difi.dpfs3 (1 - bit) x =
           later_place now x marked.selector ∙ there
           ∙ ap (λ (m : Bool). copy_place part_at difi.dpfs3 (copy_read m bit) x) marked.marked in
@@ -131,12 +147,14 @@ module _ (base : Shape) (part_at : ℕ) (difi : Difi) (was : DpfsState) (tree : 
       block_before : (x : ℕ) → IsWithin start copies.len x → place_of (bytes_of old) part_at difi was x
           ≡ (if is_marked was.touched.items (at / 2 ^ difi.dpfs3.log) then copies.to else copies.from) + (x - start)
       block_before x within =
-          let in_level3 : x < difi.dpfs3.size = omega (arith, within.1, ends part_at difi.dpfs3 at bit copies are below) in
+          let in_level3 : x < difi.dpfs3.size = omega (arith, within.1, ends part_at difi.dpfs3 at bit copies are below)
+          in
           place_in_block base part_at difi was.selector tree (bytes_of old) (is_marked was.touched.items) x
           (at / 2 ^ difi.dpfs3.log) in_level3 (in_block part_at difi.dpfs3 at bit copies are below x within.0 within.1)
           ∙ read_place (is_marked was.touched.items (at / 2 ^ difi.dpfs3.log)) x within.0
 
-      block_range : (k : ℕ) → k < length bytes → new (place_of (bytes_of new) part_at difi now (at + k)) ≡ Byte (get_or bytes k 0)
+      block_range : (k : ℕ) → k < length bytes → new (place_of (bytes_of new) part_at difi now (at + k))
+          ≡ Byte (get_or bytes k 0)
       block_range k less =
           let here = at_is part_at difi.dpfs3 at bit copies are below in
           let within : IsWithin start copies.len (at + k) = (omega (arith, here), omega (arith, here, less, inside)) in
@@ -152,7 +170,8 @@ module _ (base : Shape) (part_at : ℕ) (difi : Difi) (was : DpfsState) (tree : 
           ap new (block_later x within) ∙ around ∙ sym (ap old (block_before x within))
 
       -- a byte of another block is read where it was, and lies elsewhere
-      other_place_apart : (m : ℕ → Bool) (x : ℕ) → x < difi.dpfs3.size → x / 2 ^ difi.dpfs3.log ≢ at / 2 ^ difi.dpfs3.log
+      other_place_apart : (m : ℕ → Bool) (x : ℕ) → x < difi.dpfs3.size
+          → x / 2 ^ difi.dpfs3.log ≢ at / 2 ^ difi.dpfs3.log
           → ¬ IsWithin copies.to copies.len (place_by (bytes_of old) part_at difi was.selector m x)
       other_place_apart m x in_level3 other within =
           let of = x / 2 ^ difi.dpfs3.log in
@@ -164,17 +183,21 @@ module _ (base : Shape) (part_at : ℕ) (difi : Difi) (was : DpfsState) (tree : 
           let y_in : y < size = omega (arith, within.0, within.1, end) in
           let rows : copy_read (m of) its * size + x ≡ (1 - bit) * size + y = omega (arith, is, are.to, within.0) in
           let same = same_from_place (copy_read (m of) its) x (1 - bit) y size in_level3 y_in rows in
-          other (in_block part_at difi.dpfs3 at bit copies are below x (omega (arith, same.1)) (omega (arith, same.1, within.0, within.1)))
+          other (in_block part_at difi.dpfs3 at bit copies are below x (omega (arith, same.1))
+          (omega (arith, same.1, within.0, within.1)))
 
-      level3_others : (x : ℕ) → x < view_size difi → x < difi.dpfs3.size → x / 2 ^ difi.dpfs3.log ≢ at / 2 ^ difi.dpfs3.log
+      level3_others : (x : ℕ) → x < view_size difi → x < difi.dpfs3.size
+          → x / 2 ^ difi.dpfs3.log ≢ at / 2 ^ difi.dpfs3.log
           → new (place_of (bytes_of new) part_at difi now x) ≡ old (place_of (bytes_of old) part_at difi was x)
       level3_others x in_view in_level3 other =
           let of = x / 2 ^ difi.dpfs3.log in
           let its = bit_of (pick2 (bytes_of old) part_at difi was.selector) of in
           let before = is_marked was.touched.items in
           let mark = marked.others of other in
-          let later = place_in_block base part_at difi was.selector tree (bytes_of old) (is_marked now.touched.items) x of in_level3 refl in
-          let was_there = place_in_block base part_at difi was.selector tree (bytes_of old) before x of in_level3 refl in
+          let later = place_in_block base part_at difi was.selector tree (bytes_of old) (is_marked now.touched.items) x
+          of in_level3 refl in
+          let was_there = place_in_block base part_at difi was.selector tree (bytes_of old) before x of in_level3 refl
+          in
           let same : place_of (bytes_of new) part_at difi now x ≡ place_of (bytes_of old) part_at difi was x =
           later_place now x marked.selector ∙ later
           ∙ ap (λ (m : Bool). copy_place part_at difi.dpfs3 (copy_read m its) x) mark ∙ sym was_there in
@@ -186,7 +209,8 @@ module _ (base : Shape) (part_at : ℕ) (difi : Difi) (was : DpfsState) (tree : 
       external_others x in_view behind =
           let before = is_marked was.touched.items in
           let size = difi.dpfs3.size in
-          let later = place_behind base part_at difi was.selector tree (bytes_of old) (is_marked now.touched.items) x behind in
+          let later = place_behind base part_at difi was.selector tree (bytes_of old) (is_marked now.touched.items) x
+          behind in
           let was_there = place_behind base part_at difi was.selector tree (bytes_of old) before x behind in
           let external = behind_level3 difi x behind in_view in
           let one : 1 - bit < 2 = omega arith in
@@ -195,7 +219,8 @@ module _ (base : Shape) (part_at : ℕ) (difi : Difi) (was : DpfsState) (tree : 
           ap new (later_place now x marked.selector ∙ later ∙ sym was_there)
           ∙ stays _ (place_by-inside base part_at difi was.selector tree before (bytes_of old) x in_view)
           (λ within.
-          (tree.external_apart external.0).2 (difi.external_at + (x - size)) (omega arith) (omega (arith, in_view, external.1, behind))
+          (tree.external_apart external.0).2 (difi.external_at + (x - size)) (omega arith)
+          (omega (arith, in_view, external.1, behind))
           (omega (arith, was_there, are.to, within.0)) (omega (arith, was_there, are.to, within.1, there)))
 
       pub put_in_block : IsPut (view_size difi) (λ x. old (place_of (bytes_of old) part_at difi was x)) at bytes

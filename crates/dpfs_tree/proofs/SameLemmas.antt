@@ -20,7 +20,8 @@ pub view_stays : (base new : State) (part_at : ℕ) (difi : Difi) (state : DpfsS
     → Stays (contents_state base part_at difi state) (contents_state new part_at difi state) refusal
 view_stays base new part_at difi state refusal tree stays = record {
   space = record {
-    shape = ap (λ (shape : Shape). (contents_state (record base { shape = shape }) part_at difi state).shape) stays.space.shape;
+    shape = ap (λ (shape : Shape). (contents_state (record base { shape = shape }) part_at difi state).shape)
+        stays.space.shape;
     faults = stays.space.faults;
     cause = stays.space.cause;
     told = stays.space.told;
@@ -34,7 +35,8 @@ same_state (Mark part level block) old new same = λ here. rw same refl
 same_state Frame old new same = same
 same_state spot old new same = tt
 
-module _ {S : Type 0} (states : S → State) (keeps : Spot → S → S → Type 0) (lands : S → ℕ → Spot → Type 0) (s t : DpfsView S)
+module _ {S : Type 0} (states : S → State) (keeps : Spot → S → S → Type 0) (lands : S → ℕ → Spot → Type 0)
+    (s t : DpfsView S)
     (refusal : Option Bad) (same : SameContents s t) (state_now : t.state.now ≡ s.state.now)
     (tree : HasContents (states s.base.now).shape s.part_at s.difi.now s.state.now.selector) where
   -- a call that reads the base reads the view
@@ -46,5 +48,6 @@ module _ {S : Type 0} (states : S → State) (keeps : Spot → S → S → Type 
     frame = (same, state_now, reads.frame);
     sectors = λ number. (same, tt, reads.sectors number);
     spots = λ told spot. (same, same_state spot s.state.now t.state.now state_now, reads.spots told spot);
-    reach = λ told. UnlessDisk-both refusal _ _ _ (contents_lands states s t same lands tree) (reads.stays.cells told) (reads.reach told);
+    reach = λ told. UnlessDisk-both refusal _ _ _ (contents_lands states s t same lands tree) (reads.stays.cells told)
+        (reads.reach told);
   }

@@ -26,7 +26,8 @@ flag_half true m = omega arith
 flag_half false m = omega arith
 
 -- a bit of a mask is its flag's
-pub mask_bit : (flags : ℕ → Bool) (from i j : ℕ) → j < i → bit_at (mask_of flags from i) (i - 1 - j) ≡ (if flags (from + j) then 1 else 0)
+pub mask_bit : (flags : ℕ → Bool) (from i j : ℕ) → j < i → bit_at (mask_of flags from i) (i - 1 - j)
+    ≡ (if flags (from + j) then 1 else 0)
 unfolding mask_of
 mask_bit flags from zero j less = absurd (omega arith)
 mask_bit flags from (suc i) j less =
@@ -54,14 +55,16 @@ bit_read false bit small = omega arith
 pub word_bit : (flags : ℕ → Bool) (word from j : ℕ) → j < 32
     → bit_at (bit_xor word (mask_of flags from 32)) (31 - j) ≡ copy_read (flags (from + j)) (bit_at word (31 - j))
 word_bit flags word from j less =
-    let mask : bit_at (mask_of flags from 32) (31 - j) ≡ (if flags (from + j) then 1 else 0) = mask_bit flags from 32 j less in
+    let mask : bit_at (mask_of flags from 32) (31 - j) ≡ (if flags (from + j) then 1 else 0) =
+    mask_bit flags from 32 j less in
     bit_at_xor word (mask_of flags from 32) (31 - j)
     ∙ ap (λ (b : ℕ). (bit_at word (31 - j) + b) % 2) mask
     ∙ bit_read (flags (from + j)) (bit_at word (31 - j)) (mod_below (word / 2 ^ (31 - j)) 2 (omega arith))
 
 -- the bits of a level's copies, where a block of it was copied so
 pub turned_bit : (flags : ℕ → Bool) (old new : ℕ → Cell) (from to first count k : ℕ)
-    → AreTurned flags old (from + 4 * first) (to + 4 * first) first count new → 32 * first ≤ k → k < 32 * (first + count)
+    → AreTurned flags old (from + 4 * first) (to + 4 * first) first count new → 32 * first ≤ k
+    → k < 32 * (first + count)
     → bit_of (λ x. bytes_of new (to + x)) k ≡ copy_read (flags k) (bit_of (λ x. bytes_of old (from + x)) k)
 unfolding bit_of
 turned_bit flags old new from to first count k turned low high =

@@ -22,23 +22,28 @@ mask_of-lt flags from zero = omega arith
 mask_of-lt flags from (suc i) = omega (arith, mask_of-lt flags from i, flag_small (flags (from + i)), pow-suc 2 i)
 
 -- one bit more
-pub mask_of-more : (flags : ℕ → Bool) (from i : ℕ) → mask_of flags from (i + 1) ≡ 2 * mask_of flags from i + (if flags (from + i) then 1 else 0)
+pub mask_of-more : (flags : ℕ → Bool) (from i : ℕ) → mask_of flags from (i + 1) ≡ 2 * mask_of flags from i
+    + (if flags (from + i) then 1 else 0)
 unfolding mask_of
 mask_of-more flags from i = let next : i + 1 ≡ suc i = omega arith in ap (mask_of flags from) next
 
 -- the same number where the cells are the same
-pub number_in-same : (one other : ℕ → Cell) (i j : ℕ) → ((k : ℕ) → k < 4 → one (i + k) ≡ other (j + k)) → number_in 4 one i ≡ number_in 4 other j
+pub number_in-same : (one other : ℕ → Cell) (i j : ℕ) → ((k : ℕ) → k < 4 → one (i + k) ≡ other (j + k))
+    → number_in 4 one i ≡ number_in 4 other j
 number_in-same one other i j same = rw (bytes_in-same one other i j 4 same) refl
 
 -- the words behind are as they were
 abbrev pub AreWaiting : (ℕ → Cell) → ℕ → ℕ → ℕ → (ℕ → Cell) → Type 0
-AreWaiting old at done count now = (i : ℕ) → done ≤ i → i < count → number_in 4 now (at + 4 * i) ≡ number_in 4 old (at + 4 * i)
+AreWaiting old at done count now = (i : ℕ) → done ≤ i → i < count
+    → number_in 4 now (at + 4 * i) ≡ number_in 4 old (at + 4 * i)
 
-module _ (flags : ℕ → Bool) (old now new : ℕ → Cell) (size at first count done : ℕ) (fits : at + 4 * count ≤ size) (less : done < count)
+module _ (flags : ℕ → Bool) (old now new : ℕ → Cell) (size at first count done : ℕ) (fits : at + 4 * count ≤ size)
+    (less : done < count)
     (stays : StaysBut size (at + 4 * done) 4 now new) where
   -- one word more was turned
   pub turned_more : AreTurned flags old at at first done now → AreWaiting old at done count now
-      → number_in 4 new (at + 4 * done) ≡ bit_xor (number_in 4 now (at + 4 * done)) (mask_of flags (32 * (first + done)) 32)
+      → number_in 4 new (at + 4 * done) ≡ bit_xor (number_in 4 now (at + 4 * done))
+      (mask_of flags (32 * (first + done)) 32)
       → AreTurned flags old at at first (done + 1) new
   turned_more turned waiting word i below =
       ⊎_elim
@@ -64,7 +69,8 @@ pub word_turned : (cells : ℕ → Cell) (at turned : ℕ) (field : List ℕ) �
 word_turned cells at turned field len is are = sym (number_in-is 4 cells at field len are) ∙ is
 
 -- words that were turned after they were copied
-pub block_turned : (flags : ℕ → Bool) (old now new : ℕ → Cell) (size from to len first count : ℕ) → to + len ≤ size → 4 * count ≤ len
+pub block_turned : (flags : ℕ → Bool) (old now new : ℕ → Cell) (size from to len first count : ℕ) → to + len ≤ size
+    → 4 * count ≤ len
     → IsCopied old from to len now → AreTurned flags now to to first count new → StaysBut size to (4 * count) now new
     → IsTurned flags old from to len first count new
 block_turned flags old now new size from to len first count fits inside copied turned stays = record {

@@ -1,6 +1,7 @@
 -- Puts into a view, one after another, and as calls of a space.
 use Rattle.std.proofs.Common.{◌≡◌, ℕ, ◌+◌, ◌-◌, ◌<◌, ◌≤◌, true, List, ◌++◌, length, take, drop, get_or, IsTrue}
-use Rattle.std.proofs.Common.{Option, Some, None, refl, sym, ◌∙◌, ap, subst, arith, inl, inr, ⊎_elim, length-append, length-drop}
+use Rattle.std.proofs.Common.{Option, Some, None, refl, sym, ◌∙◌, ap, subst, arith, inl, inr, ⊎_elim, length-append}
+use Rattle.std.proofs.Common.{length-drop}
 use Rattle.std.proofs.lemmas.Bool.{cases_lt}
 use Rattle.std.proofs.lemmas.List.{length-take-le, take_rest}
 use Rattle.save_bytes.specs.declared.space.Bad.{Bad}
@@ -27,7 +28,8 @@ use Rattle.dpfs_tree.specs.ViewLaws.{SameState-join, contents_shape}
 use Rattle.dpfs_tree.proofs.BlockLemmas.{upper_stays}
 
 -- marks that change by one put and the next
-marks_more : (difi : Difi) (at n m : ℕ) (was mid now : DpfsState) → MarksOnly difi at n was mid → MarksOnly difi (at + n) m mid now
+marks_more : (difi : Difi) (at n m : ℕ) (was mid now : DpfsState) → MarksOnly difi at n was mid
+    → MarksOnly difi (at + n) m mid now
     → MarksOnly difi at (n + m) was now
 marks_more difi at n m was mid now h k = record {
   marks = k.marks ∙ h.marks;
@@ -40,11 +42,13 @@ marks_more difi at n m was mid now h k = record {
 }
 
 -- bytes that are put behind bytes
-put_more : (size : ℕ) (old mid new : ℕ → Cell) (at : ℕ) (xs ys : List ℕ) → at + length xs + length ys ≤ size → IsPut size old at xs mid
+put_more : (size : ℕ) (old mid new : ℕ → Cell) (at : ℕ) (xs ys : List ℕ) → at + length xs + length ys ≤ size
+    → IsPut size old at xs mid
     → IsPut size mid (at + length xs) ys new → IsPut size old at (xs ++ ys) new
 put_more size old mid new at xs ys fits h k = record {
   range = AreBytesAt-append new at xs ys
-      (λ j less. k.others (at + j) (omega (arith, less)) (λ within. omega (arith, less, within.0)) ∙ h.range j less) k.range;
+      (λ j less. k.others (at + j) (omega (arith, less)) (λ within. omega (arith, less, within.0)) ∙ h.range j less)
+      k.range;
   others = λ x below out.
       k.others x below (λ within. out (omega (arith, within.0), omega (arith, within.1, length-append xs ys)))
       ∙ h.others x below (λ within. out (within.0, omega (arith, within.1, length-append xs ys)));
@@ -64,7 +68,8 @@ module _ {A : Type 0} (states : A → State) (keeps : Spot → A → A → Type 
         selector = h.marks.selector;
         spots = λ spot missed. h.marks.spots spot (λ k less. missed k (omega (arith, less)));
       };
-      writes = Writes-wider states keeps lands (WritesIn (bytes_of (states s).cells) part_at difi was.selector at (length xs))
+      writes = Writes-wider states keeps lands
+          (WritesIn (bytes_of (states s).cells) part_at difi was.selector at (length xs))
           (WritesIn (bytes_of (states s).cells) part_at difi was.selector at (length ys)) s u (Some bad)
           (λ told x below (k, y, less, rest, beside, is). (k, y, omega (arith, less), rest, beside, is)) h.writes;
       put = λ told. tt;
@@ -76,19 +81,23 @@ module _ {A : Type 0} (states : A → State) (keeps : Spot → A → A → Type 
 
       first_writes : Writes states keeps lands sites s t None
       first_writes =
-          Writes-wider states keeps lands (WritesIn (bytes_of (states s).cells) part_at difi was.selector at (length xs)) sites s t None
-          (λ told x below (k, y, less, rest, beside, is). (k, y, omega (arith, less, length-append xs ys), rest, beside, is)) h.writes
+          Writes-wider states keeps lands
+          (WritesIn (bytes_of (states s).cells) part_at difi was.selector at (length xs)) sites s t None
+          (λ told x below (k, y, less, rest, beside, is).
+          (k, y, omega (arith, less, length-append xs ys), rest, beside, is)) h.writes
 
       -- the places of the second put, where the cells were told before the first
       then_sites : IsTrue (states s).told → (x : ℕ) → x < (states s).shape.size
           → WritesIn (bytes_of (states t).cells) part_at difi mid.selector (at + length xs) (length ys) x → sites x
       then_sites told x below (k, y, less, rest, beside, is) =
-          let upper = upper_stays (states s).shape part_at difi was.selector tree (states s).cells (states t).cells at (length xs)
+          let upper = upper_stays (states s).shape part_at difi was.selector tree (states s).cells (states t).cells at
+          (length xs)
           (h.writes.others told) in
           let same : other_place (bytes_of (states t).cells) part_at difi mid.selector y
           ≡ other_place (bytes_of (states s).cells) part_at difi was.selector y =
           ap (λ (c : ℕ). other_place (bytes_of (states t).cells) part_at difi c y) h.marks.selector
-          ∙ place_by-upper (states s).shape part_at difi was.selector tree (bytes_of (states s).cells) (bytes_of (states t).cells) upper
+          ∙ place_by-upper (states s).shape part_at difi was.selector tree (bytes_of (states s).cells)
+          (bytes_of (states t).cells) upper
           (λ block. true) y in
           let place : at + length xs + k ≡ at + (length xs + k) = omega arith in
           (length xs + k, y, omega (arith, less, length-append xs ys), rest, rw place at beside, is ∙ same)
@@ -99,12 +108,15 @@ module _ {A : Type 0} (states : A → State) (keeps : Spot → A → A → Type 
           → PutsInto states keeps lands part_at difi was now at (xs ++ ys) s u refusal
       PutsInto-append refusal fits k = record {
         marks = rw (length-append xs ys) (marks_more difi at (length xs) (length ys) was mid now h.marks k.marks);
-        writes = Writes-then states keeps lands join sites (WritesIn (bytes_of (states t).cells) part_at difi mid.selector (at + length xs) (length ys)) s t u
+        writes = Writes-then states keeps lands join sites
+            (WritesIn (bytes_of (states t).cells) part_at difi mid.selector (at + length xs) (length ys)) s t u
             refusal then_sites first_writes k.writes;
         put = λ told.
             IfDone-map refusal
-            (put_more (view_size difi) (contents_state (states s) part_at difi was).cells (contents_state (states t) part_at difi mid).cells
-            (contents_state (states u) part_at difi now).cells at xs ys fits (h.put told)) (k.put (h.writes.space.told told));
+            (put_more (view_size difi) (contents_state (states s) part_at difi was).cells
+            (contents_state (states t) part_at difi mid).cells
+            (contents_state (states u) part_at difi now).cells at xs ys fits (h.put told))
+            (k.put (h.writes.space.told told));
       }
 
     -- the front of some bytes was put
@@ -131,7 +143,8 @@ module _ {A : Type 0} (states : A → State) (keeps : Spot → A → A → Type 
           → PutsInto states keeps lands part_at difi was now at (take (done + n) bytes) s u None
       rest_put n le k =
           let len : length (take n rest) ≡ n = length-take-le n rest le in
-          subst (λ (l : List ℕ). PutsInto states keeps lands part_at difi was now at l s u None) (sym (take-more bytes done n))
+          subst (λ (l : List ℕ). PutsInto states keeps lands part_at difi was now at l s u None)
+          (sym (take-more bytes done n))
           (behind (take n rest) None (omega (arith, len, le, rest_len, within)) k)
 
       -- or the others were refused
@@ -140,7 +153,8 @@ module _ {A : Type 0} (states : A → State) (keeps : Spot → A → A → Type 
       rest_refused bad k =
           let whole : length (take done bytes ++ rest) ≤ length bytes =
           omega (arith, length-append (take done bytes) rest, length-take-le done bytes within, rest_len, within) in
-          PutsInto-longer (take done bytes ++ rest) bytes bad whole (behind rest (Some bad) (omega (arith, rest_len, within)) k)
+          PutsInto-longer (take done bytes ++ rest) bytes bad whole
+          (behind rest (Some bad) (omega (arith, rest_len, within)) k)
 
 -- a byte that stays has softened
 softens_byte : (s : State) (at n x : ℕ) (cell new : Cell) → IsByte cell → new ≡ cell → SoftensFrom s at n x cell new
@@ -154,7 +168,8 @@ not_blank (Blank part level block) byte blank = byte
 not_blank (Spoilt part level block) byte blank = byte
 
 -- bytes that were put where all cells are bytes, as any space says it
-module _ (s : State) (at : ℕ) (bytes : List ℕ) (new : ℕ → Cell) (ground : (x : ℕ) → s.bottom x ≡ x) (all : (x : ℕ) → IsByte (s.cells x))
+module _ (s : State) (at : ℕ) (bytes : List ℕ) (new : ℕ → Cell) (ground : (x : ℕ) → s.bottom x ≡ x)
+    (all : (x : ℕ) → IsByte (s.cells x))
     (put : IsPut s.shape.size s.cells at bytes new) where
   still_byte : (x : ℕ) → x < s.shape.size → IsByte (new x)
   still_byte x below =
@@ -185,10 +200,13 @@ module _ (s : State) (at : ℕ) (bytes : List ℕ) (new : ℕ → Cell) (ground 
     joined = λ x y in_x in_y blank same. absurd (not_blank (new x) (still_byte x in_x) blank);
   }
 
-module _ {S : Type 0} (states : S → State) (keeps : Spot → S → S → Type 0) (lands : S → ℕ → Spot → Type 0) (v w : DpfsView S)
-    (same : SameContents v w) (tree : HasContents (states v.base.now).shape v.part_at v.difi.now v.state.now.selector) (at : ℕ)
+module _ {S : Type 0} (states : S → State) (keeps : Spot → S → S → Type 0) (lands : S → ℕ → Spot → Type 0)
+    (v w : DpfsView S)
+    (same : SameContents v w) (tree : HasContents (states v.base.now).shape v.part_at v.difi.now v.state.now.selector)
+    (at : ℕ)
     (bytes : List ℕ) (refusal : Option Bad)
-    (into : PutsInto states keeps lands v.part_at v.difi.now v.state.now w.state.now at bytes v.base.now w.base.now refusal) where
+    (into : PutsInto states keeps lands v.part_at v.difi.now v.state.now w.state.now at bytes v.base.now w.base.now
+    refusal) where
   -- a put into the base puts into the view
   pub view_puts : (IsTrue (states v.base.now).told → (x : ℕ) → IsByte ((states v.base.now).cells x))
       → Puts (shown_contents states v) at bytes (shown_contents states w) refusal
@@ -218,16 +236,19 @@ module _ {S : Type 0} (states : S → State) (keeps : Spot → S → S → Type 
   view_reach others as_before =
       let old = bytes_of (states v.base.now).cells in
       let new = bytes_of (states w.base.now).cells in
-      let upper = upper_stays (states v.base.now).shape v.part_at v.difi.now v.state.now.selector tree (states v.base.now).cells
+      let upper = upper_stays (states v.base.now).shape v.part_at v.difi.now v.state.now.selector tree
+      (states v.base.now).cells
       (states w.base.now).cells at (length bytes) others in
       let there : LandsAsBefore (view_size v.difi.now) (contents_land states lands v)
       (ContentsLand new v.part_at v.difi.now v.state.now.selector (lands w.base.now)) =
-      lands_by-upper (states v.base.now).shape v.part_at v.difi.now v.state.now.selector tree old new upper (lands v.base.now)
+      lands_by-upper (states v.base.now).shape v.part_at v.difi.now v.state.now.selector tree old new upper
+      (lands v.base.now)
       (lands w.base.now) as_before in
       rw (same.same_place, same.same_difi, same.selector) there
 
   -- and moves what it moves
-  pub view_moves : MovesOnly (ContentsKeep keeps) (contents_land states lands) (shown_contents states v) v at (length bytes) w refusal
+  pub view_moves : MovesOnly (ContentsKeep keeps) (contents_land states lands) (shown_contents states v) v at
+      (length bytes) w refusal
   view_moves = record {
     hold = (same, tt, into.writes.hold);
     spots = λ can spot misses. (

@@ -21,10 +21,13 @@ IsCopied old from to n new = (k : ℕ) → k < n → new (to + k) ≡ old (from 
 
 -- so are the n cells of a block but for some
 abbrev pub IsCopiedAround : (ℕ → Cell) → ℕ → ℕ → ℕ → ℕ → ℕ → (ℕ → Cell) → Type 0
-IsCopiedAround old from to len skipped n new = (k : ℕ) → k < len → ¬ IsWithin skipped n k → new (to + k) ≡ old (from + k)
+IsCopiedAround old from to len skipped n new = (k : ℕ) → k < len → ¬ IsWithin skipped n k
+    → new (to + k) ≡ old (from + k)
 
--- Bytes were put into a block's other copy, behind its first ones. What lies around them is what it was, or, where the block
+-- Bytes were put into a block's other copy, behind its first ones. What lies around them is what it was, or, where the
+-- block
 -- was not marked, what the chosen copy has.
-pub record IsFilled (old : ℕ → Cell) (from to len skipped : ℕ) (bytes : List ℕ) (marked : Bool) (new : ℕ → Cell) : Type 0 where
+pub record IsFilled (old : ℕ → Cell) (from to len skipped : ℕ) (bytes : List ℕ) (marked : Bool) (new : ℕ → Cell) : Type
+    0 where
   pub range : AreBytesAt new (to + skipped) bytes
   pub around : IsCopiedAround old (if marked then to else from) to len skipped (length bytes) new

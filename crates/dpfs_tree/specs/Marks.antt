@@ -1,5 +1,6 @@
 -- Blocks of level 3 that are marked as touched are read from the copy that is not chosen.
-use Rattle.std.specs.Prelude.{◌≡◌, ℕ, zero, suc, ◌+◌, ◌-◌, ◌/◌, ◌%◌, ◌^◌, ◌<◌, min, Bool, true, false, ◌||◌, nat_lt, List, length, get_or, if◌then◌else◌}
+use Rattle.std.specs.Prelude.{◌≡◌, ℕ, zero, suc, ◌+◌, ◌-◌, ◌/◌, ◌%◌, ◌^◌, ◌<◌, min, Bool, true, false, ◌||◌, nat_lt}
+use Rattle.std.specs.Prelude.{List, length, get_or, if◌then◌else◌}
 use Rattle.difi.specs.declared.descriptor.Difi.{Difi}
 use Rattle.difi.specs.Places.{blocks_of}
 use Rattle.dpfs_tree.specs.declared.state.DpfsState.{DpfsState}
@@ -24,7 +25,8 @@ unfoldable pub place_by : (ℕ → ℕ) → ℕ → Difi → ℕ → (ℕ → Bo
 place_by bytes part_at difi selector marked x =
     if nat_lt x difi.dpfs3.size
     then copy_place part_at difi.dpfs3
-    (copy_read (marked (x / 2 ^ difi.dpfs3.log)) (bit_of (pick2 bytes part_at difi selector) (x / 2 ^ difi.dpfs3.log))) x
+    (copy_read (marked (x / 2 ^ difi.dpfs3.log)) (bit_of (pick2 bytes part_at difi selector) (x / 2 ^ difi.dpfs3.log)))
+    x
     else external_place part_at difi x
 
 -- and by the marks of a state

@@ -46,7 +46,8 @@ pub record MarksOnly (difi : Difi) (at n : ℕ) (old new : DpfsState) : Type 0 w
 -- chosen, or of external level four
 abbrev pub WritesIn : (ℕ → ℕ) → ℕ → Difi → ℕ → ℕ → ℕ → ℕ → Type 0
 WritesIn bytes part_at difi selector at n place =
-    (k : ℕ) × (y : ℕ) × (k < n) × (y < view_size difi) × IsBeside difi (at + k) y × (place ≡ other_place bytes part_at difi selector y)
+    (k : ℕ) × (y : ℕ) × (k < n) × (y < view_size difi) × IsBeside difi (at + k) y
+    × (place ≡ other_place bytes part_at difi selector y)
 
 -- the range holds the bytes, and all other cells are as before
 pub record IsPut (size : ℕ) (old : ℕ → Cell) (at : ℕ) (bytes : List ℕ) (new : ℕ → Cell) : Type 0 where
@@ -54,9 +55,12 @@ pub record IsPut (size : ℕ) (old : ℕ → Cell) (at : ℕ) (bytes : List ℕ)
   pub others : (x : ℕ) → x < size → ¬ IsWithin at (length bytes) x → new x ≡ old x
 
 -- a call that puts bytes into a range of a view over a base
-pub record PutsInto {A : Type 0} (states : A → State) (keeps : Spot → A → A → Type 0) (lands : A → ℕ → Spot → Type 0) (part_at : ℕ)
+pub record PutsInto {A : Type 0} (states : A → State) (keeps : Spot → A → A → Type 0) (lands : A → ℕ → Spot → Type 0)
+    (part_at : ℕ)
     (difi : Difi) (was now : DpfsState) (at : ℕ) (bytes : List ℕ) (old new : A) (refusal : Option Bad) : Type 0 where
   pub marks : MarksOnly difi at (length bytes) was now
-  pub writes : Writes states keeps lands (WritesIn (bytes_of (states old).cells) part_at difi was.selector at (length bytes)) old new refusal
-  pub put : IsTrue (states old).told → IfDone refusal (IsPut (view_size difi) (contents_state (states old) part_at difi was).cells at bytes
+  pub writes : Writes states keeps lands
+      (WritesIn (bytes_of (states old).cells) part_at difi was.selector at (length bytes)) old new refusal
+  pub put : IsTrue (states old).told
+      → IfDone refusal (IsPut (view_size difi) (contents_state (states old) part_at difi was).cells at bytes
       (contents_state (states new) part_at difi now).cells)

@@ -1,5 +1,6 @@
 -- The cells of a view are the same where those of its base are.
-use Rattle.std.proofs.Common.{◌≡◌, ℕ, ◌+◌, ◌*◌, ◌/◌, ◌^◌, ◌<◌, ◌≤◌, Bool, true, false, inl, inr, add-zero, refl, arith, ⊎_elim}
+use Rattle.std.proofs.Common.{◌≡◌, ℕ, ◌+◌, ◌*◌, ◌/◌, ◌^◌, ◌<◌, ◌≤◌, Bool, true, false, inl, inr, add-zero, refl, arith}
+use Rattle.std.proofs.Common.{⊎_elim}
 use Rattle.std.specs.Int.{div_ceil}
 use Rattle.std.proofs.lemmas.Bool.{cases_lt, lt-ltb, le-ltb}
 use Rattle.std.proofs.lemmas.Nat.{mod_below, row_fits}
@@ -18,7 +19,8 @@ use Rattle.dpfs_tree.specs.View.{contents_state, HasContents}
 use Rattle.dpfs_tree.specs.Held.{IsBeside, MarksSpot, ContentsLand}
 
 -- two lists with the same bytes in a word have the same bit there
-pub bit_of-same : (one other : ℕ → ℕ) (k : ℕ) → ((i : ℕ) → i < 4 → one (4 * (k / 32) + i) ≡ other (4 * (k / 32) + i)) → bit_of one k ≡ bit_of other k
+pub bit_of-same : (one other : ℕ → ℕ) (k : ℕ) → ((i : ℕ) → i < 4 → one (4 * (k / 32) + i) ≡ other (4 * (k / 32) + i))
+    → bit_of one k ≡ bit_of other k
 unfolding bit_of word_of
 bit_of-same one other k same =
     let first : one (4 * (k / 32)) ≡ other (4 * (k / 32)) = simp add-zero at (same 0 (omega arith)) in
@@ -39,7 +41,8 @@ pub behind_level3 : (difi : Difi) (at : ℕ) → difi.dpfs3.size ≤ at → at <
 behind_level3 difi at behind inside = external_there difi difi.external refl at behind inside
 
 -- a place of a copy lies in the base
-pub in_copy : (start size copy x base : ℕ) → copy < 2 → x ≤ size → start + 2 * size ≤ base → start + copy * size + x ≤ base
+pub in_copy : (start size copy x base : ℕ) → copy < 2 → x ≤ size → start + 2 * size ≤ base
+    → start + copy * size + x ≤ base
 in_copy start size copy x base h inside fits = omega (arith, row_fits copy size 2 size h (omega arith))
 
 pub bit_of-lt : (bytes : ℕ → ℕ) (k : ℕ) → bit_of bytes k < 2
@@ -68,7 +71,8 @@ module _ (base : Shape) (part_at : ℕ) (difi : Difi) (selector : ℕ) (tree : H
         → bit_of (pick1 new part_at difi selector) block ≡ bit_of (pick1 old part_at difi selector) block
     bit1-same block h =
         bit_of-same _ _ block
-        (λ i small. pick1-same (4 * (block / 32) + i) (omega (arith, word_inside block (blocks_of difi.dpfs2) h, tree.bits1, small)))
+        (λ i small. pick1-same (4 * (block / 32) + i)
+        (omega (arith, word_inside block (blocks_of difi.dpfs2) h, tree.bits1, small)))
 
     pick2-same : (x : ℕ) → x < difi.dpfs2.size → pick2 new part_at difi selector x ≡ pick2 old part_at difi selector x
     unfolding pick2
@@ -80,10 +84,12 @@ module _ (base : Shape) (part_at : ℕ) (difi : Difi) (selector : ℕ) (tree : H
         → bit_of (pick2 new part_at difi selector) block ≡ bit_of (pick2 old part_at difi selector) block
     bit2-same block h =
         bit_of-same _ _ block
-        (λ i small. pick2-same (4 * (block / 32) + i) (omega (arith, word_inside block (blocks_of difi.dpfs3) h, tree.bits2, small)))
+        (λ i small. pick2-same (4 * (block / 32) + i)
+        (omega (arith, word_inside block (blocks_of difi.dpfs3) h, tree.bits2, small)))
 
     -- choose the same places
-    pub place_by-upper : (marked : ℕ → Bool) (x : ℕ) → place_by new part_at difi selector marked x ≡ place_by old part_at difi selector marked x
+    pub place_by-upper : (marked : ℕ → Bool) (x : ℕ) → place_by new part_at difi selector marked x
+        ≡ place_by old part_at difi selector marked x
     unfolding place_by
     place_by-upper marked x =
         ⊎_elim
@@ -94,16 +100,19 @@ module _ (base : Shape) (part_at : ℕ) (difi : Difi) (selector : ℕ) (tree : H
         (cases_lt x difi.dpfs3.size)
 
   -- so do bases with the same bytes
-  pub upper_same : (old new : ℕ → ℕ) → ((x : ℕ) → x < base.size → new x ≡ old x) → SameUpper part_at difi selector old new
+  pub upper_same : (old new : ℕ → ℕ) → ((x : ℕ) → x < base.size → new x ≡ old x)
+      → SameUpper part_at difi selector old new
   upper_same old new same = record {
     level1 = λ x h.
-        (let there = in_copy (part_at + difi.dpfs1.at) difi.dpfs1.size selector (x + 1) base.size tree.one_of_two (omega (arith, h)) tree.level1 in
+        (let there = in_copy (part_at + difi.dpfs1.at) difi.dpfs1.size selector (x + 1) base.size tree.one_of_two
+        (omega (arith, h)) tree.level1 in
         same _ (omega (arith, there)));
     level2 = λ x h.
         (let bits = pick1 old part_at difi selector in
         let block = x / 2 ^ difi.dpfs2.log in
         let start : ℕ = part_at + difi.dpfs2.at in
-        let there = in_copy start difi.dpfs2.size (bit_of bits block) (x + 1) base.size (bit_of-lt bits block) (omega (arith, h)) tree.level2 in
+        let there = in_copy start difi.dpfs2.size (bit_of bits block) (x + 1) base.size (bit_of-lt bits block)
+        (omega (arith, h)) tree.level2 in
         same _ (omega (arith, there)));
   }
 
@@ -122,7 +131,8 @@ module _ (base : Shape) (part_at : ℕ) (difi : Difi) (selector : ℕ) (tree : H
       let bit = bit_of (pick2 bytes part_at difi selector) block in
       let one = copy_read-lt (marked block) bit (bit_of-lt (pick2 bytes part_at difi selector) block) in
       let start : ℕ = part_at + difi.dpfs3.at in
-      let there = in_copy start difi.dpfs3.size (copy_read (marked block) bit) (x + 1) base.size one (omega (arith, below)) tree.level3 in
+      let there = in_copy start difi.dpfs3.size (copy_read (marked block) bit) (x + 1) base.size one
+      (omega (arith, below)) tree.level3 in
       rw (lt-ltb x difi.dpfs3.size below) (omega (arith, there)))
       (λ (behind : difi.dpfs3.size ≤ x).
       let external = behind_level3 difi x behind inside in
@@ -132,19 +142,23 @@ module _ (base : Shape) (part_at : ℕ) (difi : Difi) (selector : ℕ) (tree : H
   -- a put into the view touches no spot that it would not have touched, where that is so of the base
   pub lands_by-upper : (old new : ℕ → ℕ) → SameUpper part_at difi selector old new → (lands later : ℕ → Spot → Type 0)
       → LandsAsBefore base.size lands later
-      → LandsAsBefore (view_size difi) (ContentsLand old part_at difi selector lands) (ContentsLand new part_at difi selector later)
+      → LandsAsBefore (view_size difi) (ContentsLand old part_at difi selector lands)
+      (ContentsLand new part_at difi selector later)
   lands_by-upper old new upper lands later as_before x below spot =
       ⊎_elim
-      (λ (found : (y : ℕ) × (y < view_size difi) × IsBeside difi x y × later (other_place new part_at difi selector y) spot).
+      (λ (found : (y : ℕ) × (y < view_size difi) × IsBeside difi x y
+      × later (other_place new part_at difi selector y) spot).
       let there : other_place new part_at difi selector found.0 ≡ other_place old part_at difi selector found.0 =
       place_by-upper old new upper (λ block. true) found.0 in
       let lands_new : later (other_place old part_at difi selector found.0) spot = rw there at found.3 in
       inl (found.0, found.1, found.2, as_before _ (place_by-inside (λ block. true) old found.0 found.1) spot lands_new))
       (λ (mark : MarksSpot difi x spot). inr mark)
 
-  pub lands_as_before : (old new : ℕ → ℕ) → ((x : ℕ) → x < base.size → new x ≡ old x) → (lands later : ℕ → Spot → Type 0)
+  pub lands_as_before : (old new : ℕ → ℕ) → ((x : ℕ) → x < base.size → new x ≡ old x)
+      → (lands later : ℕ → Spot → Type 0)
       → LandsAsBefore base.size lands later
-      → LandsAsBefore (view_size difi) (ContentsLand old part_at difi selector lands) (ContentsLand new part_at difi selector later)
+      → LandsAsBefore (view_size difi) (ContentsLand old part_at difi selector lands)
+      (ContentsLand new part_at difi selector later)
   lands_as_before old new same = lands_by-upper old new (upper_same old new same)
 
 -- the same cells where the base's are the same
@@ -155,4 +169,5 @@ view_cells base new part_at difi state tree same = λ x inside.
     (let marked = is_marked state.touched.items in
     let there = place_by-same base.shape part_at difi state.selector tree (bytes_of base.cells) (bytes_of new.cells)
     (λ y h. rw (same y h) refl) marked x in
-    rw there (same _ (place_by-inside base.shape part_at difi state.selector tree marked (bytes_of base.cells) x inside)))
+    rw there (same _ (place_by-inside base.shape part_at difi state.selector tree marked (bytes_of base.cells) x
+    inside)))

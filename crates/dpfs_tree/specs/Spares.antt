@@ -27,4 +27,5 @@ IsChosenPlace bytes part_at difi selector place =
 abbrev pub Spares : {A : Type 0} → (A → State) → ℕ → Difi → ℕ → A → A → Option Bad → Type 0
 Spares states part_at difi selector old new refusal =
     IsTrue (states old).told → UnlessDisk refusal ((place : ℕ) → place < (states old).shape.size
-    → IsChosenPlace (bytes_of (states old).cells) part_at difi selector place → (states new).cells place ≡ (states old).cells place)
+    → IsChosenPlace (bytes_of (states old).cells) part_at difi selector place
+    → (states new).cells place ≡ (states old).cells place)

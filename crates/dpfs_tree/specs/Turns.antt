@@ -8,7 +8,8 @@ unfoldable pub mask_of : (ℕ → Bool) → ℕ → ℕ → ℕ
 mask_of flags from zero = 0
 mask_of flags from (suc i) = 2 * mask_of flags from i + (if flags (from + i) then 1 else 0)
 
--- so many words from one place on are those that were at another, with the bits turned that have a flag; the first of them
+-- so many words from one place on are those that were at another, with the bits turned that have a flag; the first of
+-- them
 -- is word `first` of its level
 abbrev pub AreTurned : (ℕ → Bool) → (ℕ → Cell) → ℕ → ℕ → ℕ → ℕ → (ℕ → Cell) → Type 0
 AreTurned flags old from to first count new = (i : ℕ) → i < count

@@ -38,7 +38,8 @@ can_view_contents base part_at difi state =
     && (nat_lt difi.selector 2 && (is_ok (verdict (level_tests difi (base.size - part_at)))
     && ((length state.touched.items == blocks_of difi.dpfs3) && nat_lt state.selector 2)))))))
 
--- what follows for the place of each level, and that their copies lie apart, where the base's size is a number of 64 bits
+-- what follows for the place of each level, and that their copies lie apart, where the base's size is a number of 64
+-- bits
 pub record HasContents (base : Shape) (part_at : ℕ) (difi : Difi) (selector : ℕ) : Type 0 where
   pub sound : IsTrue base.sound
   pub plain : IsTrue base.plain
@@ -61,7 +62,8 @@ pub record HasContents (base : Shape) (part_at : ℕ) (difi : Difi) (selector : 
       × AreApart (external_extent difi) (copies_of difi.dpfs2) × AreApart (external_extent difi) (copies_of difi.dpfs3)
   pub view_fits : view_size difi ≤ base.size
 
--- The bytes of a view are those of its base at their places. It has neither twins nor fixed places, and each place may be
+-- The bytes of a view are those of its base at their places. It has neither twins nor fixed places, and each place may
+-- be
 -- written.
 abbrev pub contents_state : State → ℕ → Difi → DpfsState → State
 contents_state base part_at difi state = record {
@@ -81,13 +83,17 @@ contents_state base part_at difi state = record {
   faults = base.faults;
 }
 
--- Where the bytes from `at` on lie in the base, and how many lie there in one piece: as many as are asked for, up to the
+-- Where the bytes from `at` on lie in the base, and how many lie there in one piece: as many as are asked for, up to
+-- the
 -- end of the block or of external level four.
-pub record IsLocated (base : State) (part_at : ℕ) (difi : Difi) (state : DpfsState) (at most : ℕ) (result : Result (ℕ × ℕ) Bad) : Type 0 where
+pub record IsLocated (base : State) (part_at : ℕ) (difi : Difi) (state : DpfsState) (at most : ℕ)
+    (result : Result (ℕ × ℕ) Bad) : Type 0 where
   pub some : IfOk result (λ run. 1 ≤ run.1)
   pub bounded : IfOk result (λ run. run.1 ≤ most)
   pub longest : IfOk result (λ run. run.1 ≡ min most (run_of difi at))
   pub inside : IfOk result (λ run. at + run.1 ≤ view_size difi)
   pub in_base : IfOk result (λ run. run.0 + run.1 ≤ base.shape.size)
-  pub places : IsTrue base.told → IfOk result (λ run. (k : ℕ) → k < run.1 → place_of (bytes_of base.cells) part_at difi state (at + k) ≡ run.0 + k)
+  pub places : IsTrue base.told
+      → IfOk result (λ run. (k : ℕ) → k < run.1 → place_of (bytes_of base.cells) part_at difi state (at + k) ≡ run.0
+      + k)
   pub plain : NeverDamaged (result_err result)

@@ -1,5 +1,6 @@
 -- The tests on a view as facts, and the laws of a space, of a view.
-use Rattle.std.proofs.Common.{◌≡◌, ℕ, ◌+◌, ◌-◌, ◌^◌, ◌<◌, ◌≤◌, Bool, true, false, not, IsTrue, Result, Ok, Err, is_ok, refl, ◌∙◌, ap, arith, ⊎_elim}
+use Rattle.std.proofs.Common.{◌≡◌, ℕ, ◌+◌, ◌-◌, ◌^◌, ◌<◌, ◌≤◌, Bool, true, false, not, IsTrue, Result, Ok, Err, is_ok}
+use Rattle.std.proofs.Common.{refl, ◌∙◌, ap, arith, ⊎_elim}
 use Rattle.std.proofs.lemmas.Bool.{and_parts, and_from, cases_lt, lt-ltb, le-leb, eq-eqb, ltb-true, leb-true, eqb-true}
 use Rattle.save_bytes.specs.State.{Shape, State}
 use Rattle.save_bytes.specs.Stays.{SameCells, SameTwins}
@@ -37,7 +38,14 @@ module _ (difi : Difi) (n m : ℕ) (le : n ≤ m) (h : HasSoundLevels difi n) wh
   }
 
   longer_external : HasExternalLevel difi n → HasExternalLevel difi m
-  longer_external level = record { inside = omega (arith, level.inside); apart1 = level.apart1; apart2 = level.apart2; apart3 = level.apart3 }
+  longer_external level =
+      record {
+        inside = omega (arith, level.inside);
+        apart1 = level.apart1;
+        apart2 = level.apart2;
+        apart3 =
+            level.apart3;
+      }
 
   pub longer : HasSoundLevels difi m
   longer = record {
@@ -116,17 +124,20 @@ fit_apart one other n apart some_one some_other one_in other_in =
     ⊎_elim
     (λ (before : one.at < other.at).
     ⊎_elim
-    (λ (meets : other.at < one.at + one.size). absurd (apart other.at (omega (arith, before)) meets (omega arith) (omega (arith, some_other))))
+    (λ (meets : other.at < one.at + one.size).
+    absurd (apart other.at (omega (arith, before)) meets (omega arith) (omega (arith, some_other))))
     (λ (clear : one.at + one.size ≤ other.at). omega (arith, clear, other_in))
     (cases_lt other.at (one.at + one.size)))
     (λ (behind : other.at ≤ one.at).
     ⊎_elim
-    (λ (meets : one.at < other.at + other.size). absurd (apart one.at (omega arith) (omega (arith, some_one)) behind meets))
+    (λ (meets : one.at < other.at + other.size).
+    absurd (apart one.at (omega arith) (omega (arith, some_one)) behind meets))
     (λ (clear : other.at + other.size ≤ one.at). omega (arith, clear, one_in))
     (cases_lt one.at (other.at + other.size)))
     (cases_lt one.at other.at)
 
-view_size-fits : (difi : Difi) (n : ℕ) (external : Bool) → difi.external ≡ external → HasSoundLevels difi n → view_size difi ≤ n
+view_size-fits : (difi : Difi) (n : ℕ) (external : Bool) → difi.external ≡ external → HasSoundLevels difi n
+    → view_size difi ≤ n
 view_size-fits difi n true is h =
     let level = h.external_level is in
     let both = fit_apart (external_extent difi) (copies_of difi.dpfs3) n level.apart3 h.hash_levels.some4
@@ -157,8 +168,10 @@ tree_of base part_at difi state small h =
       apart12 = copies.apart12;
       apart13 = copies.apart13;
       apart23 = copies.apart23;
-      external_apart = λ external. (let level = part.levels.external_level external in (level.apart1, level.apart2, level.apart3));
-      external = λ external. (let level = part.levels.external_level external in omega (arith, part.inside, level.inside));
+      external_apart = λ external.
+          (let level = part.levels.external_level external in (level.apart1, level.apart2, level.apart3));
+      external = λ external.
+          (let level = part.levels.external_level external in omega (arith, part.inside, level.inside));
       view_fits = omega (arith, part.inside, view_size-fits difi part.part_len difi.external refl part.levels);
     }
 
@@ -169,13 +182,16 @@ contents_tree base part_at difi state fits sound = let view = true-can_view_cont
     tree_of base part_at difi state (fits view.sound) view
 
 -- so a view that lies soundly over a base has its tree there, and a state that is made for it
-module _ {S : Type 0} (states : S → State) (fits : (s : S) → IsTrue (states s).shape.sound → (states s).shape.size < 2 ^ 64)
+module _ {S : Type 0} (states : S → State) (fits : (s : S) → IsTrue (states s).shape.sound
+    → (states s).shape.size < 2 ^ 64)
     (view : DpfsView S) (sound : IsTrue (shown_contents states view).shape.sound) where
   pub shown_tree : HasContents (states view.base.now).shape view.part_at view.difi.now view.state.now.selector
-  shown_tree = contents_tree (states view.base.now).shape view.part_at view.difi.now view.state.now (fits view.base.now) sound
+  shown_tree = contents_tree (states view.base.now).shape view.part_at view.difi.now view.state.now (fits view.base.now)
+      sound
 
   pub shown_made : IsMadeForContents view.difi.now view.state.now
-  shown_made = (true-can_view_contents (states view.base.now).shape view.part_at view.difi.now view.state.now sound).made
+  shown_made = (true-can_view_contents (states view.base.now).shape view.part_at view.difi.now view.state.now
+      sound).made
 
 -- the laws of a space
 pub view_size_fits : (base : State) (part_at : ℕ) (difi : Difi) (state : DpfsState)
@@ -196,9 +212,11 @@ SameState-join spot a b c h k = tt
 
 module _ {S : Type 0} (keeps : Spot → S → S → Type 0) where
   SameContents-same : (s : DpfsView S) → SameContents s s
-  SameContents-same s = record { same_base = refl; same_place = refl; same_difi = refl; same_state = refl; marks = refl; selector = refl }
+  SameContents-same s =
+      record { same_base = refl; same_place = refl; same_difi = refl; same_state = refl; marks = refl; selector = refl }
 
-  pub ContentsKeep-same : ((spot : Spot) (s : S) → keeps spot s s) → (spot : Spot) (s : DpfsView S) → ContentsKeep keeps spot s s
+  pub ContentsKeep-same : ((spot : Spot) (s : S) → keeps spot s s) → (spot : Spot) (s : DpfsView S)
+      → ContentsKeep keeps spot s s
   ContentsKeep-same same spot s = (SameContents-same s, SameState-same spot s.state.now, same spot s.base.now)
 
   SameContents-join : (s t u : DpfsView S) → SameContents s t → SameContents t u → SameContents s u
@@ -211,7 +229,8 @@ module _ {S : Type 0} (keeps : Spot → S → S → Type 0) where
     selector = k.selector ∙ h.selector;
   }
 
-  pub ContentsKeep-join : ((spot : Spot) (s t u : S) → keeps spot s t → keeps spot t u → keeps spot s u) → (spot : Spot) (s t u : DpfsView S)
+  pub ContentsKeep-join : ((spot : Spot) (s t u : S) → keeps spot s t → keeps spot t u → keeps spot s u)
+      → (spot : Spot) (s t u : DpfsView S)
       → ContentsKeep keeps spot s t → ContentsKeep keeps spot t u → ContentsKeep keeps spot s u
   ContentsKeep-join join spot s t u h k = (
     SameContents-join s t u h.0 k.0,
@@ -221,21 +240,26 @@ module _ {S : Type 0} (keeps : Spot → S → S → Type 0) where
 
 module _ {S : Type 0} (states : S → State) (s t : DpfsView S) (same : SameContents s t) where
   -- the same shape, where the base has the same
-  pub contents_shape : (states t.base.now).shape ≡ (states s.base.now).shape → (shown_contents states t).shape ≡ (shown_contents states s).shape
+  pub contents_shape : (states t.base.now).shape ≡ (states s.base.now).shape
+      → (shown_contents states t).shape ≡ (shown_contents states s).shape
   unfolding can_view_contents
   contents_shape shape = rw (same.same_place, same.same_difi, same.marks, same.selector, shape) refl
 
   -- the same cells, where the base has the same and no mark was set or cleared
-  pub contents_cells : t.state.now ≡ s.state.now → HasContents (states s.base.now).shape s.part_at s.difi.now s.state.now.selector
+  pub contents_cells : t.state.now ≡ s.state.now
+      → HasContents (states s.base.now).shape s.part_at s.difi.now s.state.now.selector
       → SameCells (states s.base.now) (states t.base.now)
-      → SameCells (shown_contents states s) (shown_contents states t) × SameTwins (shown_contents states s) (shown_contents states t)
+      → SameCells (shown_contents states s) (shown_contents states t)
+      × SameTwins (shown_contents states s) (shown_contents states t)
   contents_cells state_now tree cells =
-      let there : SameCells (shown_contents states s) (contents_state (states t.base.now) s.part_at s.difi.now s.state.now) =
+      let there : SameCells (shown_contents states s)
+      (contents_state (states t.base.now) s.part_at s.difi.now s.state.now) =
       view_cells (states s.base.now) (states t.base.now) s.part_at s.difi.now s.state.now tree cells in
       (rw (same.same_place, same.same_difi, state_now) there, record { bottom = λ x h. refl; is_fixed = λ x h. refl })
 
   -- and puts land where they would have landed
-  pub contents_lands : (lands : S → ℕ → Spot → Type 0) → HasContents (states s.base.now).shape s.part_at s.difi.now s.state.now.selector
+  pub contents_lands : (lands : S → ℕ → Spot → Type 0)
+      → HasContents (states s.base.now).shape s.part_at s.difi.now s.state.now.selector
       → SameCells (states s.base.now) (states t.base.now)
       → LandsAsBefore (states s.base.now).shape.size (lands s.base.now) (lands t.base.now)
       → LandsAsBefore (view_size s.difi.now) (contents_land states lands s) (contents_land states lands t)
@@ -244,6 +268,7 @@ module _ {S : Type 0} (states : S → State) (s t : DpfsView S) (same : SameCont
       let new = bytes_of (states t.base.now).cells in
       let there : LandsAsBefore (view_size s.difi.now) (contents_land states lands s)
       (ContentsLand new s.part_at s.difi.now s.state.now.selector (lands t.base.now)) =
-      lands_as_before (states s.base.now).shape s.part_at s.difi.now s.state.now.selector tree old new (λ y h. rw (cells y h) refl)
+      lands_as_before (states s.base.now).shape s.part_at s.difi.now s.state.now.selector tree old new
+      (λ y h. rw (cells y h) refl)
       (lands s.base.now) (lands t.base.now) as_before in
       rw (same.same_place, same.same_difi, same.selector) there

@@ -9,7 +9,8 @@ use Rattle.std.proofs.Math.Seq.{take-append-add}
 use Rattle.save_disk.specs.Trace.{Event, Write, Sync, sector_cut, with_sector, image_after}
 use Rattle.save_disk.specs.Stops.{synced, unsynced, HasWrite, HasNoWrite, EachWrite, Fits, CrashMayLeave}
 use Rattle.save_disk.specs.Keeps.{HoldsAll, Agree, Keeps, EachStop, IsOldOrNew, committing, image_committed}
-use Rattle.save_disk.proofs.SectorBytes.{length-with_sector, sector_cut-byte, with_sector-before, with_sector-behind, with_sector-inside}
+use Rattle.save_disk.proofs.SectorBytes.{length-with_sector, sector_cut-byte, with_sector-before, with_sector-behind}
+use Rattle.save_disk.proofs.SectorBytes.{with_sector-inside}
 use Rattle.save_disk.proofs.Sectors.{same_from_sectors}
 use Rattle.save_disk.proofs.Moments.{has_write-right, each_write-front, each_write-take, each_write-append}
 use Rattle.save_disk.proofs.Moments.{image_after-append, length-image_after, synced-open, unsynced-open, synced-sync}
@@ -17,7 +18,8 @@ use Rattle.save_disk.proofs.Moments.{unsynced-sync, synced-unsynced, moments_joi
 use Rattle.save_disk.proofs.Kept.{keeps_more, keeps_now, kept_leaves, synced_keeps, synced_leaves}
 
 -- sectors of an image with other bytes in a sector
-module _ (grain : ℕ) (image : List ℕ) (sector : ℕ) (bytes : List ℕ) (begins : sector * grain < length image) (whole : length bytes ≡ grain) where
+module _ (grain : ℕ) (image : List ℕ) (sector : ℕ) (bytes : List ℕ) (begins : sector * grain < length image)
+    (whole : length bytes ≡ grain) where
   long : length (with_sector grain image sector bytes) ≡ length image
   long = length-with_sector grain image sector bytes begins whole
 
@@ -25,13 +27,22 @@ module _ (grain : ℕ) (image : List ℕ) (sector : ℕ) (bytes : List ℕ) (beg
   length_cut l n = length-take grain (drop (n * grain) l) ∙ ap (min grain) (length-drop (n * grain) l)
 
   -- the sector that was written
-  pub cut_own : sector_cut grain (with_sector grain image sector bytes) sector ≡ take (length image - sector * grain) bytes
+  pub cut_own : sector_cut grain (with_sector grain image sector bytes) sector
+      ≡ take (length image - sector * grain) bytes
   cut_own =
-      ext_get_or 0 (sector_cut grain (with_sector grain image sector bytes) sector) (take (length image - sector * grain) bytes)
-      (omega (arith, length_cut (with_sector grain image sector bytes) sector, long, length-take (length image - sector * grain) bytes))
+      ext_get_or 0 (sector_cut grain (with_sector grain image sector bytes) sector)
+      (take (length image - sector * grain) bytes)
+      (omega (
+        arith,
+        length_cut (with_sector grain image sector bytes) sector,
+        long,
+        length-take
+            (length image - sector * grain) bytes,
+      ))
       (λ k below.
       let small : k < grain = omega (arith, length_cut (with_sector grain image sector bytes) sector) in
-      let inside : sector * grain + k < length image = omega (arith, length_cut (with_sector grain image sector bytes) sector, long) in
+      let inside : sector * grain + k < length image =
+      omega (arith, length_cut (with_sector grain image sector bytes) sector, long) in
       sector_cut-byte grain (with_sector grain image sector bytes) sector k small
       ∙ with_sector-inside grain image sector bytes begins whole k small inside
       ∙ sym (get_or-take (length image - sector * grain) bytes k 0 (omega arith)))
@@ -42,23 +53,28 @@ module _ (grain : ℕ) (image : List ℕ) (sector : ℕ) (bytes : List ℕ) (beg
       → sector_cut grain (with_sector grain image sector bytes) other ≡ sector_cut grain image other
   cut_other other apart =
       ext_get_or 0 (sector_cut grain (with_sector grain image sector bytes) other) (sector_cut grain image other)
-      (length_cut (with_sector grain image sector bytes) other ∙ ap (λ (n : ℕ). min grain (n - other * grain)) long ∙ sym (length_cut image other))
+      (length_cut (with_sector grain image sector bytes) other ∙ ap (λ (n : ℕ). min grain (n - other * grain)) long
+      ∙ sym (length_cut image other))
       (λ k below.
       let small : k < grain = omega (arith, length_cut (with_sector grain image sector bytes) other) in
-      let inside : other * grain + k < length image = omega (arith, length_cut (with_sector grain image sector bytes) other, long) in
+      let inside : other * grain + k < length image =
+      omega (arith, length_cut (with_sector grain image sector bytes) other, long) in
       sector_cut-byte grain (with_sector grain image sector bytes) other k small
       ∙ ⊎_elim
-      (λ (lower : other < sector). with_sector-before grain image sector bytes begins whole (other * grain + k) (below_sector other sector k lower small))
+      (λ (lower : other < sector). with_sector-before grain image sector bytes begins whole (other * grain + k)
+      (below_sector other sector k lower small))
       (λ (upper : sector ≤ other). with_sector-behind grain image sector bytes begins whole (other * grain + k)
       (behind_sector other sector k upper (λ same. apart (sym same))) inside)
       (cases_lt other sector)
       ∙ sym (sector_cut-byte grain image other k small))
     where
       below_sector : (a b k : ℕ) → a < b → k < grain → a * grain + k < b * grain
-      below_sector a b k lower small = let more : suc a ≤ b = omega arith in omega (arith, mul-le-mul_right grain more, suc-mul a grain)
+      below_sector a b k lower small = let more : suc a ≤ b =
+          omega arith in omega (arith, mul-le-mul_right grain more, suc-mul a grain)
 
       behind_sector : (b a k : ℕ) → a ≤ b → a ≢ b → a * grain + grain ≤ b * grain + k
-      behind_sector b a k upper apart = let more : suc a ≤ b = omega arith in omega (arith, mul-le-mul_right grain more, suc-mul a grain)
+      behind_sector b a k upper apart = let more : suc a ≤ b =
+          omega arith in omega (arith, mul-le-mul_right grain more, suc-mul a grain)
 
 -- where one write came since the last sync, a stop leaves the image before it or the one behind it
 module _ (grain : ℕ) (start : List ℕ) (events : List Event) (sector : ℕ) (bytes : List ℕ) (left : List ℕ)
@@ -68,7 +84,8 @@ module _ (grain : ℕ) (start : List ℕ) (events : List Event) (sector : ℕ) (
   old_or_new :
       (image : List ℕ) → image ≡ image_after grain start events → length image ≡ length start → (n : ℕ)
       → n * grain < length start
-      → (sector_cut grain left n ≡ sector_cut grain image n) ⊎ ((n ≡ sector) × (sector_cut grain left n ≡ take (length image - n * grain) bytes))
+      → (sector_cut grain left n ≡ sector_cut grain image n)
+      ⊎ ((n ≡ sector) × (sector_cut grain left n ≡ take (length image - n * grain) bytes))
   old_or_new image is same n below =
       let all : synced (events ++ Write sector bytes ∷ []) ≡ events =
       synced-open (Write sector bytes ∷ []) refl events ∙ sym (append-nil (synced events))
@@ -77,14 +94,20 @@ module _ (grain : ℕ) (start : List ℕ) (events : List Event) (sector : ℕ) (
       unsynced-open (Write sector bytes ∷ []) refl events
       ∙ ap (λ (l : List Event). l ++ Write sector bytes ∷ []) kept in
       ⊎_elim
-      (λ (old : sector_cut grain left n ≡ sector_cut grain (image_after grain start (synced (events ++ Write sector bytes ∷ []))) n).
-      inl (old ∙ ap (λ (l : List Event). sector_cut grain (image_after grain start l) n) all ∙ ap (λ (l : List ℕ). sector_cut grain l n) (sym is)))
+      (λ (old : sector_cut grain left n
+      ≡ sector_cut grain (image_after grain start (synced (events ++ Write sector bytes ∷ []))) n).
+      inl (old ∙ ap (λ (l : List Event). sector_cut grain (image_after grain start l) n) all
+      ∙ ap (λ (l : List ℕ). sector_cut grain l n) (sym is)))
       (λ (new : (written : List ℕ) × HasWrite (unsynced (events ++ Write sector bytes ∷ [])) n written
       × (sector_cut grain left n ≡ take (length start - n * grain) written)).
       ⊎_elim
       (λ (here : Write sector bytes ≡ Write n new.0).
       let same_bytes : bytes ≡ new.0 = cc in
-      inr (cc, new.2 ∙ ap (λ (k : ℕ). take (k - n * grain) new.0) (sym same) ∙ ap (take (length image - n * grain)) (sym same_bytes)))
+      inr (
+        cc,
+        new.2 ∙ ap (λ (k : ℕ). take (k - n * grain) new.0) (sym same)
+            ∙ ap (take (length image - n * grain)) (sym same_bytes),
+      ))
       (λ none. absurd none)
       (subst (λ (l : List Event). HasWrite l n new.0) one new.1))
       (leaves.sectors n below)
@@ -114,7 +137,8 @@ module _ (grain : ℕ) (start : List ℕ) (events : List Event) (sector : ℕ) (
       (cases_eq n sector))))
       (old_or_new image is same sector fit.1)
 
-  pub one_write_leaves : (left ≡ image_after grain start events) ⊎ (left ≡ image_after grain start (events ++ Write sector bytes ∷ []))
+  pub one_write_leaves : (left ≡ image_after grain start events)
+      ⊎ (left ≡ image_after grain start (events ++ Write sector bytes ∷ []))
   one_write_leaves =
       let image = image_after grain start events in
       let same : length (image_after grain start events) ≡ length start =
@@ -129,7 +153,8 @@ take_empty (suc k) = refl
 
 -- a whole commit, whose last event is a sync
 module _ (events writes : List Event) (sector : ℕ) (bytes : List ℕ) where
-  ends_synced : events ++ committing writes sector bytes ≡ (events ++ (writes ++ Sync ∷ Write sector bytes ∷ [])) ++ Sync ∷ []
+  ends_synced : events ++ committing writes sector bytes ≡ (events ++ (writes ++ Sync ∷ Write sector bytes ∷ [])) ++
+      Sync ∷ []
   ends_synced =
       ap (λ (l : List Event). events ++ l) (sym (append_assoc writes (Sync ∷ Write sector bytes ∷ []) (Sync ∷ [])))
       ∙ sym (append_assoc events (writes ++ Sync ∷ Write sector bytes ∷ []) (Sync ∷ []))
@@ -140,19 +165,22 @@ module _ (events writes : List Event) (sector : ℕ) (bytes : List ℕ) where
       ∙ unsynced-sync (events ++ (writes ++ Sync ∷ Write sector bytes ∷ [])) in
       subst (λ (l : List Event). HasWrite l number written) none has
 
-  all_kept : synced (events ++ committing writes sector bytes) ≡ (events ++ (writes ++ Sync ∷ Write sector bytes ∷ [])) ++ Sync ∷ []
+  all_kept : synced (events ++ committing writes sector bytes)
+      ≡ (events ++ (writes ++ Sync ∷ Write sector bytes ∷ [])) ++ Sync ∷ []
   all_kept = ap synced ends_synced ∙ synced-sync (events ++ (writes ++ Sync ∷ Write sector bytes ∷ []))
 
 module _ (grain : ℕ) (start : List ℕ) (events writes : List Event) (sector : ℕ) (bytes : List ℕ) where
   -- a sync changes no image
-  pub image_synced : image_after grain start (events ++ (writes ++ Sync ∷ Write sector bytes ∷ [])) ≡ image_committed grain start events writes sector bytes
+  pub image_synced : image_after grain start (events ++ (writes ++ Sync ∷ Write sector bytes ∷ []))
+      ≡ image_committed grain start events writes sector bytes
   image_synced =
       image_after-append grain start events (writes ++ Sync ∷ Write sector bytes ∷ [])
       ∙ image_after-append grain (image_after grain start events) writes (Sync ∷ Write sector bytes ∷ [])
       ∙ sym (image_after-append grain (image_after grain start events) writes (Write sector bytes ∷ []))
       ∙ sym (image_after-append grain start events (writes ++ Write sector bytes ∷ []))
 
-  pub image_kept : image_after grain start (synced (events ++ committing writes sector bytes)) ≡ image_committed grain start events writes sector bytes
+  pub image_kept : image_after grain start (synced (events ++ committing writes sector bytes))
+      ≡ image_committed grain start events writes sector bytes
   image_kept = ap (image_after grain start) (all_kept events writes sector bytes)
       ∙ image_after-append grain start (events ++ (writes ++ Sync ∷ Write sector bytes ∷ [])) (Sync ∷ [])
       ∙ image_synced
@@ -160,7 +188,8 @@ module _ (grain : ℕ) (start : List ℕ) (events writes : List Event) (sector :
   -- behind a commit any places of the new image are kept
   pub commit_keeps :
       (places : ℕ → Bool) → EachWrite (Fits grain (length start)) (events ++ committing writes sector bytes)
-      → Keeps places (image_committed grain start events writes sector bytes) grain start (events ++ committing writes sector bytes)
+      → Keeps places (image_committed grain start events writes sector bytes) grain start
+      (events ++ committing writes sector bytes)
   commit_keeps places fits = subst
       (λ (l : List ℕ). Keeps places l grain start (events ++ committing writes sector bytes)) image_kept
       (synced_keeps places grain start (events ++ committing writes sector bytes) fits
@@ -195,13 +224,15 @@ module _ (places : ℕ → Bool) (image : List ℕ) (grain : ℕ) (start : List 
       bytes ∷ [] ≡ events ++ (writes ++ Sync ∷ Write sector bytes ∷ []) =
       append_assoc events (writes ++ Sync ∷ []) (Write sector bytes ∷ [])
       ∙ ap (λ (l : List Event). events ++ l) synced_front in
-      let split : events ++ (writes ++ Sync ∷ []) ≡ (events ++ writes) ++ Sync ∷ [] = sym (append_assoc events writes (Sync ∷ [])) in
+      let split : events ++ (writes ++ Sync ∷ []) ≡ (events ++ writes) ++ Sync ∷ [] =
+      sym (append_assoc events writes (Sync ∷ [])) in
       let fits_whole : EachWrite (Fits grain (length start))
       ((events ++ (writes ++ Sync ∷ [])) ++ Write sector bytes ∷ []) =
       subst (EachWrite (Fits grain (length start))) (sym whole) fits in
       let leaves_whole : CrashMayLeave grain start ((events ++ (writes ++ Sync ∷ [])) ++ Write sector bytes ∷ [])
       left = subst (λ (l : List Event). CrashMayLeave grain start l left) (sym whole) leaves in
-      let none : unsynced (events ++ (writes ++ Sync ∷ [])) ≡ [] = ap unsynced split ∙ unsynced-sync (events ++ writes) in
+      let none : unsynced (events ++ (writes ++ Sync ∷ [])) ≡ [] = ap unsynced split
+      ∙ unsynced-sync (events ++ writes) in
       let fits_middle : EachWrite (Fits grain (length start)) (events ++ (writes ++ Sync ∷ [])) =
       each_write-front (Fits grain (length start)) (events ++ (writes ++ Sync ∷ [])) (Write sector bytes ∷ [])
       fits_whole in
@@ -214,22 +245,27 @@ module _ (places : ℕ → Bool) (image : List ℕ) (grain : ℕ) (start : List 
       (keeps_now places image grain start (events ++ (writes ++ Sync ∷ [])) fits_middle kept)))
       (λ (new : left ≡ image_after grain start ((events ++ (writes ++ Sync ∷ [])) ++ Write sector bytes ∷ [])). inr
       (new ∙ ap (image_after grain start) whole ∙ image_synced grain start events writes sector bytes))
-      (one_write_leaves grain start (events ++ (writes ++ Sync ∷ [])) sector bytes left some fits_whole none leaves_whole)
+      (one_write_leaves grain start (events ++ (writes ++ Sync ∷ [])) sector bytes left some fits_whole none
+      leaves_whole)
 
   -- with the sync behind that
   safe_synced : IsSafe (committing writes sector bytes)
   safe_synced fits left leaves =
-      let is = (synced_leaves grain start (events ++ committing writes sector bytes) left some fits (none_since events writes sector bytes)).0 leaves in
+      let is = (synced_leaves grain start (events ++ committing writes sector bytes) left some fits
+      (none_since events writes sector bytes)).0 leaves in
       inr (is ∙ image_kept grain start events writes sector bytes)
 
   safe_tail : (k : ℕ) → IsSafe (writes ++ take k (Sync ∷ Write sector bytes ∷ Sync ∷ []))
   safe_tail zero = rw (append-nil) (safe_held writes holds)
-  safe_tail (suc zero) = safe_held (writes ++ Sync ∷ []) (each_write-append (HoldsAll places grain image) writes (Sync ∷ []) holds no_write_in_sync)
+  safe_tail (suc zero) =
+      safe_held (writes ++ Sync ∷ [])
+      (each_write-append (HoldsAll places grain image) writes (Sync ∷ []) holds no_write_in_sync)
   safe_tail (suc (suc zero)) = safe_written
   safe_tail (suc (suc (suc k))) = rw (take_empty k) safe_synced
 
   -- at each moment of a commit a stop leaves the places as they were, or the new image
-  pub commit_leaves : EachStop (IsOldOrNew places image grain start events writes sector bytes) grain start events (committing writes sector bytes)
+  pub commit_leaves : EachStop (IsOldOrNew places image grain start events writes sector bytes) grain start events
+      (committing writes sector bytes)
   commit_leaves moment =
       ⊎_elim
       (λ (early : moment < length writes). subst IsSafe
@@ -238,7 +274,8 @@ module _ (places : ℕ → Bool) (image : List ℕ) (grain : ℕ) (start : List 
       (λ (late : length writes ≤ moment).
       let k : length writes + (moment - length writes) ≡ moment = omega arith in
       subst (λ (m : ℕ). IsSafe (take m (committing writes sector bytes))) k
-      (subst IsSafe (sym (take-append-add writes (Sync ∷ Write sector bytes ∷ Sync ∷ []) (moment - length writes))) (safe_tail (moment - length writes))))
+      (subst IsSafe (sym (take-append-add writes (Sync ∷ Write sector bytes ∷ Sync ∷ []) (moment - length writes)))
+      (safe_tail (moment - length writes))))
       (cases_lt moment (length writes))
 
 -- the same where there is no such write

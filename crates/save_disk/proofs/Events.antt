@@ -12,7 +12,8 @@ pub image_after-push :
     (grain : ℕ) (events : List Event) (event : Event) (image : List ℕ)
     → image_after grain image (events ++ event ∷ []) ≡ image_after grain (image_after grain image events) (event ∷ [])
 image_after-push grain [] event image = refl
-image_after-push grain (Write sector bytes ∷ events) event image = image_after-push grain events event (with_sector grain image sector bytes)
+image_after-push grain (Write sector bytes ∷ events) event image =
+    image_after-push grain events event (with_sector grain image sector bytes)
 image_after-push grain (Sync ∷ events) event image = image_after-push grain events event image
 image_after-push grain (Said bytes ∷ events) event image = image_after-push grain events event image
 
@@ -60,7 +61,8 @@ module _ (Q : ℕ → List ℕ → Type 0) where
 
   pub no_write :
       (event : Event) → ((sector : ℕ) (bytes : List ℕ) → event ≡ Write sector bytes → ⊥) → EachWrite Q (event ∷ [])
-  no_write event apart number written has = ⊎_elim (λ (here : event ≡ Write number written). absurd (apart number written here)) (λ none. absurd none) has
+  no_write event apart number written has =
+      ⊎_elim (λ (here : event ≡ Write number written). absurd (apart number written here)) (λ none. absurd none) has
 
   -- each write is such, once there is one event more and its write is
   pub each_write_more :

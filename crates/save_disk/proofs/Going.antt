@@ -1,5 +1,6 @@
 -- A commit on a disk that tells its trace.
-use Rattle.std.proofs.Common.{◌≡◌, ⊎_elim, ℕ, ◌<◌, ◌≤◌, Bool, List, ◌++◌, length, take, drop, Some, sym, subst, ◌∙◌, ap, arith, append_assoc}
+use Rattle.std.proofs.Common.{◌≡◌, ⊎_elim, ℕ, ◌<◌, ◌≤◌, Bool, List, ◌++◌, length, take, drop, Some, sym, subst, ◌∙◌, ap}
+use Rattle.std.proofs.Common.{arith, append_assoc}
 use Rattle.std.proofs.lemmas.List.{take-take, take_all, take-append-drop, length-take}
 use Rattle.std.proofs.lemmas.Bool.{cases_lt}
 use Rattle.save_disk.specs.Trace.{Event, Told}
@@ -15,7 +16,8 @@ use Rattle.save_disk.proofs.Commits.{commit_leaves}
 front_of_front : (moment n : ℕ) (all : List Event) → (k : ℕ) × (take moment (take n all) ≡ take k all)
 front_of_front moment n all =
     ⊎_elim
-    (λ (early : moment < n). let found : (k : ℕ) × (take moment (take n all) ≡ take k all) = (moment, take-take moment n all (omega arith)) in found)
+    (λ (early : moment < n). let found : (k : ℕ) × (take moment (take n all) ≡ take k all) =
+    (moment, take-take moment n all (omega arith)) in found)
     (λ (late : n ≤ moment). let found : (k : ℕ)
     × (take moment (take n all) ≡ take k all) =
     (n, take_all moment (take n all) (omega (arith, length-take n all))) in found)
@@ -37,7 +39,8 @@ front_stops P told all added (n, is) fits stops moment left leaves =
     (subst (EachWrite (Fits told.grain (length told.start))) (sym whole) fits) in
     (rw (← same) at (stops found.0)) fit left leaves
 
-module _ (places : ℕ → Bool) (image : List ℕ) (before after : State) (told : Told) (writes : List Event) (sector : ℕ) (bytes : List ℕ) where
+module _ (places : ℕ → Bool) (image : List ℕ) (before after : State) (told : Told) (writes : List Event) (sector : ℕ)
+    (bytes : List ℕ) where
   abbrev pub IsSafe : List ℕ → Type 0
   IsSafe = IsOldOrNew places image told.grain told.start told.events writes sector bytes
 

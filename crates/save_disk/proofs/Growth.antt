@@ -8,7 +8,8 @@ use Rattle.save_disk.specs.State.{State, IsQuiet, Happens, GoesOn, WriteFails, t
 use Rattle.save_disk.specs.Writes.{OnlyWrites, GrewBy, WritesOnly, one_if, writes_to, WritesTo}
 use Rattle.save_disk.proofs.Events.{image_after-push}
 
-pub OnlyWrites-append : (Q : ℕ → List ℕ → Type 0) (xs ys : List Event) → OnlyWrites Q xs → OnlyWrites Q ys → OnlyWrites Q (xs ++ ys)
+pub OnlyWrites-append : (Q : ℕ → List ℕ → Type 0) (xs ys : List Event) → OnlyWrites Q xs → OnlyWrites Q ys
+    → OnlyWrites Q (xs ++ ys)
 OnlyWrites-append Q [] ys h k = k
 OnlyWrites-append Q (Write sector bytes ∷ xs) ys h k = (h.0, OnlyWrites-append Q xs ys h.1 k)
 OnlyWrites-append Q (Sync ∷ xs) ys h k = absurd h
@@ -22,7 +23,8 @@ OnlyWrites-map P Q (Sync ∷ events) f h = absurd h
 OnlyWrites-map P Q (Said bytes ∷ events) f h = absurd h
 
 -- writes behind writes
-pub writes_to-append : (sector : ℕ) (xs ys : List Event) → writes_to sector (xs ++ ys) ≡ writes_to sector xs + writes_to sector ys
+pub writes_to-append : (sector : ℕ) (xs ys : List Event) → writes_to sector (xs ++ ys) ≡ writes_to sector xs
+    + writes_to sector ys
 writes_to-append sector [] ys = sym (zero-add (writes_to sector ys))
 writes_to-append sector (Write number bytes ∷ xs) ys =
     ap (λ (n : ℕ). one_if (eqb number sector) + n) (writes_to-append sector xs ys)
@@ -53,16 +55,31 @@ module _ (P Q R : List Event → Type 0) (append : (xs ys : List Event) → P xs
       → MatchOption p (q ≡ None) (λ told. (next : Told) × (q ≡ Some next) × GrewBy Q told next)
       → MatchOption o (q ≡ None) (λ told. (next : Told) × (q ≡ Some next) × GrewBy R told next)
   went_then None p q h k = rw h at k
-  went_then (Some a) p q (b, is, grew) k = let later = rw is at k in (later.0, later.1, grew_then a b later.0 grew later.2)
+  went_then (Some a) p q (b, is, grew) k = let later = rw is at
+      k in (later.0, later.1, grew_then a b later.0 grew later.2)
 
   -- events behind events
-  pub GoesOn-then : (one two three : State) → GoesOn (GrewBy P) one two → GoesOn (GrewBy Q) two three → GoesOn (GrewBy R) one three
+  pub GoesOn-then : (one two three : State) → GoesOn (GrewBy P) one two → GoesOn (GrewBy Q) two three
+      → GoesOn (GrewBy R) one three
   GoesOn-then one two three h k = went_then one.told two.told three.told h k
 
 module _ (P : List Event → Type 0) where
-  quiet : (o : Option Told) → P [] → MatchOption o (o ≡ None) (λ told. (next : Told) × (o ≡ Some next) × GrewBy P told next)
+  quiet : (o : Option Told) → P []
+      → MatchOption o (o ≡ None) (λ told. (next : Told) × (o ≡ Some next) × GrewBy P told next)
   quiet None none = refl
-  quiet (Some told) none = (told, refl, record { start = refl; grain = refl; left = refl; added = []; events = sym (append-nil told.events); such = none })
+  quiet (Some told) none = (
+    told,
+    refl,
+    record {
+      start = refl;
+      grain = refl;
+      left = refl;
+      added = [];
+      events =
+          sym (append-nil told.events);
+      such = none;
+    },
+  )
 
   -- nothing happened
   pub grew_quiet : (one two : State) → IsQuiet one two → P [] → GoesOn (GrewBy P) one two
@@ -79,10 +96,12 @@ module _ (P : List Event → Type 0) where
   )
 
   -- one event
-  pub grew_happens : (event : Event) (one two : State) → Happens event one two → P (event ∷ []) → GoesOn (GrewBy P) one two
+  pub grew_happens : (event : Event) (one two : State) → Happens event one two → P (event ∷ [])
+      → GoesOn (GrewBy P) one two
   grew_happens event one two happens such = happened event one.told two.told happens such
 
-  failed : (sector : ℕ) (bytes : List ℕ) (a b : Told) → WriteFails sector bytes a b → P [] → P (Write sector bytes ∷ []) → GrewBy P a b
+  failed : (sector : ℕ) (bytes : List ℕ) (a b : Told) → WriteFails sector bytes a b → P [] → P (Write sector bytes ∷ [])
+      → GrewBy P a b
   failed sector bytes a b fails none such =
       ⊎_elim
       (λ (same : b.events ≡ a.events). let grew : GrewBy P a b =
@@ -112,7 +131,8 @@ module _ (P : List Event → Type 0) where
       → P (Write sector bytes ∷ []) → MatchOption o (p ≡ None)
       (λ told. (next : Told) × (p ≡ Some next) × GrewBy P told next)
   went_failed sector bytes None p is none such = is
-  went_failed sector bytes (Some told) p (next, is, fails) none such = (next, is, failed sector bytes told next fails none such)
+  went_failed sector bytes (Some told) p (next, is, fails) none such =
+      (next, is, failed sector bytes told next fails none such)
 
   -- a write that failed is an event or none
   pub grew_failed : (sector : ℕ) (bytes : List ℕ) (one two : State) → GoesOn (WriteFails sector bytes) one two → P []
@@ -128,7 +148,15 @@ module _ (Q : ℕ → List ℕ → Type 0) where
 
 module _ (P Q : ℕ → List ℕ → Type 0) (f : (sector : ℕ) (bytes : List ℕ) → P sector bytes → Q sector bytes) where
   grew_map : (a b : Told) → GrewBy (OnlyWrites P) a b → GrewBy (OnlyWrites Q) a b
-  grew_map a b h = record { start = h.start; grain = h.grain; left = h.left; added = h.added; events = h.events; such = OnlyWrites-map P Q h.added f h.such }
+  grew_map a b h = record {
+    start = h.start;
+    grain = h.grain;
+    left = h.left;
+    added = h.added;
+    events = h.events;
+    such =
+        OnlyWrites-map P Q h.added f h.such;
+  }
 
   went_map : (o p : Option Told)
       → MatchOption o (p ≡ None) (λ told. (next : Told) × (p ≡ Some next) × GrewBy (OnlyWrites P) told next)
@@ -166,7 +194,8 @@ module _ {T : Type 0} (Q : T → ℕ → List ℕ → Type 0) where
   OnlyWrites-all : (P : ℕ → List ℕ → Type 0) (events : List Event) → OnlyWrites P events
       → ((t : T) → OnlyWrites (Q t) events) → OnlyWrites (λ sector bytes. (t : T) → Q t sector bytes) events
   OnlyWrites-all P [] base each = tt
-  OnlyWrites-all P (Write sector bytes ∷ events) base each = (λ t. (each t).0, OnlyWrites-all P events base.1 (λ t. (each t).1))
+  OnlyWrites-all P (Write sector bytes ∷ events) base each =
+      (λ t. (each t).0, OnlyWrites-all P events base.1 (λ t. (each t).1))
   OnlyWrites-all P (Sync ∷ events) base each = absurd base
   OnlyWrites-all P (Said bytes ∷ events) base each = absurd base
 

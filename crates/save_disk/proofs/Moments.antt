@@ -3,7 +3,8 @@ use Rattle.std.proofs.Common.{◌≡◌, ⊎_elim, inl, inr, ◌⊎◌, ℕ, zer
 use Rattle.std.proofs.Common.{[], ◌∷◌, ◌++◌, length, take, drop, refl, sym, ◌∙◌, ap, subst, arith, zero-add}
 use Rattle.std.proofs.lemmas.List.{take-append-drop}
 use Rattle.save_disk.specs.Trace.{Event, Write, Sync, Said, with_sector, image_after}
-use Rattle.save_disk.specs.Stops.{is_sync, has_sync, synced, unsynced, HasWrite, EachWrite, Fits, syncs, until_sync, AtEachMoment}
+use Rattle.save_disk.specs.Stops.{is_sync, has_sync, synced, unsynced, HasWrite, EachWrite, Fits, syncs, until_sync}
+use Rattle.save_disk.specs.Stops.{AtEachMoment}
 use Rattle.save_disk.specs.Writes.{OnlyWrites}
 use Rattle.save_disk.proofs.SectorBytes.{length-with_sector}
 
@@ -11,7 +12,8 @@ use Rattle.save_disk.proofs.SectorBytes.{length-with_sector}
 pub has_write-left :
     (xs ys : List Event) (sector : ℕ) (bytes : List ℕ) → HasWrite xs sector bytes → HasWrite (xs ++ ys) sector bytes
 has_write-left [] ys sector bytes has = absurd has
-has_write-left (event ∷ xs) ys sector bytes has = ⊎_elim (λ here. inl here) (λ later. inr (has_write-left xs ys sector bytes later)) has
+has_write-left (event ∷ xs) ys sector bytes has = ⊎_elim (λ here. inl here)
+    (λ later. inr (has_write-left xs ys sector bytes later)) has
 
 pub has_write-right :
     (xs ys : List Event) (sector : ℕ) (bytes : List ℕ) → HasWrite ys sector bytes → HasWrite (xs ++ ys) sector bytes
@@ -23,17 +25,20 @@ has_write-cases :
     → HasWrite xs sector bytes ⊎ HasWrite ys sector bytes
 has_write-cases [] ys sector bytes has = inr has
 has_write-cases (event ∷ xs) ys sector bytes has =
-    ⊎_elim (λ here. inl (inl here)) (λ later. ⊎_elim (λ h. inl (inr h)) (λ h. inr h) (has_write-cases xs ys sector bytes later)) has
+    ⊎_elim (λ here. inl (inl here))
+    (λ later. ⊎_elim (λ h. inl (inr h)) (λ h. inr h) (has_write-cases xs ys sector bytes later)) has
 
 module _ (Q : ℕ → List ℕ → Type 0) where
   pub each_write-front : (xs ys : List Event) → EachWrite Q (xs ++ ys) → EachWrite Q xs
   each_write-front xs ys each = λ sector bytes has. each sector bytes (has_write-left xs ys sector bytes has)
 
   pub each_write-append : (xs ys : List Event) → EachWrite Q xs → EachWrite Q ys → EachWrite Q (xs ++ ys)
-  each_write-append xs ys first second = λ sector bytes has. ⊎_elim (first sector bytes) (second sector bytes) (has_write-cases xs ys sector bytes has)
+  each_write-append xs ys first second = λ sector bytes has. ⊎_elim (first sector bytes) (second sector bytes)
+      (has_write-cases xs ys sector bytes has)
 
   pub each_write-take : (n : ℕ) (events : List Event) → EachWrite Q events → EachWrite Q (take n events)
-  each_write-take n events each = each_write-front (take n events) (drop n events) (subst (EachWrite Q) (sym (take-append-drop n events)) each)
+  each_write-take n events each = each_write-front (take n events) (drop n events)
+      (subst (EachWrite Q) (sym (take-append-drop n events)) each)
 
   -- a list of nothing but such writes
   pub only_writes-each : (events : List Event) → OnlyWrites Q events → EachWrite Q events
@@ -54,7 +59,8 @@ pub image_after-append :
     (grain : ℕ) (image : List ℕ) (xs ys : List Event)
     → image_after grain image (xs ++ ys) ≡ image_after grain (image_after grain image xs) ys
 image_after-append grain image [] ys = refl
-image_after-append grain image (Write sector bytes ∷ xs) ys = image_after-append grain (with_sector grain image sector bytes) xs ys
+image_after-append grain image (Write sector bytes ∷ xs) ys =
+    image_after-append grain (with_sector grain image sector bytes) xs ys
 image_after-append grain image (Sync ∷ xs) ys = image_after-append grain image xs ys
 image_after-append grain image (Said bytes ∷ xs) ys = image_after-append grain image xs ys
 
@@ -65,12 +71,15 @@ pub length-image_after :
 length-image_after grain image [] fits = refl
 length-image_after grain image (Write sector bytes ∷ events) fits =
     let fit = fits sector bytes (inl refl) in
-    let same : length (with_sector grain image sector bytes) ≡ length image = length-with_sector grain image sector bytes fit.1 fit.0 in
+    let same : length (with_sector grain image sector bytes) ≡ length image =
+    length-with_sector grain image sector bytes fit.1 fit.0 in
     length-image_after grain (with_sector grain image sector bytes) events
     (λ number written has. subst (λ (n : ℕ). Fits grain n number written) (sym same)
     (fits number written (inr has))) ∙ same
-length-image_after grain image (Sync ∷ events) fits = length-image_after grain image events (λ number written has. fits number written (inr has))
-length-image_after grain image (Said bytes ∷ events) fits = length-image_after grain image events (λ number written has. fits number written (inr has))
+length-image_after grain image (Sync ∷ events) fits = length-image_after grain image events
+    (λ number written has. fits number written (inr has))
+length-image_after grain image (Said bytes ∷ events) fits = length-image_after grain image events
+    (λ number written has. fits number written (inr has))
 
 -- whether there is a sync among events behind events
 has_sync-append : (xs ys : List Event) → has_sync (xs ++ ys) ≡ has_sync xs || has_sync ys
@@ -128,7 +137,8 @@ synced-sync (event ∷ xs) = ap (λ (b : Bool). cond b (event ∷ synced (xs ++ 
 
 pub unsynced-sync : (xs : List Event) → unsynced (xs ++ Sync ∷ []) ≡ []
 unsynced-sync [] = refl
-unsynced-sync (event ∷ xs) = ap (λ (b : Bool). cond b (unsynced (xs ++ Sync ∷ [])) (event ∷ xs ++ Sync ∷ [])) (has_last (event ∷ xs)) ∙ unsynced-sync xs
+unsynced-sync (event ∷ xs) = ap (λ (b : Bool). cond b (unsynced (xs ++ Sync ∷ [])) (event ∷ xs ++ Sync ∷ []))
+    (has_last (event ∷ xs)) ∙ unsynced-sync xs
 
 -- what the last sync kept and what came since
 pub synced-unsynced : (events : List Event) → synced events ++ unsynced events ≡ events
@@ -146,7 +156,8 @@ pub moments_join :
     (P : List Event → Type 0) (xs ys : List Event) → AtEachMoment P xs → AtEachMoment (λ front. P (xs ++ front)) ys
     → AtEachMoment P (xs ++ ys)
 moments_join P [] ys first second = second
-moments_join P (event ∷ xs) ys first second = at (moments_join (λ front. P (event ∷ front)) xs ys (λ m. first (suc m)) second)
+moments_join P (event ∷ xs) ys first second =
+    at (moments_join (λ front. P (event ∷ front)) xs ys (λ m. first (suc m)) second)
   where
     at : AtEachMoment (λ front. P (event ∷ front)) (xs ++ ys) → (moment : ℕ) → P (take moment ((event ∷ xs) ++ ys))
     at later zero = first zero
@@ -163,8 +174,10 @@ until_sync-more [] more n few = let none : n ≡ 0 = omega arith in rw none (fir
 until_sync-more (event ∷ events) more zero few = refl
 until_sync-more (Write sector bytes ∷ events) more (suc n) few =
     ap (λ (l : List Event). Write sector bytes ∷ l) (until_sync-more events more (suc n) (omega arith))
-until_sync-more (Sync ∷ events) more (suc n) few = ap (λ (l : List Event). Sync ∷ l) (until_sync-more events more n (omega arith))
-until_sync-more (Said bytes ∷ events) more (suc n) few = ap (λ (l : List Event). Said bytes ∷ l) (until_sync-more events more (suc n) (omega arith))
+until_sync-more (Sync ∷ events) more (suc n) few = ap (λ (l : List Event). Sync ∷ l)
+    (until_sync-more events more n (omega arith))
+until_sync-more (Said bytes ∷ events) more (suc n) few = ap (λ (l : List Event). Said bytes ∷ l)
+    (until_sync-more events more (suc n) (omega arith))
 
 none_counted : (events : List Event) → has_sync events ≡ false → syncs events ≡ 0
 none_counted [] free = refl

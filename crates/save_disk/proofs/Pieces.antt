@@ -1,6 +1,8 @@
 -- Pieces of an image as its sectors give them.
-use Rattle.std.proofs.Common.{◌≡◌, ℕ, ◌+◌, ◌-◌, ◌*◌, ◌≤◌, List, ◌++◌, length, take, drop, replicate, min, Option, Some, IsTrue, IfSome, ◌∙◌, ap, subst, arith}
-use Rattle.std.proofs.lemmas.List.{length-take, length-drop, take-append-le, drop-append-le, drop-take, take-take, drop-drop}
+use Rattle.std.proofs.Common.{◌≡◌, ℕ, ◌+◌, ◌-◌, ◌*◌, ◌≤◌, List, ◌++◌, length, take, drop, replicate, min, Option, Some}
+use Rattle.std.proofs.Common.{IsTrue, IfSome, ◌∙◌, ap, subst, arith}
+use Rattle.std.proofs.lemmas.List.{length-take, length-drop, take-append-le, drop-append-le, drop-take, take-take}
+use Rattle.std.proofs.lemmas.List.{drop-drop}
 use Rattle.save_disk.specs.Trace.{Told, IsFresh, sector_cut, sector_of, image_after, image_now}
 use Rattle.save_disk.specs.State.{State, IsRead, IsSound}
 
@@ -17,7 +19,8 @@ piece_of_sector grain image_size image sector from n at long place inside fits =
     let count : from + n - from ≡ n = omega arith in
     let zeros : List ℕ = replicate (grain - length cut) 0 in
     let first : drop from (cut ++ zeros) ≡ drop from cut ++ zeros = drop-append-le from cut zeros (omega arith) in
-    let second : take n (drop from cut ++ zeros) ≡ take n (drop from cut) = take-append-le n (drop from cut) zeros (omega (arith, length-drop from cut)) in
+    let second : take n (drop from cut ++ zeros) ≡ take n (drop from cut) =
+    take-append-le n (drop from cut) zeros (omega (arith, length-drop from cut)) in
     let split : grain ≡ from + (grain - from) = omega arith in
     let third : drop from cut ≡ take (grain - from) (drop from (drop (sector * grain) image)) =
     ap (λ (k : ℕ). drop from (take k (drop (sector * grain) image))) split
@@ -25,7 +28,8 @@ piece_of_sector grain image_size image sector from n at long place inside fits =
     let fourth : take n (take (grain - from) (drop from (drop (sector * grain) image))) ≡ take n
     (drop from (drop (sector * grain) image)) =
     take-take n (grain - from) (drop from (drop (sector * grain) image)) (omega arith) in
-    let fifth : drop from (drop (sector * grain) image) ≡ drop at image = drop-drop from (sector * grain) image ∙ ap (λ (k : ℕ). drop k image) place in
+    let fifth : drop from (drop (sector * grain) image) ≡ drop at image = drop-drop from (sector * grain) image
+    ∙ ap (λ (k : ℕ). drop k image) place in
     ap (λ (k : ℕ). take k (drop from (sector_of grain image sector))) count
     ∙ ap (λ (l : List ℕ). take n l) first
     ∙ second
@@ -37,7 +41,8 @@ piece_of_sector grain image_size image sector from n at long place inside fits =
 pub read_fresh : (state : State) (told : Told) (sector : ℕ) (bytes : List ℕ) → IsSound state → state.told ≡ Some told
     → IsFresh told → IsRead state sector bytes → bytes ≡ sector_of state.grain told.start sector
 read_fresh state told sector bytes sound is fresh read =
-    let grain : told.grain ≡ state.grain = subst (λ (o : Option Told). IfSome o (λ t. t.grain ≡ state.grain)) is sound.told_grain in
+    let grain : told.grain ≡ state.grain = subst (λ (o : Option Told). IfSome o (λ t. t.grain ≡ state.grain)) is
+    sound.told_grain in
     let given : bytes ≡ sector_of told.grain (image_now told) sector =
     subst (λ (o : Option Told). IfSome o
     (λ t. IsTrue (t.sure sector) → bytes ≡ sector_of t.grain (image_now t) sector)) is read (fresh.sure sector) in
@@ -45,4 +50,5 @@ read_fresh state told sector bytes sound is fresh read =
     ∙ ap (λ (k : ℕ). sector_of k told.start sector) grain
 
 pub start_size : (state : State) (told : Told) → IsSound state → state.told ≡ Some told → length told.start ≡ state.size
-start_size state told sound is = subst (λ (o : Option Told). IfSome o (λ t. length t.start ≡ state.size)) is sound.told_size
+start_size state told sound is = subst (λ (o : Option Told). IfSome o (λ t. length t.start ≡ state.size)) is
+    sound.told_size

@@ -7,7 +7,8 @@ use Rattle.save_disk.specs.Trace.{Event, Write, Sync, Said, sector_cut, image_af
 use Rattle.save_disk.specs.Stops.{has_sync, synced, unsynced, HasWrite, HasNoWrite, CrashMayLeave}
 
 -- a byte of a sector is the image's
-in_sector : (grain : ℕ) (xs : List ℕ) (sector k : ℕ) → k < grain → get_or (sector_cut grain xs sector) k 0 ≡ get_or xs (sector * grain + k) 0
+in_sector : (grain : ℕ) (xs : List ℕ) (sector k : ℕ) → k < grain
+    → get_or (sector_cut grain xs sector) k 0 ≡ get_or xs (sector * grain + k) 0
 in_sector grain xs sector k h = get_or-take grain (drop (sector * grain) xs) k 0 h ∙ get_or-drop (sector * grain) xs k 0
 
 -- images of one length whose sectors agree are one image
@@ -30,24 +31,29 @@ pick true P x y = x
 pick false P x y = y
 
 -- what holds of the whole trace holds of its parts
-pub in_unsynced : (events : List Event) (sector : ℕ) (bytes : List ℕ) → HasWrite (unsynced events) sector bytes → HasWrite events sector bytes
+pub in_unsynced : (events : List Event) (sector : ℕ) (bytes : List ℕ) → HasWrite (unsynced events) sector bytes
+    → HasWrite events sector bytes
 in_unsynced [] sector bytes has = has
 in_unsynced (event ∷ events) sector bytes has =
     pick (has_sync (event ∷ events)) (λ l. HasWrite l sector bytes → HasWrite (event ∷ events) sector bytes)
     (λ h. inr (in_unsynced events sector bytes h)) (λ h. h) has
 
-pub in_synced : (events : List Event) (sector : ℕ) (bytes : List ℕ) → HasWrite (synced events) sector bytes → HasWrite events sector bytes
+pub in_synced : (events : List Event) (sector : ℕ) (bytes : List ℕ) → HasWrite (synced events) sector bytes
+    → HasWrite events sector bytes
 in_synced [] sector bytes has = has
 in_synced (event ∷ events) sector bytes has =
     pick (has_sync (event ∷ events)) (λ l. HasWrite l sector bytes → HasWrite (event ∷ events) sector bytes)
     (λ h. ⊎_elim (λ e. inl e) (λ later. inr (in_synced events sector bytes later)) h) (λ h. absurd h) has
 
 -- events without a write leave an image as it is
-pub image_unwritten : (grain : ℕ) (image : List ℕ) (events : List Event) → HasNoWrite events → image_after grain image events ≡ image
+pub image_unwritten : (grain : ℕ) (image : List ℕ) (events : List Event) → HasNoWrite events
+    → image_after grain image events ≡ image
 image_unwritten grain image [] none = refl
 image_unwritten grain image (Write sector bytes ∷ events) none = absurd (none sector bytes (inl refl))
-image_unwritten grain image (Sync ∷ events) none = image_unwritten grain image events (λ sector bytes has. none sector bytes (inr has))
-image_unwritten grain image (Said said ∷ events) none = image_unwritten grain image events (λ sector bytes has. none sector bytes (inr has))
+image_unwritten grain image (Sync ∷ events) none = image_unwritten grain image events
+    (λ sector bytes has. none sector bytes (inr has))
+image_unwritten grain image (Said said ∷ events) none = image_unwritten grain image events
+    (λ sector bytes has. none sector bytes (inr has))
 
 -- a stop leaves a trace without a write as it began
 pub unwritten_leaves : (grain : ℕ) (start : List ℕ) (events : List Event) (image : List ℕ) → 1 ≤ grain

@@ -14,7 +14,8 @@ unfolding all_below
 all_below-at test zero x all below = absurd (omega (arith, below))
 all_below-at test (suc n) x all below =
     let both = and_split (test n) (all_below test n) all in
-    ⊎_elim (λ (lower : x < n). all_below-at test n x both.1 lower) (λ (top : n ≤ x). let same : x ≡ n = omega arith in rw same both.0) (cases_lt x n)
+    ⊎_elim (λ (lower : x < n). all_below-at test n x both.1 lower)
+    (λ (top : n ≤ x). let same : x ≡ n = omega arith in rw same both.0) (cases_lt x n)
   where
     and_split : (a b : Bool) → IsTrue (a && b) → IsTrue a × IsTrue b
     and_split true b h = (refl, h)
@@ -25,11 +26,13 @@ unfolding all_below
 all_below-all test zero each = refl
 all_below-all test (suc n) each = rw (each n (omega arith)) (all_below-all test n (λ x below. each x (omega arith)))
 
-sure_at : (size : ℕ) (o : Option Told) (told : Told) (x : ℕ) → o ≡ Some told → IsTrue (is_sure size o) → x < size → IsTrue (told.sure (x / told.grain))
+sure_at : (size : ℕ) (o : Option Told) (told : Told) (x : ℕ) → o ≡ Some told → IsTrue (is_sure size o) → x < size
+    → IsTrue (told.sure (x / told.grain))
 sure_at size o told x is sure below = all_below-at (λ y. told.sure (y / told.grain)) size x (rw is at sure) below
 
 -- where each read is told, so is the read of a byte
-pub tells-sure : (state : State) (told : Told) (x : ℕ) → state.told ≡ Some told → IsTrue (tells state) → x < state.size → IsTrue (told.sure (x / told.grain))
+pub tells-sure : (state : State) (told : Told) (x : ℕ) → state.told ≡ Some told → IsTrue (tells state) → x < state.size
+    → IsTrue (told.sure (x / told.grain))
 tells-sure state told x is sure below = sure_at state.size state.told told x is sure below
 
 -- a disk that tells each read tells its trace
@@ -39,19 +42,24 @@ tells-told (Some told) size sure = (told, refl)
 
 -- a trace that has no event yet tells each read
 pub fresh_tells : (state : State) (told : Told) → state.told ≡ Some told → IsFresh told → IsTrue (tells state)
-fresh_tells state told is fresh = rw is (all_below-all (λ x. told.sure (x / told.grain)) state.size (λ x below. fresh.sure (x / told.grain)))
+fresh_tells state told is fresh =
+    rw is (all_below-all (λ x. told.sure (x / told.grain)) state.size (λ x below. fresh.sure (x / told.grain)))
 
 pub told_grain : (state : State) (told : Told) → IsSound state → state.told ≡ Some told → told.grain ≡ state.grain
 told_grain state told sound is = subst (λ (o : Option Told). IfSome o (λ t. t.grain ≡ state.grain)) is sound.told_grain
 
 -- each write that is told is of a whole sector that begins inside the image
-pub told_writes : (state : State) (told : Told) → IsSound state → state.told ≡ Some told → EachWrite (Fits told.grain (length told.start)) told.events
-told_writes state told sound is = subst (λ (o : Option Told). IfSome o (λ t. EachWrite (Fits t.grain (length t.start)) t.events)) is sound.told_writes
+pub told_writes : (state : State) (told : Told) → IsSound state → state.told ≡ Some told
+    → EachWrite (Fits told.grain (length told.start)) told.events
+told_writes state told sound is =
+    subst (λ (o : Option Told). IfSome o (λ t. EachWrite (Fits t.grain (length t.start)) t.events)) is sound.told_writes
 
 -- the image has at each moment the disk's length
-pub now_size : (state : State) (told : Told) → IsSound state → state.told ≡ Some told → length (image_now told) ≡ state.size
+pub now_size : (state : State) (told : Told) → IsSound state → state.told ≡ Some told
+    → length (image_now told) ≡ state.size
 now_size state told sound is =
-    let size : length told.start ≡ state.size = subst (λ (o : Option Told). IfSome o (λ t. length t.start ≡ state.size)) is sound.told_size in
+    let size : length told.start ≡ state.size = subst (λ (o : Option Told). IfSome o (λ t. length t.start ≡ state.size))
+    is sound.told_size in
     length-image_after told.grain told.start told.events (told_writes state told sound is) ∙ size
 
 -- a read that is told gives the sector of the image

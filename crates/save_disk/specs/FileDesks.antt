@@ -32,4 +32,11 @@ pub record StaysOpened (before after : FileDesk) : Type 0 where
   pub ended : IsEnded before → IsEnded after
 
 pub is_sound : (desk : FileDesk) → IsSound (file_state desk)
-is_sound desk = record { grain = known_grain desk.grain desk.is_known; size = desk.is_small; told_size = tt; told_grain = tt; told_writes = tt }
+is_sound desk = record {
+  grain = known_grain desk.grain desk.is_known;
+  size = desk.is_small;
+  told_size =
+      tt;
+  told_grain = tt;
+  told_writes = tt;
+}

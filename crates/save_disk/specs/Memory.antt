@@ -20,7 +20,8 @@ state_from memory = record {
 
 -- A call was done, or was named to fail, or its record found no memory and nothing but the counts changed. A call
 -- that is named is not done. Given are the traces that the first two leave.
-pub record Ends {T E : Type 0} (call : Call) (done : T → Told) (failed : Told) (before after : Memory) (result : Result T E) : Type 0 where
+pub record Ends {T E : Type 0} (call : Call) (done : T → Told) (failed : Told) (before after : Memory)
+    (result : Result T E) : Type 0 where
   pub ok : IfOk result (λ value. after ≡ record { trace = done value; log = listed call before.log })
   pub err : OnErr result ((IsNamed call before.log
       × (after ≡ record { trace = failed; log = faulted call (listed call before.log) })) ⊎

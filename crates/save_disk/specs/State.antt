@@ -59,7 +59,8 @@ Happens event before after = after.told ≡ option_map (then_event event) before
 
 -- the bytes are those last written to the sector, where its reads are told
 abbrev pub IsRead : State → ℕ → List ℕ → Type 0
-IsRead state sector bytes = IfSome state.told (λ told. IsTrue (told.sure sector) → bytes ≡ sector_of told.grain (image_now told) sector)
+IsRead state sector bytes = IfSome state.told (λ told. IsTrue (told.sure sector)
+    → bytes ≡ sector_of told.grain (image_now told) sector)
 
 -- a write that failed is an event or none, and of later reads of that sector nothing is told
 pub record WriteFails (sector : ℕ) (bytes : List ℕ) (before after : Told) : Type 0 where
@@ -71,7 +72,8 @@ pub record WriteFails (sector : ℕ) (bytes : List ℕ) (before after : Told) : 
 
 -- the trace went on as a relation says; a desk that tells nothing goes on telling nothing
 abbrev pub GoesOn : (Told → Told → Type 0) → State → State → Type 0
-GoesOn R before after = MatchOption before.told (after.told ≡ None) (λ told. (next : Told) × (after.told ≡ Some next) × R told next)
+GoesOn R before after = MatchOption before.told (after.told ≡ None)
+    (λ told. (next : Told) × (after.told ≡ Some next) × R told next)
 
 -- the same, of a disk that tells its trace
 abbrev pub Goes : (Told → Told → Type 0) → State → State → Type 0

@@ -7,13 +7,15 @@ use Rattle.save_disk.specs.Keeps.{HoldsAll, Agree, EachStop}
 -- one sector of zeros, written with ones and then with twos
 abbrev pub LeavesEitherWrite : ℕ → Type 0
 LeavesEitherWrite grain =
-    (left : List ℕ) → CrashMayLeave grain (replicate grain 0) (Write 0 (replicate grain 1) ∷ Write 0 (replicate grain 2) ∷ []) left
+    (left : List ℕ) → CrashMayLeave grain (replicate grain 0)
+    (Write 0 (replicate grain 1) ∷ Write 0 (replicate grain 2) ∷ []) left
     ↔ ((left ≡ replicate grain 0) ⊎ ((left ≡ replicate grain 1) ⊎ (left ≡ replicate grain 2)))
 
 -- the same with a sync between
 abbrev pub LeavesSyncedOrLater : ℕ → Type 0
 LeavesSyncedOrLater grain =
-    (left : List ℕ) → CrashMayLeave grain (replicate grain 0) (Write 0 (replicate grain 1) ∷ Sync ∷ Write 0 (replicate grain 2) ∷ []) left
+    (left : List ℕ) → CrashMayLeave grain (replicate grain 0)
+    (Write 0 (replicate grain 1) ∷ Sync ∷ Write 0 (replicate grain 2) ∷ []) left
     ↔ ((left ≡ replicate grain 1) ⊎ (left ≡ replicate grain 2))
 
 -- a sector and three bytes more, of which the second sector is written with sevens

@@ -49,12 +49,14 @@ until_sync (event ∷ events) (suc n) = event ∷ until_sync events (if is_sync 
 abbrev pub IsVersion : ℕ → List ℕ → List Event → ℕ → List ℕ → Type 0
 IsVersion grain start events sector piece =
     (piece ≡ sector_cut grain (image_after grain start (synced events)) sector)
-    ⊎ ((bytes : List ℕ) × HasWrite (unsynced events) sector bytes × (piece ≡ take (length start - sector * grain) bytes))
+    ⊎ ((bytes : List ℕ) × HasWrite (unsynced events) sector bytes
+    × (piece ≡ take (length start - sector * grain) bytes))
 
 -- each sector of the image is one of its versions
 pub record CrashMayLeave (grain : ℕ) (start : List ℕ) (events : List Event) (image : List ℕ) : Type 0 where
   pub size : length image ≡ length start
-  pub sectors : (sector : ℕ) → sector * grain < length start → IsVersion grain start events sector (sector_cut grain image sector)
+  pub sectors : (sector : ℕ) → sector * grain < length start
+      → IsVersion grain start events sector (sector_cut grain image sector)
 
 -- no event is a write
 abbrev pub HasNoWrite : List Event → Type 0
@@ -66,4 +68,5 @@ AtEachMoment P events = (moment : ℕ) → P (take moment events)
 
 -- since then there were such events, and nothing else
 abbrev pub Since : (List Event → Type 0) → Told → Option Told → Type 0
-Since P before after = (events : List Event) × P events × (after ≡ Some (record before { events = before.events ++ events }))
+Since P before after = (events : List Event) × P events
+    × (after ≡ Some (record before { events = before.events ++ events }))

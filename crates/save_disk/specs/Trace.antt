@@ -28,11 +28,13 @@ sector_cut grain image sector = take grain (drop (sector * grain) image)
 
 -- a whole sector: after the image's end it has zeros
 abbrev pub sector_of : ℕ → List ℕ → ℕ → List ℕ
-sector_of grain image sector = sector_cut grain image sector ++ replicate (grain - length (sector_cut grain image sector)) 0
+sector_of grain image sector = sector_cut grain image sector ++ replicate
+    (grain - length (sector_cut grain image sector)) 0
 
 -- the image with other bytes in a sector: what lies past its end is not kept
 unfoldable pub with_sector : ℕ → List ℕ → ℕ → List ℕ → List ℕ
-with_sector grain image sector bytes = take (sector * grain) image ++ take (length image - sector * grain) bytes ++ drop (sector * grain + grain) image
+with_sector grain image sector bytes = take (sector * grain) image ++ take (length image - sector * grain) bytes ++ drop
+    (sector * grain + grain) image
 
 -- the image with all writes of the events
 abbrev pub image_after : ℕ → List ℕ → List Event → List ℕ

@@ -19,7 +19,8 @@ fresh grain image source = record { start = image; grain = grain; events = []; l
 
 -- there is room for one more event, which says so many bytes
 abbrev pub HasRoom : ℕ → Trace → Type 0
-HasRoom n trace = (vec_len trace.events < vec_capacity trace.events) × (vec_len trace.said + n ≤ vec_capacity trace.said)
+HasRoom n trace = (vec_len trace.events < vec_capacity trace.events)
+    × (vec_len trace.said + n ≤ vec_capacity trace.said)
 
 -- that many bytes of the source are gone
 abbrev pub heard : ℕ → Told → Told

@@ -4,7 +4,8 @@ use Rattle.save_disk.specs.declared.window.Window.{Window}
 
 -- each byte that the window has is the file's
 abbrev pub IsOf : List ℕ → Window → Type 0
-IsOf file window = (x : ℕ) → window.at ≤ x → x < window.at + window.held → slice_index window.bytes (x - window.at) ≡ slice_index file x
+IsOf file window = (x : ℕ) → window.at ≤ x → x < window.at + window.held
+    → slice_index window.bytes (x - window.at) ≡ slice_index file x
 
 -- the window has each of the n bytes from a place on
 pub record Has (at n : ℕ) (window : Window) : Type 0 where

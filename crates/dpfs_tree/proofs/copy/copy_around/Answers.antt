@@ -21,7 +21,8 @@ returns-clause-copied g c = λ told.
     IfDone-both (result_err c.copy_range-2.result)
     (λ (next : IsCopied now.cells (c.args.from + behind) (c.args.to + behind) (c.args.len - behind) new.cells).
     λ (stays : StaysBut now.shape.size (c.args.to + behind) (c.args.len - behind) now.cells new.cells).
-    copied_around old.cells now.cells new.cells old.shape.size c.args.from c.args.to c.args.len copies.from_inside copies.to_inside
+    copied_around old.cells now.cells new.cells old.shape.size c.args.from c.args.to c.args.len copies.from_inside
+    copies.to_inside
     copies.apart c.args.skipped c.args.n c.requires.inside (first.copied told) (first.writes.others told) next
     (λ x below. stays x (omega (arith, below, size))))
     (c.copy_range-2.ensures.copied told_now) (c.copy_range-2.ensures.writes.others told_now)
@@ -31,7 +32,8 @@ returns-clause-writes g c =
     let space = g.S.Space in
     let behind : ℕ = c.args.skipped + c.args.n in
     writes_both space.state space.keeps space.lands g.met.S.Space.keeps_join (IsWithin c.args.to c.args.skipped)
-    (IsWithin (c.args.to + behind) (c.args.len - behind)) (IsWithin c.args.to c.args.len) c.args.base.now c.copy_range.new.base
+    (IsWithin (c.args.to + behind) (c.args.len - behind)) (IsWithin c.args.to c.args.len) c.args.base.now
+    c.copy_range.new.base
     c.copy_range-2.new.base (result_err c.copy_range-2.result)
     (λ x there. (there.0, omega (arith, there.1, c.requires.inside)))
     (within_part c.args.to c.args.len behind (c.args.len - behind) (omega (arith, c.requires.inside)))

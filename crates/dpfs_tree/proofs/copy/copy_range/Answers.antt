@@ -19,11 +19,14 @@ loop-done-preserved g c =
       within = fits;
       copied = λ told.
           (let now_told = before.writes.space.told told in
-          copied_more old.cells (space.state c.loop-done.base).cells (space.state c.copy_few.new.base).cells old.shape.size c.args.from
-          c.args.to c.args.n c.requires.from_inside c.requires.to_inside c.requires.apart done part fits (before.copied told)
+          copied_more old.cells (space.state c.loop-done.base).cells (space.state c.copy_few.new.base).cells
+          old.shape.size c.args.from
+          c.args.to c.args.n c.requires.from_inside c.requires.to_inside c.requires.apart done part fits
+          (before.copied told)
           (before.writes.others told) (step.copied now_told)
           (λ x below out. step.writes.others now_told x (omega (arith, below, size)) out));
       writes = writes_both space.state space.keeps space.lands g.met.S.Space.keeps_join (IsWithin c.args.to c.args.n)
-          (IsWithin (c.args.to + done) part) (IsWithin c.args.to c.args.n) c.args.base.now c.loop-done.base c.copy_few.new.base None
+          (IsWithin (c.args.to + done) part) (IsWithin c.args.to c.args.n) c.args.base.now c.loop-done.base
+          c.copy_few.new.base None
           (λ x there. there) (within_part c.args.to c.args.n done part fits) before.writes step.writes;
     }

@@ -11,4 +11,5 @@ returns-in-Ok-clause-writes g c =
     writes_both space.state space.keeps space.lands g.met.S.Space.keeps_join (IsWithin c.args.to c.args.len)
     (IsWithin (c.args.to + c.args.skipped) n) (IsWithin c.args.to c.args.len) c.args.base.now c.copy_around.new.base
     c.put_bytes-in-Ok.new.base (result_err c.put_bytes-in-Ok.result) (λ x there. there)
-    (within_part c.args.to c.args.len c.args.skipped n c.requires.inside) c.in-Ok.ensures.writes c.put_bytes-in-Ok.ensures.writes
+    (within_part c.args.to c.args.len c.args.skipped n c.requires.inside) c.in-Ok.ensures.writes
+    c.put_bytes-in-Ok.ensures.writes

@@ -6,7 +6,8 @@ use Rattle.dpfs_tree.specs.SameLaws.{in_copy}
 use Rattle.dpfs_tree.proofs.places.level3_place.Goals as goal
 
 pub level3_copy-requires-clause-block : goal.level3_copy-requires-clause-block
-level3_copy-requires-clause-block g c = block_below c.args.at c.args.difi.now.dpfs3.size c.args.difi.now.dpfs3.log c.requires.inside
+level3_copy-requires-clause-block g c = block_below c.args.at c.args.difi.now.dpfs3.size c.args.difi.now.dpfs3.log
+    c.requires.inside
 
 pub overflow_add-result : goal.overflow_add-result
 overflow_add-result g c =

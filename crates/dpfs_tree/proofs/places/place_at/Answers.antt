@@ -7,7 +7,8 @@ use Rattle.dpfs_tree.proofs.places.place_at.Goals as goal
 
 pub returns-then-at-difi-clause-place : goal.returns-then-at-difi-clause-place
 returns-then-at-difi-clause-place g c = λ told.
-    place_of-external (bytes_of (g.S.Space.state c.args.base.now).cells) c.args.part_at c.args.difi.now c.args.state.now c.args.at c.if-at-difi.true
+    place_of-external (bytes_of (g.S.Space.state c.args.base.now).cells) c.args.part_at c.args.difi.now c.args.state.now
+    c.args.at c.if-at-difi.true
 
 pub returns-then-at-difi-clause-in_base : goal.returns-then-at-difi-clause-in_base
 returns-then-at-difi-clause-in_base g c =

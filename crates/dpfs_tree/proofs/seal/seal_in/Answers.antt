@@ -19,16 +19,19 @@ returns-in-Ok-seal_level1 g c =
     let size = ap (λ (shape : Shape). shape.size) first.writes.space.shape in
     let writes = writes_both space.state space.keeps space.lands g.met.S.Space.keeps_join
     (SealsLevel2 (bytes_of old.cells) c.args.part_at difi state) (SealsLevel1 c.args.part_at difi state.selector)
-    (SealWrites (bytes_of old.cells) c.args.part_at difi state) c.args.base.now c.seal_level2.new.base c.seal_level1.new.base None
+    (SealWrites (bytes_of old.cells) c.args.part_at difi state) c.args.base.now c.seal_level2.new.base
+    c.seal_level1.new.base None
     (λ x site. inr site) (λ x site. inl site) first.writes second.writes in
     record {
       selector = ap (λ s. 1 - s) c.selector.ensures;
       chosen_bytes = λ told.
           (let told_mid = first.writes.space.told told in
-          rw c.selector.ensures (seal_chosen old.shape c.args.part_at difi state c.requires.tree old.cells mid.cells new.cells
+          rw c.selector.ensures
+          (seal_chosen old.shape c.args.part_at difi state c.requires.tree old.cells mid.cells new.cells
           (first.writes.others told) (λ x inside off. second.writes.others told_mid x (omega (arith, inside, size)) off)
           (first.sealed told) (second.sealed told_mid)));
-      shown = seal_kept space.state space.keeps space.lands c.args.base.now c.seal_level1.new.base c.args.part_at difi state None
+      shown = seal_kept space.state space.keeps space.lands c.args.base.now c.seal_level1.new.base c.args.part_at difi
+          state None
           c.requires.tree writes;
       writes = writes;
     }
@@ -42,12 +45,14 @@ returns-in-Err-seal_level1 g c =
     let refusal = Some c.in-Err-seal_level1.bad in
     let writes = writes_both space.state space.keeps space.lands g.met.S.Space.keeps_join
     (SealsLevel2 (bytes_of old.cells) c.args.part_at difi state) (SealsLevel1 c.args.part_at difi state.selector)
-    (SealWrites (bytes_of old.cells) c.args.part_at difi state) c.args.base.now c.seal_level2.new.base c.seal_level1.new.base refusal
+    (SealWrites (bytes_of old.cells) c.args.part_at difi state) c.args.base.now c.seal_level2.new.base
+    c.seal_level1.new.base refusal
     (λ x site. inr site) (λ x site. inl site) c.in-Ok.ensures.writes c.in-Err-seal_level1.ensures.writes in
     record {
       selector = tt;
       chosen_bytes = λ told. tt;
-      shown = seal_kept space.state space.keeps space.lands c.args.base.now c.seal_level1.new.base c.args.part_at difi state refusal
+      shown = seal_kept space.state space.keeps space.lands c.args.base.now c.seal_level1.new.base c.args.part_at difi
+          state refusal
           c.requires.tree writes;
       writes = writes;
     }

@@ -21,7 +21,8 @@ returns-clause-sealed g c = λ told.
     IfDone-map (result_err c.turn_block.result)
     (λ (turned : IsTurned (has_mark c.bits_in.result state) old.cells from to difi.dpfs1.size 0 words new.cells).
     level1_sealed old.shape c.args.part_at difi state c.requires.tree old.cells new.cells from to words
-    (rw c.selector-selector.ensures at c.copy_start-from.ensures) (rw c.selector-selector.ensures at c.copy_start-to.ensures)
+    (rw c.selector-selector.ensures at c.copy_start-from.ensures)
+    (rw c.selector-selector.ensures at c.copy_start-to.ensures)
     (c.div_ceil-words.ensures ∙ ap (λ (n : ℕ). div_ceil n 32) c.level2_blocks.ensures)
     (rw c.bits_in.ensures.value at turned.words))
     (c.turn_block.ensures.turned told)
@@ -31,7 +32,8 @@ returns-clause-writes g c =
     let space = g.S.Space in
     let size = c.args.difi.now.dpfs1.size in
     let to = c.copy_start-to.result in
-    Writes-wider space.state space.keeps space.lands (IsWithin to size) (SealsLevel1 c.args.part_at c.args.difi.now c.args.state.now.selector)
+    Writes-wider space.state space.keeps space.lands (IsWithin to size)
+    (SealsLevel1 c.args.part_at c.args.difi.now c.args.state.now.selector)
     c.args.base.now c.turn_block.new.base (result_err c.turn_block.result)
     (λ told x inside within. (
       x - to,

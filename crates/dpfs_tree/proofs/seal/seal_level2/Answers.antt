@@ -18,7 +18,8 @@ returns-in-Err-clause-writes g c =
     (SealsLevel2 (bytes_of old.cells) c.args.part_at difi state)
     (SealsBlock (bytes_of now.cells) c.args.part_at difi state c.loop-block.block) c.args.base.now c.loop-block.base
     c.seal_touched.new.base (Some c.in-Err.bad)
-    (λ told x inside site. block_site old.shape c.args.part_at difi state c.requires.tree old.cells now.cells c.loop-block.block
+    (λ told x inside site. block_site old.shape c.args.part_at difi state c.requires.tree old.cells now.cells
+    c.loop-block.block
     (before.writes.others told) x site) before.writes c.in-Err.ensures.writes
 
 pub loop-block-preserved : goal.loop-block-preserved
@@ -35,13 +36,17 @@ loop-block-preserved g c =
       within = omega (arith, c.loop-block-test.true, c.level2_blocks.ensures);
       sealed = λ told.
           (let told_now = before.writes.space.told told in
-          sealed_more old.shape c.args.part_at difi state c.requires.tree old.cells now.cells new.cells c.loop-block.block
-          (before.writes.others told) (λ x inside off. c.in-Ok.ensures.writes.others told_now x (omega (arith, inside, size)) off)
+          sealed_more old.shape c.args.part_at difi state c.requires.tree old.cells now.cells new.cells
+          c.loop-block.block
+          (before.writes.others told)
+          (λ x inside off. c.in-Ok.ensures.writes.others told_now x (omega (arith, inside, size)) off)
           (before.sealed told) (c.in-Ok.ensures.sealed told_now));
       writes = Writes-then space.state space.keeps space.lands g.met.S.Space.keeps_join
           (SealsLevel2 (bytes_of old.cells) c.args.part_at difi state)
-          (SealsBlock (bytes_of now.cells) c.args.part_at difi state c.loop-block.block) c.args.base.now c.loop-block.base
+          (SealsBlock (bytes_of now.cells) c.args.part_at difi state c.loop-block.block) c.args.base.now
+          c.loop-block.base
           c.seal_touched.new.base None
-          (λ told x inside site. block_site old.shape c.args.part_at difi state c.requires.tree old.cells now.cells c.loop-block.block
+          (λ told x inside site. block_site old.shape c.args.part_at difi state c.requires.tree old.cells now.cells
+          c.loop-block.block
           (before.writes.others told) x site) before.writes c.in-Ok.ensures.writes;
     }

@@ -32,7 +32,9 @@ returns-clause-writes g c =
     let space = g.S.Space in
     let len : length c.set_u32.new.bytes ≡ 4 = grind (arith, common_steps, c.set_u32.auto.bytes) in
     let refusal = result_err c.put_bytes.result in
-    let writes = subst (λ (n : ℕ). Writes space.state space.keeps space.lands (IsWithin c.args.at n) c.space_u32.new.space
+    let writes = subst (λ (n : ℕ). Writes space.state space.keeps space.lands (IsWithin c.args.at n)
+    c.space_u32.new.space
     c.put_bytes.new.base refusal) len c.put_bytes.ensures.writes in
-    writes_after space.state space.keeps space.lands g.met.S.Space.keeps_join g.met.S.Space.keeps_hold (IsWithin c.args.at 4)
+    writes_after space.state space.keeps space.lands g.met.S.Space.keeps_join g.met.S.Space.keeps_hold
+    (IsWithin c.args.at 4)
     c.args.base.now c.space_u32.new.space c.put_bytes.new.base refusal c.in-Ok.ensures.reads writes

@@ -22,15 +22,20 @@ loop-done-preserved g c =
       within = omega (arith, c.loop-done-test.true);
       turned = λ told.
           (let told_now = before.writes.space.told told in
-          turned_more flags old.cells now new old.shape.size at c.args.first c.args.count done inside c.loop-done-test.true
-          (λ x below out. step.writes.others told_now x (omega (arith, below, size)) out) (before.turned told) (before.waiting told)
+          turned_more flags old.cells now new old.shape.size at c.args.first c.args.count done inside
+          c.loop-done-test.true
+          (λ x below out. step.writes.others told_now x (omega (arith, below, size)) out) (before.turned told)
+          (before.waiting told)
           (rw c.mask.ensures at (step.turned told_now)));
       waiting = λ told.
           (let told_now = before.writes.space.told told in
-          waiting_less flags old.cells now new old.shape.size at c.args.first c.args.count done inside c.loop-done-test.true
+          waiting_less flags old.cells now new old.shape.size at c.args.first c.args.count done inside
+          c.loop-done-test.true
           (λ x below out. step.writes.others told_now x (omega (arith, below, size)) out) (before.waiting told));
       writes = writes_both space.state space.keeps space.lands g.met.S.Space.keeps_join (IsWithin at (4 * c.args.count))
-          (IsWithin (at + 4 * done) 4) (IsWithin at (4 * c.args.count)) c.args.base.now c.loop-done.base c.turn_word.new.base None
-          (λ x there. there) (within_part at (4 * c.args.count) (4 * done) 4 (omega (arith, c.loop-done-test.true))) before.writes
+          (IsWithin (at + 4 * done) 4) (IsWithin at (4 * c.args.count)) c.args.base.now c.loop-done.base
+          c.turn_word.new.base None
+          (λ x there. there) (within_part at (4 * c.args.count) (4 * done) 4 (omega (arith, c.loop-done-test.true)))
+          before.writes
           step.writes;
     }

@@ -7,7 +7,8 @@ use Rattle.dpfs_tree.proofs.turns.turn_words.Given as goal
 abbrev pub invariant-loop-done : goal.invariant-loop-done
 invariant-loop-done g l = record {
   within : l.done ≤ l.count;
-  turned : IsTrue (g.S.Space.state l.fn.base).told → AreTurned (g.T.Turns.flags l.turns) (g.S.Space.state l.fn.base).cells l.at l.at
+  turned : IsTrue (g.S.Space.state l.fn.base).told
+      → AreTurned (g.T.Turns.flags l.turns) (g.S.Space.state l.fn.base).cells l.at l.at
       l.first l.done (g.S.Space.state l.base).cells;
   waiting : IsTrue (g.S.Space.state l.fn.base).told
       → AreWaiting (g.S.Space.state l.fn.base).cells l.at l.done l.count (g.S.Space.state l.base).cells;

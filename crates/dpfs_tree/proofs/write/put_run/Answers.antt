@@ -7,7 +7,8 @@ pub put_piece-requires-clause-some : goal.put_piece-requires-clause-some
 put_piece-requires-clause-some g c =
     let run = run_of-is c.args.difi.now c.args.at c.requires.view in
     let n = c.min-run.result in
-    let len : length (take n c.args.bytes.now) ≡ n = length-take-le n c.args.bytes.now (omega (arith, c.min-run.ensures)) in
+    let len : length (take n c.args.bytes.now) ≡ n = length-take-le n c.args.bytes.now
+    (omega (arith, c.min-run.ensures)) in
     omega (arith, len, c.min-run.ensures, c.run_at.ensures, run.some, c.requires.some)
 
 pub returns-in-Ok-clause-count : goal.returns-in-Ok-clause-count

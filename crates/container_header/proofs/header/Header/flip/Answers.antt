@@ -34,4 +34,5 @@ pub returns-clause-active : goal.returns-clause-active
 returns-clause-active c = ap active_at (returns-clause-flipped c) ∙ active_at-flipped c.args.self.now c.args.hash.now
 
 pub returns-clause-inactive : goal.returns-clause-inactive
-returns-clause-inactive c = ap inactive_at (returns-clause-flipped c) ∙ inactive_at-flipped c.args.self.now c.args.hash.now
+returns-clause-inactive c = ap inactive_at (returns-clause-flipped c)
+    ∙ inactive_at-flipped c.args.self.now c.args.hash.now

@@ -24,6 +24,15 @@ returns c =
     ⊎_elim
     (λ (below : from + j < length touched).
     c.loop-block.invariant (from + j) (omega arith)
-    (omega (arith, below, less, c.loop-block-test.false, c.min-end.ensures, c.saturating_add.ensures, c.len.ensures, c.len.type_inv)))
+    (omega (
+      arith,
+      below,
+      less,
+      c.loop-block-test.false,
+      c.min-end.ensures,
+      c.saturating_add.ensures,
+      c.len.ensures,
+      c.len.type_inv,
+    )))
     (λ (past : length touched ≤ from + j). get_or_past touched (from + j) _ past)
     (cases_lt (from + j) (length touched))))

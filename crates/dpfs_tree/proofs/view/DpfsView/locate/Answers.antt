@@ -10,4 +10,5 @@ returns-clause-reads g c =
     let view = c.args.self.now in
     let tree = shown_tree space.state g.met.S.Space.size_fits view c.requires.inside.sound in
     contents_read space.state space.keeps space.lands view _ (result_err c.locate.result)
-    (record { same_base = refl; same_place = refl; same_difi = refl; same_state = refl; marks = refl; selector = refl }) refl tree c.locate.ensures.reads
+    (record { same_base = refl; same_place = refl; same_difi = refl; same_state = refl; marks = refl; selector = refl })
+    refl tree c.locate.ensures.reads

@@ -22,4 +22,5 @@ returns-clause-spares g c =
     writes_spare space.state space.keeps space.lands view.part_at view.difi.now view.state.now.selector
     (SealWrites (bytes_of base.cells) view.part_at view.difi.now view.state.now) view.base.now c.seal_in.new.base
     (result_err c.seal_in.result)
-    (seal_spares base.shape view.part_at view.difi.now view.state.now tree (bytes_of base.cells)) c.seal_in.ensures.writes
+    (seal_spares base.shape view.part_at view.difi.now view.state.now tree (bytes_of base.cells))
+    c.seal_in.ensures.writes

@@ -12,7 +12,8 @@ piece-requires-clause-inside g c =
     let view = c.args.self.now in
     let tree = shown_tree states g.met.S.Space.size_fits view c.requires.inside.sound in
     let run = c.in-Ok.run' in
-    run_inside (states view.base.now) view.part_at view.difi.now view.state.now c.args.at (states c.locate.new.self.base.now) c.args.most
+    run_inside (states view.base.now) view.part_at view.difi.now view.state.now c.args.at
+    (states c.locate.new.self.base.now) c.args.most
     run.0 run.1 c.in-Ok.ensures.located c.in-Ok.ensures.base.stays tree.sound
 
 pub returns : goal.returns
@@ -27,7 +28,8 @@ returns g c =
     let first = c.in-Ok.ensures in
     let same = first.reads.frame.0 in
     let run = c.in-Ok.run' in
-    let reads = Reads-join space.state space.keeps space.lands g.met.S.Space.keeps_join view.base.now mid.base.now last refusal first.base
+    let reads = Reads-join space.state space.keeps space.lands g.met.S.Space.keeps_join view.base.now mid.base.now last
+    refusal first.base
     c.piece.follows.holds-at-none in (
       (
         refl,
@@ -44,7 +46,8 @@ returns g c =
             first.reads.frame.1 tree reads,
       ),
       record {
-        piece = view_piece base view.part_at view.difi.now view.state.now c.args.at (space.state mid.base.now) c.args.most
+        piece = view_piece base view.part_at view.difi.now view.state.now c.args.at (space.state mid.base.now)
+            c.args.most
             run.0 run.1 first.located first.base.stays tree.plain c.piece.result c.piece.ensures.piece;
         after = tt;
       },

@@ -10,16 +10,19 @@ use Rattle.dpfs_tree.proofs.ViewLemmas.{view_puts, view_moves}
 use Rattle.dpfs_tree.proofs.view.DpfsViewSpace.put.Goals as goal
 
 pub put_in-requires-clause-tree : goal.put_in-requires-clause-tree
-put_in-requires-clause-tree g c = shown_tree g.S.Space.state g.met.S.Space.size_fits c.args.self.now c.requires.inside.sound
+put_in-requires-clause-tree g c = shown_tree g.S.Space.state g.met.S.Space.size_fits c.args.self.now
+    c.requires.inside.sound
 
 pub put_in-requires-clause-made : goal.put_in-requires-clause-made
-put_in-requires-clause-made g c = shown_made g.S.Space.state g.met.S.Space.size_fits c.args.self.now c.requires.inside.sound
+put_in-requires-clause-made g c = shown_made g.S.Space.state g.met.S.Space.size_fits c.args.self.now
+    c.requires.inside.sound
 
 pub returns-clause-ready : goal.returns-clause-ready
 returns-clause-ready g c = λ can.
     let plain = (shown_tree g.S.Space.state g.met.S.Space.size_fits c.args.self.now c.requires.inside.sound).plain in
     IsReady-told _ c.args.at (length c.args.bytes.now) (result_err c.put_in.result)
-    (bytes_ready _ c.args.at (length c.args.bytes.now) (λ told x. g.met.S.Space.plain_bytes c.args.self.now.base.now plain told _))
+    (bytes_ready _ c.args.at (length c.args.bytes.now) (λ told x.
+    g.met.S.Space.plain_bytes c.args.self.now.base.now plain told _))
     c.put_in.ensures.writes.plain
 
 pub returns-clause-puts : goal.returns-clause-puts
@@ -28,8 +31,20 @@ returns-clause-puts g c =
     let marks = c.put_in.ensures.marks in
     let tree = shown_tree g.S.Space.state g.met.S.Space.size_fits view c.requires.inside.sound in
     view_puts g.S.Space.state g.S.Space.keeps g.S.Space.lands view
-    (record view { base = record view.base { now = c.put_in.new.base }; state = record view.state { now = c.put_in.new.state } })
-    (record { same_base = refl; same_place = refl; same_difi = refl; same_state = refl; marks = marks.marks; selector = marks.selector })
+    (record view {
+      base = record view.base { now = c.put_in.new.base };
+      state =
+          record view.state { now = c.put_in.new.state };
+    })
+    (record {
+      same_base = refl;
+      same_place = refl;
+      same_difi = refl;
+      same_state = refl;
+      marks = marks.marks;
+      selector =
+          marks.selector;
+    })
     tree c.args.at c.args.bytes.now (result_err c.put_in.result) c.put_in.ensures
     (λ told x. g.met.S.Space.plain_bytes view.base.now tree.plain told x)
 
@@ -37,8 +52,17 @@ pub returns-clause-moves : goal.returns-clause-moves
 returns-clause-moves g c =
     let marks = c.put_in.ensures.marks in
     view_moves g.S.Space.state g.S.Space.keeps g.S.Space.lands c.args.self.now _
-    (record { same_base = refl; same_place = refl; same_difi = refl; same_state = refl; marks = marks.marks; selector = marks.selector })
-    (shown_tree g.S.Space.state g.met.S.Space.size_fits c.args.self.now c.requires.inside.sound) c.args.at c.args.bytes.now
+    (record {
+      same_base = refl;
+      same_place = refl;
+      same_difi = refl;
+      same_state = refl;
+      marks = marks.marks;
+      selector =
+          marks.selector;
+    })
+    (shown_tree g.S.Space.state g.met.S.Space.size_fits c.args.self.now c.requires.inside.sound) c.args.at
+    c.args.bytes.now
     (result_err c.put_in.result) c.put_in.ensures
 
 pub returns-clause-spares : goal.returns-clause-spares

@@ -6,7 +6,8 @@ use Rattle.save_disk.proofs.trace.Trace.write.Goals as goal
 pub invariant_of-self-clause-is_written : goal.invariant_of-self-clause-is_written
 invariant_of-self-clause-is_written c =
     let s = c.args.self.now in
-    written_more s.grain s.start.items s.image.items _ s.events.items _ _ s.is_written c.add.ensures (let long = ap length c.deref.ensures.value in cc)
+    written_more s.grain s.start.items s.image.items _ s.events.items _ _ s.is_written c.add.ensures
+    (let long = ap length c.deref.ensures.value in cc)
 
 pub invariant_of-self-clause-is_said : goal.invariant_of-self-clause-is_said
 invariant_of-self-clause-is_said c =
