@@ -9,11 +9,11 @@ use Rattle.container_header.specs.declared.header.Kind.{Kind}
 use Rattle.container_header.specs.declared.header.Kind.TheVariants.{Disa, Diff}
 use Rattle.container_header.specs.declared.header.Header.{Header}
 use Rattle.container_header.specs.Conditions.{kind_named, fields_of}
-use Rattle.container_header.specs.Fields.{bytes_at, byte_at}
-use Rattle.container_header.specs.Raw.{image_of, IsOfRaw, active_place, hash_place, other_table, flipped}
+use Rattle.container_header.specs.Fields.{header_bytes, header_byte}
+use Rattle.container_header.specs.Raw.{header_image, IsOfRaw, active_place, hash_place, other_table, flipped}
 use Rattle.save_bytes.proofs.FieldLemmas.{number_at-same}
-use Rattle.container_header.proofs.HeaderBytes.{byte_at-raw, number_at-raw, bytes_at-raw, disa_from, diff_from}
-use Rattle.container_header.proofs.HeaderRead.{raw_of-image_of}
+use Rattle.container_header.proofs.HeaderBytes.{header_byte-raw, number_at-raw, header_bytes-raw, disa_from, diff_from}
+use Rattle.container_header.proofs.HeaderRead.{raw_of-header_image}
 
 -- one byte written, as a piece of one
 set_byte : (raw : List ℕ) (at x : ℕ) → at < length raw → set raw at x ≡ with_bytes raw at (x ∷ [])
@@ -103,22 +103,22 @@ module _ (raw hash : List ℕ) (at place x : ℕ) (long : length raw ≡ 256) (s
 
 -- the fields of a header's bytes
 module _ (raw : List ℕ) (long : length raw ≡ 256) where
-  number_of : (n off : ℕ) → off + n ≤ 256 → number_at n (image_of raw) (256 + off) ≡ number_at n raw off
-  number_of n off fits = number_at-raw (image_of raw) n off fits
-      ∙ ap (λ (bytes : List ℕ). number_at n bytes off) (raw_of-image_of raw long)
+  number_of : (n off : ℕ) → off + n ≤ 256 → number_at n (header_image raw) (256 + off) ≡ number_at n raw off
+  number_of n off fits = number_at-raw (header_image raw) n off fits
+      ∙ ap (λ (bytes : List ℕ). number_at n bytes off) (raw_of-header_image raw long)
 
-  byte_of : (off : ℕ) → off < 256 → byte_at (image_of raw) off ≡ get_or raw off 0
-  byte_of off fits = byte_at-raw (image_of raw) off fits
-      ∙ ap (λ (bytes : List ℕ). get_or bytes off 0) (raw_of-image_of raw long)
+  byte_of : (off : ℕ) → off < 256 → header_byte (header_image raw) off ≡ get_or raw off 0
+  byte_of off fits = header_byte-raw (header_image raw) off fits
+      ∙ ap (λ (bytes : List ℕ). get_or bytes off 0) (raw_of-header_image raw long)
 
-  bytes_of : (off n : ℕ) → off + n ≤ 256 → bytes_at (image_of raw) off n ≡ take n (drop off raw)
-  bytes_of off n fits = bytes_at-raw (image_of raw) off n fits
-      ∙ ap (λ (bytes : List ℕ). take n (drop off bytes)) (raw_of-image_of raw long)
+  bytes_of : (off n : ℕ) → off + n ≤ 256 → header_bytes (header_image raw) off n ≡ take n (drop off raw)
+  bytes_of off n fits = header_bytes-raw (header_image raw) off n fits
+      ∙ ap (λ (bytes : List ℕ). take n (drop off bytes)) (raw_of-header_image raw long)
 
 -- a number all of whose bytes are as they were
 number_kept : (raw new : List ℕ) → length raw ≡ 256 → length new ≡ 256 → (n off : ℕ) → off + n ≤ 256
     → ((k : ℕ) → k < n → get_or new (off + k) 0 ≡ get_or raw (off + k) 0)
-    → number_at n (image_of new) (256 + off) ≡ number_at n (image_of raw) (256 + off)
+    → number_at n (header_image new) (256 + off) ≡ number_at n (header_image raw) (256 + off)
 number_kept raw new long new_long n off fits keeps = number_of new new_long n off fits
     ∙ number_at-same n new raw off off keeps ∙ sym (number_of raw long n off fits)
 
@@ -128,25 +128,27 @@ module _ (raw hash : List ℕ) (at place x : ℕ) (long : length raw ≡ 256) (s
   new_long : length (with_both raw at x place hash) ≡ 256
   new_long = both_long raw hash at place x long size apart fits
 
-  before : (n off : ℕ) → off + n ≤ at → number_at n (image_of (with_both raw at x place hash)) (256 + off)
-      ≡ number_at n (image_of raw) (256 + off)
+  before : (n off : ℕ) → off + n ≤ at → number_at n (header_image (with_both raw at x place hash)) (256 + off)
+      ≡ number_at n (header_image raw) (256 + off)
   before n off h = number_kept raw (with_both raw at x place hash) long new_long n off (omega arith)
       (λ k l. both-below raw hash at place x long size apart fits (off + k) (omega arith))
 
   behind : (n off : ℕ) → place + 32 ≤ off → off + n ≤ 256
-      → number_at n (image_of (with_both raw at x place hash)) (256 + off) ≡ number_at n (image_of raw) (256 + off)
+      → number_at n (header_image (with_both raw at x place hash)) (256 + off)
+      ≡ number_at n (header_image raw) (256 + off)
   behind n off h in_raw = number_kept raw (with_both raw at x place hash) long new_long n off in_raw
       (λ k l. both-above raw hash at place x long size apart fits (off + k) (omega arith))
 
-  new_active : byte_at (image_of (with_both raw at x place hash)) at ≡ x
+  new_active : header_byte (header_image (with_both raw at x place hash)) at ≡ x
   new_active = byte_of (with_both raw at x place hash) new_long at (omega arith)
       ∙ both-active raw hash at place x long size apart fits
 
-  new_hash : bytes_at (image_of (with_both raw at x place hash)) place 32 ≡ hash
+  new_hash : header_bytes (header_image (with_both raw at x place hash)) place 32 ≡ hash
   new_hash = bytes_of (with_both raw at x place hash) new_long place 32 fits
       ∙ both-hash raw hash at place x long size apart fits
 
-  new_front : (n : ℕ) → n ≤ at → bytes_at (image_of (with_both raw at x place hash)) 0 n ≡ bytes_at (image_of raw) 0 n
+  new_front : (n : ℕ) → n ≤ at → header_bytes (header_image (with_both raw at x place hash)) 0 n
+      ≡ header_bytes (header_image raw) 0 n
   new_front n h =
       bytes_of (with_both raw at x place hash) new_long 0 n (omega arith)
       ∙ take-with_bytes (with_bytes raw at (x ∷ [])) place hash n
@@ -157,22 +159,22 @@ module _ (raw hash : List ℕ) (at place x : ℕ) (long : length raw ≡ 256) (s
 -- the fields after a flip, of either kind
 flip_fields : (kind : Kind) (raw hash : List ℕ) (x : ℕ) → length raw ≡ 256 → length hash ≡ 32
     → let new : List ℕ = with_both raw (active_place kind) x (hash_place kind) hash in fields_of kind
-    (image_of new) ≡ record (fields_of kind (image_of raw)) { active = x; hash = hash; raw = new }
+    (header_image new) ≡ record (fields_of kind (header_image raw)) { active = x; hash = hash; raw = new }
 flip_fields Disa raw hash x long size =
     let new = with_both raw 0x68 x 0x6C hash in
-    disa_from (image_of raw) (image_of new) x hash new
+    disa_from (header_image raw) (header_image new) x hash new
     (before raw hash 0x68 0x6C x long size (lit< tt) (lit≤ tt))
     (new_active raw hash 0x68 0x6C x long size (lit< tt) (lit≤ tt))
     (new_hash raw hash 0x68 0x6C x long size (lit< tt) (lit≤ tt))
-    (raw_of-image_of new (new_long raw hash 0x68 0x6C x long size (lit< tt) (lit≤ tt)))
+    (raw_of-header_image new (new_long raw hash 0x68 0x6C x long size (lit< tt) (lit≤ tt)))
 flip_fields Diff raw hash x long size =
     let new = with_both raw 0x30 x 0x34 hash in
-    diff_from (image_of raw) (image_of new) x hash new
+    diff_from (header_image raw) (header_image new) x hash new
     (before raw hash 0x30 0x34 x long size (lit< tt) (lit≤ tt))
     (behind raw hash 0x30 0x34 x long size (lit< tt) (lit≤ tt) 8 0x54 (lit≤ tt) (lit≤ tt))
     (new_active raw hash 0x30 0x34 x long size (lit< tt) (lit≤ tt))
     (new_hash raw hash 0x30 0x34 x long size (lit< tt) (lit≤ tt))
-    (raw_of-image_of new (new_long raw hash 0x30 0x34 x long size (lit< tt) (lit≤ tt)))
+    (raw_of-header_image new (new_long raw hash 0x30 0x34 x long size (lit< tt) (lit≤ tt)))
 
 front_fits : (kind : Kind) → 8 ≤ active_place kind
 front_fits Disa = lit≤ tt

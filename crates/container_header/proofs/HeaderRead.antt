@@ -8,11 +8,11 @@ use Rattle.container_header.specs.declared.header.Kind.TheVariants.{Disa, Diff}
 use Rattle.container_header.specs.declared.header.Header.{Header}
 use Rattle.container_header.specs.declared.fault.HeaderFault.{HeaderFault}
 use Rattle.container_header.specs.declared.fault.HeaderFault.TheVariants.{NotImage, Version}
-use Rattle.container_header.specs.Fields.{word_at}
+use Rattle.container_header.specs.Fields.{header_word}
 use Rattle.container_header.specs.Conditions.{kind_of, version_of, fields_of, layout_faults, first_failing, checked}
 use Rattle.container_header.specs.Conditions.{reading_as, reading_of, reading}
 use Rattle.container_header.specs.Sound.{IsSoundHeader, IsHeaderOf}
-use Rattle.container_header.specs.Raw.{image_of, IsOfRaw}
+use Rattle.container_header.specs.Raw.{header_image, IsOfRaw}
 use Rattle.container_header.proofs.HeaderBytes.{raw_of, kind_same, version_same, fields_same}
 use Rattle.container_header.proofs.Soundness.{sound_from, sound_to}
 
@@ -20,7 +20,7 @@ use Rattle.container_header.proofs.Soundness.{sound_from, sound_to}
 pub record IsRead (bytes : List ℕ) (n : ℕ) (header : Header) : Type 0 where
   pub longer : 512 ≤ n
   pub kind_is : kind_of bytes ≡ Some header.kind
-  pub version_is : word_at bytes 0x04 ≡ version_of header.kind
+  pub version_is : header_word bytes 0x04 ≡ version_of header.kind
   pub fields_are : fields_of header.kind bytes ≡ header
   pub none_fails : first_failing 1 (layout_faults header n) ≡ None
 
@@ -43,7 +43,7 @@ reading_as-ok : (found : Option Kind) (bytes : List ℕ) (n : ℕ) (header : Hea
     → reading_as found bytes n ≡ Ok header → IsRead bytes n header
 reading_as-ok None bytes n header long is e = cc
 reading_as-ok (Some kind) bytes n header long is e =
-    let by_version = versioned (eqb (word_at bytes 0x04) (version_of kind))
+    let by_version = versioned (eqb (header_word bytes 0x04) (version_of kind))
     (checked (fields_of kind bytes) (first_failing 1 (layout_faults (fields_of kind bytes) n))) header e in
     let by_fault = checked-ok (fields_of kind bytes) header (first_failing 1 (layout_faults (fields_of kind bytes) n))
     by_version.1 in
@@ -74,8 +74,8 @@ reading_of-is bytes n header h =
     let fault : Header → Option ℕ = λ found. first_failing 1 (layout_faults found n) in
     let by_version : Bool → Header → Result Header HeaderFault = λ test found.
     cond test (checked found (fault found)) (Err Version) in
-    let known : eqb (word_at bytes 0x04) (version_of kind) ≡ true =
-    eq-eqb (word_at bytes 0x04) (version_of kind) h.version_is in
+    let known : eqb (header_word bytes 0x04) (version_of kind) ≡ true =
+    eq-eqb (header_word bytes 0x04) (version_of kind) h.version_is in
     ap (λ (test : Bool). cond test (Err NotImage) (reading_as (kind_of bytes) bytes n)) (le-ltb n 512 h.longer)
     ∙ ap (λ (found : Option Kind). reading_as found bytes n) h.kind_is
     ∙ ap (λ (test : Bool). by_version test (fields_of kind bytes)) known
@@ -86,9 +86,9 @@ behind_zeros : (n : ℕ) (xs : List ℕ) → drop n (replicate n 0 ++ xs) ≡ xs
 behind_zeros n xs = drop_at (replicate n 0) xs n (length-replicate n 0)
 
 -- the header's bytes in an image that holds them
-pub raw_of-image_of : (raw : List ℕ) → length raw ≡ 256 → raw_of (image_of raw) ≡ raw
-unfolding image_of
-raw_of-image_of raw size = ap (λ (bytes : List ℕ). take 256 bytes) (behind_zeros 256 raw)
+pub raw_of-header_image : (raw : List ℕ) → length raw ≡ 256 → raw_of (header_image raw) ≡ raw
+unfolding header_image
+raw_of-header_image raw size = ap (λ (bytes : List ℕ). take 256 bytes) (behind_zeros 256 raw)
     ∙ take_all 256 raw (omega arith)
 
 raw_kept : (kind : Kind) (bytes : List ℕ) → (fields_of kind bytes).raw ≡ raw_of bytes
@@ -104,8 +104,8 @@ read_of_raw bytes n header long e =
     ∙ raw_kept header.kind bytes in
     let size : length header.raw ≡ 256 = ap length raw
     ∙ length-take-le 256 (drop 256 bytes) (omega (arith, length-drop 256 bytes)) in
-    let held = image_of header.raw in
-    let same : raw_of held ≡ raw_of bytes = raw_of-image_of header.raw size ∙ raw in
+    let held = header_image header.raw in
+    let same : raw_of held ≡ raw_of bytes = raw_of-header_image header.raw size ∙ raw in
     record {
       size_is = size;
       kind_is = kind_same held bytes same ∙ h.kind_is;
@@ -120,8 +120,8 @@ read_sound bytes n header e = sound_from header n (reading_of-ok bytes n header 
 pub reading-raw : (header : Header) (image : List ℕ) → IsOfRaw header → 512 ≤ length image → raw_of image ≡ header.raw
     → first_failing 1 (layout_faults header (length image)) ≡ None → reading image ≡ Ok header
 reading-raw header image h long holds sound =
-    let held = image_of header.raw in
-    let same : raw_of image ≡ raw_of held = holds ∙ sym (raw_of-image_of header.raw h.size_is) in
+    let held = header_image header.raw in
+    let same : raw_of image ≡ raw_of held = holds ∙ sym (raw_of-header_image header.raw h.size_is) in
     reading_of-is image (length image) header (record {
       longer = long;
       kind_is = kind_same image held same ∙ h.kind_is;

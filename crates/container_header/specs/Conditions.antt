@@ -8,7 +8,7 @@ use Rattle.container_header.specs.declared.header.Header.{Header}
 use Rattle.container_header.specs.declared.fault.HeaderFault.{HeaderFault}
 use Rattle.container_header.specs.declared.fault.HeaderFault.TheVariants.{NotImage, Version, Layout}
 use Rattle.save_bytes.specs.Extents.{lies_inside, overlap, some_overlap}
-use Rattle.container_header.specs.Fields.{bytes_at, word_at, disa_fields, diff_fields}
+use Rattle.container_header.specs.Fields.{header_bytes, header_word, disa_fields, diff_fields}
 
 -- the kind that four bytes name: DISA or DIFF
 abbrev pub kind_named : List ℕ → Option Kind
@@ -17,7 +17,7 @@ kind_named bytes = if bytes_eq bytes (0x44 ∷ 0x49 ∷ 0x53 ∷ 0x41 ∷ []) th
 
 -- the kind that the four bytes at the header's front name
 abbrev pub kind_of : List ℕ → Option Kind
-kind_of image = kind_named (bytes_at image 0 4)
+kind_of image = kind_named (header_bytes image 0 4)
 
 abbrev pub version_of : Kind → ℕ
 version_of Disa = 0x40000
@@ -54,8 +54,8 @@ count_faults header image_length =
 
 -- 3: the active byte names a table; 4: the size of a table; 5, 6: both tables lie in the image behind its first 512
 -- bytes
-abbrev pub table_faults : Header → ℕ → List Bool
-table_faults header image_length =
+abbrev pub header_table_faults : Header → ℕ → List Bool
+header_table_faults header image_length =
     not (header.active == 0 || header.active == 1)
     ∷ (nat_lt header.table_size 0x44 || nat_lt 65536 header.table_size)
     ∷ not (lies_inside (table_at header header.primary) 512 image_length)
@@ -82,7 +82,7 @@ partition_faults header image_length =
 -- all twelve, in order
 abbrev pub layout_faults : Header → ℕ → List Bool
 layout_faults header image_length =
-    count_faults header image_length ++ table_faults header image_length ++ descriptor_faults
+    count_faults header image_length ++ header_table_faults header image_length ++ descriptor_faults
     header ++ partition_faults header image_length
 
 -- the number of the first condition that fails, where the first of the list has the number n
@@ -98,7 +98,7 @@ checked header (Some condition) = Err (Layout condition)
 abbrev pub reading_as : Option Kind → List ℕ → ℕ → Result Header HeaderFault
 reading_as None image image_length = Err NotImage
 reading_as (Some kind) image image_length =
-    if word_at image 0x04 == version_of kind then checked (fields_of kind image)
+    if header_word image 0x04 == version_of kind then checked (fields_of kind image)
     (first_failing 1 (layout_faults (fields_of kind image) image_length)) else Err Version
 
 -- the header that these bytes give an image of a length, or the first fault

@@ -4,19 +4,19 @@ use Rattle.save_bytes.specs.Fields.{with_bytes}
 use Rattle.container_header.specs.declared.header.Kind.{Kind}
 use Rattle.container_header.specs.declared.header.Kind.TheVariants.{Disa, Diff}
 use Rattle.container_header.specs.declared.header.Header.{Header}
-use Rattle.container_header.specs.Fields.{word_at}
+use Rattle.container_header.specs.Fields.{header_word}
 use Rattle.container_header.specs.Conditions.{kind_of, version_of, fields_of}
 
 -- an image's first 512 bytes that hold these bytes as its header
-unfoldable pub image_of : List ℕ → List ℕ
-image_of raw = replicate 256 0 ++ raw
+unfoldable pub header_image : List ℕ → List ℕ
+header_image raw = replicate 256 0 ++ raw
 
 -- the fields are those of the header's bytes
 pub record IsOfRaw (header : Header) : Type 0 where
   pub size_is : length header.raw ≡ 256
-  pub kind_is : kind_of (image_of header.raw) ≡ Some header.kind
-  pub version_is : word_at (image_of header.raw) 0x04 ≡ version_of header.kind
-  pub fields_are : fields_of header.kind (image_of header.raw) ≡ header
+  pub kind_is : kind_of (header_image header.raw) ≡ Some header.kind
+  pub version_is : header_word (header_image header.raw) 0x04 ≡ version_of header.kind
+  pub fields_are : fields_of header.kind (header_image header.raw) ≡ header
 
 -- where the active byte stands in the header, and where the hash of the active table begins
 abbrev pub active_place : Kind → ℕ

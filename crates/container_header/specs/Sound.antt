@@ -3,7 +3,7 @@ use Rattle.std.specs.Prelude.{◌≡◌, ℕ, ◌≤◌, List, length, Some, ◌
 use Rattle.save_bytes.specs.declared.extent.Extent.{Extent}
 use Rattle.save_bytes.specs.Extents.{LiesInside, AreApart}
 use Rattle.container_header.specs.declared.header.Header.{Header}
-use Rattle.container_header.specs.Fields.{word_at}
+use Rattle.container_header.specs.Fields.{header_word}
 use Rattle.container_header.specs.Conditions.{table_at, max_length, kind_of, version_of, fields_of}
 
 -- the offset of the table that the active byte names, and that of the other one
@@ -57,6 +57,6 @@ pub record IsSoundHeader (header : Header) (image_length : ℕ) : Type 0 where
 pub record IsHeaderOf (header : Header) (image : List ℕ) : Type 0 where
   pub longer : 512 ≤ length image
   pub kind_is : kind_of image ≡ Some header.kind
-  pub version_is : word_at image 0x04 ≡ version_of header.kind
+  pub version_is : header_word image 0x04 ≡ version_of header.kind
   pub fields_are : fields_of header.kind image ≡ header
   pub sound : IsSoundHeader header (length image)

@@ -74,7 +74,7 @@ pub struct Header {
 }
 
 impl Header {
-    ghost use Rattle.container_header.specs.Fields.{bytes_at};
+    ghost use Rattle.container_header.specs.Fields.{header_bytes};
     ghost use Rattle.container_header.specs.Conditions.{first_bytes, reading, reading_of, layout_faults, first_failing};
     ghost use Rattle.container_header.specs.Sound.{active_at, inactive_at, IsSoundHeader};
     ghost use Rattle.container_header.specs.Raw.{IsOfRaw, flipped};
@@ -121,7 +121,7 @@ impl Header {
         requires { IsOfRaw self.now }
         ensures bytes { result ≡ self.now.raw }
         // An image that holds these bytes, and whose length fits them, has this header.
-        ensures read_again { (image : List ℕ) → 512 ≤ length image → bytes_at image 0 256 ≡ result
+        ensures read_again { (image : List ℕ) → 512 ≤ length image → header_bytes image 0 256 ≡ result
             → first_failing 1 (layout_faults self.now (length image)) ≡ None → reading image ≡ Ok self.now }
     {
         self.raw

@@ -3,7 +3,7 @@
 ghost use Rattle.std.specs.Prelude.{◌≡◌, ◌||◌, ◌++◌};
 ghost use Rattle.save_bytes.specs.Extents.{overlap, some_overlap};
 ghost use Rattle.container_header.specs.Conditions.{table_at, regions, is_bad_descriptor, is_bad_partition};
-ghost use Rattle.container_header.specs.Conditions.{table_faults, descriptor_faults, partition_faults, first_failing};
+ghost use Rattle.container_header.specs.Conditions.{header_table_faults, descriptor_faults, partition_faults, first_failing};
 
 use crate::header::Header;
 use save_bytes::Extent;
@@ -55,7 +55,7 @@ impl Header {
 
     /// The first of the conditions 3 to 12 that fails, for an image of `len` bytes.
     pub(crate) fn layout_fault(&self, len: u64) -> Option<u8>
-        ensures { result ≡ first_failing 3 (table_faults self.now len ++ descriptor_faults self.now ++ partition_faults self.now len) }
+        ensures { result ≡ first_failing 3 (header_table_faults self.now len ++ descriptor_faults self.now ++ partition_faults self.now len) }
     {
         self.table_fault(len)
             .or(self.descriptor_fault())
@@ -64,7 +64,7 @@ impl Header {
 
     /// The first of the conditions 3 to 6 that fails, for an image of `len` bytes.
     fn table_fault(&self, len: u64) -> Option<u8>
-        ensures { result ≡ first_failing 3 (table_faults self.now len) }
+        ensures { result ≡ first_failing 3 (header_table_faults self.now len) }
     {
         if self.active > 1 {
             return Some(3);

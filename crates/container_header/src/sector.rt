@@ -1,7 +1,7 @@
 //! The fields of a header as they stand in the first 512 bytes of an image.
 
 ghost use Rattle.std.specs.Prelude.{◌≡◌, ◌+◌, ◌≤◌, take, drop};
-ghost use Rattle.container_header.specs.Fields.{bytes_at, word_at, extent_at, disa_fields, diff_fields};
+ghost use Rattle.container_header.specs.Fields.{header_bytes, header_word, header_extent, disa_fields, diff_fields};
 ghost use Rattle.container_header.specs.Conditions.{kind_of, version_of};
 
 use crate::header::{Header, Kind};
@@ -26,14 +26,14 @@ pub(crate) fn kind_at(sector: &[u8; 512]) -> Option<Kind>
 
 /// The version that the header has.
 pub(crate) fn version_at(sector: &[u8; 512]) -> u32
-    ensures { result ≡ word_at sector.now 0x04 }
+    ensures { result ≡ header_word sector.now 0x04 }
 {
     u32_at(sector, HEADER + 0x04)
 }
 
 /// How many partitions a DISA names.
 pub(crate) fn parts_at(sector: &[u8; 512]) -> u32
-    ensures { result ≡ word_at sector.now 0x08 }
+    ensures { result ≡ header_word sector.now 0x08 }
 {
     u32_at(sector, HEADER + 0x08)
 }
@@ -41,7 +41,7 @@ pub(crate) fn parts_at(sector: &[u8; 512]) -> u32
 /// The 32 bytes from an offset on.
 fn hash_at(sector: &[u8; 512], offset: usize) -> [u8; 32]
     requires { offset ≤ 0xE0 }
-    ensures { result ≡ bytes_at sector.now offset 32 }
+    ensures { result ≡ header_bytes sector.now offset 32 }
 {
     let mut hash = [0; 32];
     hash.copy_from_slice(&sector[HEADER + offset..HEADER + offset + 32]);
@@ -50,7 +50,7 @@ fn hash_at(sector: &[u8; 512], offset: usize) -> [u8; 32]
 
 /// The whole header.
 fn raw_at(sector: &[u8; 512]) -> [u8; 256]
-    ensures { result ≡ bytes_at sector.now 0 0x100 }
+    ensures { result ≡ header_bytes sector.now 0 0x100 }
 {
     let mut raw = [0; 256];
     raw.copy_from_slice(&sector[HEADER..]);
@@ -58,9 +58,9 @@ fn raw_at(sector: &[u8; 512]) -> [u8; 256]
 }
 
 /// The offset field and the size field behind it.
-fn extent_at(sector: &[u8; 512], offset: usize) -> Extent
+fn header_extent(sector: &[u8; 512], offset: usize) -> Extent
     requires { offset ≤ 0xF0 }
-    ensures { result ≡ extent_at sector.now offset }
+    ensures { result ≡ header_extent sector.now offset }
 {
     Extent {
         at: u64_at(sector, HEADER + offset),
@@ -70,11 +70,11 @@ fn extent_at(sector: &[u8; 512], offset: usize) -> Extent
 
 /// The fields of a DISA of `parts` partitions.
 pub(crate) fn disa(sector: &[u8; 512], parts: u8) -> Header
-    requires { word_at sector.now 0x08 ≡ parts }
+    requires { header_word sector.now 0x08 ≡ parts }
     ensures { result ≡ disa_fields sector.now }
 {
     let (desc_b, part_b) = if parts == 2 {
-        (extent_at(sector, 0x38), extent_at(sector, 0x58))
+        (header_extent(sector, 0x38), header_extent(sector, 0x58))
     } else {
         (NO_EXTENT, NO_EXTENT)
     };
@@ -84,9 +84,9 @@ pub(crate) fn disa(sector: &[u8; 512], parts: u8) -> Header
         secondary: u64_at(sector, HEADER + 0x10),
         primary: u64_at(sector, HEADER + 0x18),
         table_size: u64_at(sector, HEADER + 0x20),
-        desc_a: extent_at(sector, 0x28),
+        desc_a: header_extent(sector, 0x28),
         desc_b,
-        part_a: extent_at(sector, 0x48),
+        part_a: header_extent(sector, 0x48),
         part_b,
         active: sector[HEADER + 0x68],
         hash: hash_at(sector, 0x6C),
@@ -111,7 +111,7 @@ pub(crate) fn diff(sector: &[u8; 512]) -> Header
             size: table_size,
         },
         desc_b: NO_EXTENT,
-        part_a: extent_at(sector, 0x20),
+        part_a: header_extent(sector, 0x20),
         part_b: NO_EXTENT,
         active: sector[HEADER + 0x30],
         hash: hash_at(sector, 0x34),

@@ -5,15 +5,15 @@ use Rattle.save_bytes.specs.Cells.{Cell}
 use Rattle.save_bytes.specs.CellNumbers.{bytes_in, number_in}
 use Rattle.difi.specs.declared.descriptor.Difi.{Difi}
 use Rattle.difi.specs.Places.{blocks_of, bitmap_size}
-use Rattle.dpfs_tree.specs.Picks.{bytes_of, word_of, bit_of, pick1, pick2}
+use Rattle.dpfs_tree.specs.Picks.{bytes_of, word_of_bits, bit_of, pick1, pick2}
 use Rattle.difi.proofs.PlaceLemmas.{block_below}
 use Rattle.dpfs_tree.specs.SameLaws.{bit_of-same, word_inside}
 use Rattle.dpfs_tree.proofs.PickLemmas.{word_in_block}
 
 -- the number in four cells is their word
 pub number_in-word : (cells : ℕ → Cell) (from n : ℕ) → number_in 4 cells (from + 4 * n)
-    ≡ word_of (λ x. bytes_of cells (from + x)) n
-unfolding number_at bytes_in word_of
+    ≡ word_of_bits (λ x. bytes_of cells (from + x)) n
+unfolding number_at bytes_in word_of_bits
 number_in-word cells from n =
     let one : suc (from + 4 * n) ≡ from + (4 * n + 1) = omega arith in
     let two : suc (suc (from + 4 * n)) ≡ from + (4 * n + 2) = omega arith in

@@ -1,6 +1,6 @@
 -- The bits of a block that was copied with some of them turned.
 use Rattle.std.proofs.Common.{◌≡◌, ℕ, zero, suc, ◌+◌, ◌-◌, ◌*◌, ◌/◌, ◌%◌, ◌^◌, ◌<◌}
-use Rattle.std.proofs.Common.{◌≤◌, Bool, true, false, if◌then◌else◌, bit_xor, refl, sym, ◌∙◌, ap, arith, ⊎_elim}
+use Rattle.std.proofs.Common.{◌≤◌, Bool, true, false, bit_xor, refl, sym, ◌∙◌, ap, arith, ⊎_elim, if◌then◌else◌}
 use Rattle.std.proofs.lemmas.Bool.{cases_lt, lt-ltb, le-ltb}
 use Rattle.std.proofs.lemmas.Nat.{div-add-mod', mod_below}
 use Rattle.std.proofs.lemmas.Nat.Bits.{bit_at_xor, bit_at-suc, bit_at_lowest}
@@ -12,7 +12,7 @@ use Rattle.difi.specs.Places.{blocks_of}
 use Rattle.difi.specs.Contents.{view_size}
 use Rattle.difi.proofs.PlaceLemmas.{block_below}
 use Rattle.dpfs_tree.specs.declared.state.DpfsState.{DpfsState}
-use Rattle.dpfs_tree.specs.Picks.{bytes_of, word_of, bit_of, pick2, pick3, chosen}
+use Rattle.dpfs_tree.specs.Picks.{bytes_of, word_of_bits, bit_of, pick2, pick3, chosen}
 use Rattle.dpfs_tree.specs.Marks.{is_marked, copy_read, place_by, place_of}
 use Rattle.dpfs_tree.specs.Turns.{mask_of, AreTurned}
 use Rattle.dpfs_tree.proofs.BitLemmas.{number_in-word}
@@ -75,16 +75,17 @@ turned_bit flags old new from to first count k turned low high =
     let word_old : from + 4 * first + 4 * i ≡ from + 4 * (k / 32) = omega (arith, split, rest, low) in
     let number : 32 * (first + i) ≡ 32 * (k / 32) = omega (arith, split, rest, low) in
     let is = turned i (omega (arith, split, rest, high, low)) in
-    let words : word_of (λ x. bytes_of new (to + x)) (k / 32)
-    ≡ bit_xor (word_of (λ x. bytes_of old (from + x)) (k / 32)) (mask_of flags (32 * (k / 32)) 32) =
+    let words : word_of_bits (λ x. bytes_of new (to + x)) (k / 32)
+    ≡ bit_xor (word_of_bits (λ x. bytes_of old (from + x)) (k / 32)) (mask_of flags (32 * (k / 32)) 32) =
     sym (number_in-word new to (k / 32)) ∙ ap (number_in 4 new) (sym word_new) ∙ is
     ∙ ap (λ (n : ℕ). bit_xor (number_in 4 old (from + 4 * first + 4 * i)) (mask_of flags n 32)) number
     ∙ ap (λ (p : ℕ). bit_xor (number_in 4 old p) (mask_of flags (32 * (k / 32)) 32)) word_old
     ∙ ap (λ (w : ℕ). bit_xor w (mask_of flags (32 * (k / 32)) 32)) (number_in-word old from (k / 32)) in
     let flag : 32 * (k / 32) + k % 32 ≡ k = omega (arith, split) in
     ap (λ (w : ℕ). bit_at w (31 - k % 32)) words
-    ∙ word_bit flags (word_of (λ x. bytes_of old (from + x)) (k / 32)) (32 * (k / 32)) (k % 32) rest
-    ∙ ap (λ (n : ℕ). copy_read (flags n) (bit_at (word_of (λ x. bytes_of old (from + x)) (k / 32)) (31 - k % 32))) flag
+    ∙ word_bit flags (word_of_bits (λ x. bytes_of old (from + x)) (k / 32)) (32 * (k / 32)) (k % 32) rest
+    ∙ ap (λ (n : ℕ). copy_read (flags n) (bit_at (word_of_bits (λ x. bytes_of old (from + x)) (k / 32)) (31 - k % 32)))
+    flag
 
 -- where each block's bit was turned exactly if the block is marked, the bytes that are chosen then are the view's
 pub sealed_chosen : (old new : ℕ → ℕ) (part_at : ℕ) (difi : Difi) (state : DpfsState) (selector : ℕ)

@@ -55,7 +55,8 @@ module _ {A : Type 0} (states : A → State) (keeps : Spot → A → A → Type 
     module _ (refusal : Option Bad) (writes : Writes states keeps lands (IsWithin copies.to copies.len) m t refusal)
       where
         block_whole : Writes states keeps lands (IsWithin copies.to copies.len) s t refusal
-        block_whole = writes_after states keeps lands join hold (IsWithin copies.to copies.len) s m t refusal reads writes
+        block_whole = writes_after states keeps lands join hold (IsWithin copies.to copies.len) s m t refusal reads
+            writes
 
         pub block_writes : Writes states keeps lands
             (WritesIn (bytes_of (states s).cells) part_at difi was.selector at (length bytes)) s t refusal

@@ -10,12 +10,12 @@ abbrev pub bytes_of : (ℕ → Cell) → ℕ → ℕ
 bytes_of cells x = value_of (cells x)
 
 -- the number in bytes 4 * n to 4 * n + 3, the lowest byte first
-unfoldable pub word_of : (ℕ → ℕ) → ℕ → ℕ
-word_of bytes n = bytes (4 * n) + 256 * (bytes (4 * n + 1) + 256 * (bytes (4 * n + 2) + 256 * bytes (4 * n + 3)))
+unfoldable pub word_of_bits : (ℕ → ℕ) → ℕ → ℕ
+word_of_bits bytes n = bytes (4 * n) + 256 * (bytes (4 * n + 1) + 256 * (bytes (4 * n + 2) + 256 * bytes (4 * n + 3)))
 
 -- bit k of a level: 32 in a word, the highest of them first
 unfoldable pub bit_of : (ℕ → ℕ) → ℕ → ℕ
-bit_of bytes k = word_of bytes (k / 32) / 2 ^ (31 - k % 32) % 2
+bit_of bytes k = word_of_bits bytes (k / 32) / 2 ^ (31 - k % 32) % 2
 
 -- where byte x of a copy of a level lies: copy 1 stands directly behind copy 0
 abbrev pub copy_place : ℕ → LevelPlace → ℕ → ℕ → ℕ

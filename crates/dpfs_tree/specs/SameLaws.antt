@@ -12,7 +12,7 @@ use Rattle.difi.specs.Places.{blocks_of}
 use Rattle.difi.specs.Contents.{view_size}
 use Rattle.difi.proofs.PlaceLemmas.{block_below}
 use Rattle.dpfs_tree.specs.declared.state.DpfsState.{DpfsState}
-use Rattle.dpfs_tree.specs.Picks.{bytes_of, word_of, bit_of, copy_place, pick1, pick2}
+use Rattle.dpfs_tree.specs.Picks.{bytes_of, word_of_bits, bit_of, copy_place, pick1, pick2}
 use Rattle.dpfs_tree.specs.Spares.{place2}
 use Rattle.dpfs_tree.specs.Marks.{is_marked, copy_read, place_by, other_place}
 use Rattle.dpfs_tree.specs.View.{contents_state, HasContents}
@@ -21,7 +21,7 @@ use Rattle.dpfs_tree.specs.Held.{IsBeside, MarksSpot, ContentsLand}
 -- two lists with the same bytes in a word have the same bit there
 pub bit_of-same : (one other : ℕ → ℕ) (k : ℕ) → ((i : ℕ) → i < 4 → one (4 * (k / 32) + i) ≡ other (4 * (k / 32) + i))
     → bit_of one k ≡ bit_of other k
-unfolding bit_of word_of
+unfolding bit_of word_of_bits
 bit_of-same one other k same =
     let first : one (4 * (k / 32)) ≡ other (4 * (k / 32)) = simp add-zero at (same 0 (omega arith)) in
     rw (first, same 1 (omega arith), same 2 (omega arith), same 3 (omega arith)) refl

@@ -53,12 +53,12 @@ padded_block cells difi level block =
     ++ replicate (block_size (level_of difi level) - length (block_bytes cells difi level block)) 0
 
 -- where the entries of a level's blocks stand: in the level above, those of level 1 in the master hash
-abbrev pub entries_of : (ℕ → Cell) → List ℕ → Difi → ℕ → List ℕ
-entries_of cells master difi level = if level == 1 then master else ivfc_level cells difi (level - 1)
+abbrev pub level_entries : (ℕ → Cell) → List ℕ → Difi → ℕ → List ℕ
+level_entries cells master difi level = if level == 1 then master else ivfc_level cells difi (level - 1)
 
 -- the 32 bytes that stand for a block
 unfoldable pub hash_entry : (ℕ → Cell) → List ℕ → Difi → ℕ → ℕ → List ℕ
-hash_entry cells master difi level block = take 32 (drop (32 * block) (entries_of cells master difi level))
+hash_entry cells master difi level block = take 32 (drop (32 * block) (level_entries cells master difi level))
 
 -- the entry of a block that was never written
 abbrev pub zero_entry : List ℕ

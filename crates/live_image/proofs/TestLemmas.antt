@@ -9,12 +9,12 @@ use Rattle.container_header.specs.declared.fault.HeaderFault.{HeaderFault}
 use Rattle.container_header.specs.Conditions.{first_bytes, reading}
 use Rattle.container_header.specs.Sound.{IsHeaderOf}
 use Rattle.container_header.proofs.HeaderRead.{reading-ok}
-use Rattle.dpfs_tree.specs.Picks.{word_of, bit_of}
+use Rattle.dpfs_tree.specs.Picks.{word_of_bits, bit_of}
 
 -- a bit of the number in four bytes
 number_at-word : (image : List ℕ) (from n : ℕ)
-    → number_at 4 image (from + 4 * n) ≡ word_of (λ x. slice_index image (from + x)) n
-unfolding number_at word_of
+    → number_at 4 image (from + 4 * n) ≡ word_of_bits (λ x. slice_index image (from + x)) n
+unfolding number_at word_of_bits
 number_at-word image from n =
     let one : suc (from + 4 * n) ≡ from + (4 * n + 1) = omega arith in
     let two : suc (suc (from + 4 * n)) ≡ from + (4 * n + 2) = omega arith in

@@ -6,17 +6,17 @@ use Rattle.save_disk.specs.declared.calls.Call.TheVariants.{Len, Read, Write, Sy
 use Rattle.save_disk.specs.State.{Counts}
 
 -- a number of each kind of call
-abbrev pub place_of : Call → ℕ
-place_of Len = 0
-place_of Read = 1
-place_of Write = 2
-place_of Sync = 3
-place_of Hear = 4
-place_of Say = 5
+abbrev pub call_number : Call → ℕ
+call_number Len = 0
+call_number Read = 1
+call_number Write = 2
+call_number Sync = 3
+call_number Hear = 4
+call_number Say = 5
 
 -- how many of the calls are of this kind
 abbrev pub count_of : Call → List Call → ℕ
-count_of call calls = count_by (λ made. place_of made == place_of call) calls
+count_of call calls = count_by (λ made. call_number made == call_number call) calls
 
 pub record Log : Type 0 where
   -- the kinds of all calls, in order

@@ -2,7 +2,7 @@
 
 ghost use Rattle.std.specs.Prelude.{◌≡◌, ◌≢◌, ◌<◌, ◌↔◌, Some, IfOk, OnErr, IsTrue, slice_index, slice_get};
 ghost use Rattle.save_disk.specs.declared.calls.Call.{Call};
-ghost use Rattle.save_disk.specs.Calls.{place_of, count_of, listed, faulted, fell_short, IsNewLog, IsNamed, NoneFell};
+ghost use Rattle.save_disk.specs.Calls.{call_number, count_of, listed, faulted, fell_short, IsNewLog, IsNamed, NoneFell};
 
 use crate::Failed;
 use std::alloc::Global;
@@ -20,7 +20,7 @@ pub enum Call {
 
 /// The place of a kind in the tables below.
 fn place(call: Call) -> usize
-    ensures value { result ≡ place_of call }
+    ensures value { result ≡ call_number call }
     ensures below { result < 6 }
 {
     match call {
@@ -43,7 +43,7 @@ pub(crate) struct CallLog {
     source: u64,
     sink: u64,
     short: u64,
-    ghost counted: { (call : Call) → slice_index made (place_of call) ≡ count_of call calls.items },
+    ghost counted: { (call : Call) → slice_index made (call_number call) ≡ count_of call calls.items },
 }
 
 impl CallLog {
