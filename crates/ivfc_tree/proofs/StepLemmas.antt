@@ -1,5 +1,5 @@
 -- One step down a path.
-use Rattle.std.proofs.Common.{◌≡◌, ◌≢◌, ℕ, zero, suc, ◌-◌, ◌≤◌, true, false, List, refl, sym, arith}
+use Rattle.std.proofs.Common.{◌≡◌, ◌≢◌, ℕ, zero, suc, ◌-◌, ◌≤◌, true, false, List, refl, arith}
 use Rattle.save_bytes.specs.Cells.{Cell}
 use Rattle.difi.specs.declared.descriptor.Difi.{Difi}
 use Rattle.ivfc_tree.specs.declared.path.BlockState.{BlockState}
@@ -29,18 +29,3 @@ module _ (cells : ℕ → Cell) (master : List ℕ) (difi : Difi) (state : IvfcS
   unfolding marked_state
   step zero block some marked = absurd (omega (arith, some))
   step (suc level) block some marked = let one : suc level - 1 ≡ level = omega arith in rw (marked, one) refl
-
-  pub step-first : (level block : ℕ) → level ≡ 1 → is_marked state level block ≡ false
-      → own_state cells master difi level block ≡ block_state cells master difi state level block
-  unfolding marked_state
-  step-first level block first marked = rw first (sym (step 1 block (omega arith) (rw first at marked)))
-
-  pub step-holds : (level block : ℕ) → 1 ≤ level → is_marked state level block ≡ false
-      → Good ≡ block_state cells master difi state (level - 1) (parent_of difi (level - 1) block)
-      → own_state cells master difi level block ≡ block_state cells master difi state level block
-  step-holds level block some marked above = rw (step level block some marked, ← above) refl
-
-  pub step-fault : (level block : ℕ) (found : BlockState) → 1 ≤ level → is_marked state level block ≡ false
-      → found ≡ block_state cells master difi state (level - 1) (parent_of difi (level - 1) block) → found ≢ Good
-      → found ≡ block_state cells master difi state level block
-  step-fault level block found some marked is fault = rw (step level block some marked) (after-fault found _ _ is fault)

@@ -3,7 +3,7 @@ use Rattle.std.specs.Prelude.{◌≡◌, ℕ, Bool, true, false, ◌&&◌, ◌==
 use Rattle.difi.specs.declared.descriptor.Difi.{Difi}
 use Rattle.difi.specs.Places.{blocks_of}
 use Rattle.ivfc_tree.specs.declared.marks.BlockMark.{BlockMark}
-use Rattle.ivfc_tree.specs.declared.marks.BlockMark.TheVariants.{Unknown, Put, KnownGood, KnownBlank, KnownBad}
+use Rattle.ivfc_tree.specs.declared.marks.BlockMark.TheVariants.{Unknown, Put}
 use Rattle.ivfc_tree.specs.declared.marks.Marks.{Marks}
 use Rattle.ivfc_tree.specs.declared.state.IvfcState.{IvfcState}
 
@@ -28,16 +28,6 @@ is_put mark = false
 
 abbrev pub is_marked : IvfcState → ℕ → ℕ → Bool
 is_marked state level block = is_put (mark_at state level block)
-
--- what its path comes to is remembered
-abbrev pub is_found : BlockMark → Bool
-is_found KnownGood = true
-is_found KnownBlank = true
-is_found KnownBad = true
-is_found mark = false
-
-abbrev pub is_remembered : IvfcState → ℕ → ℕ → Bool
-is_remembered state level block = is_found (mark_at state level block)
 
 -- nothing is kept of any block of a descriptor's tree
 pub record AreNew (difi : Difi) (marks : Marks) : Type 0 where

@@ -5,7 +5,6 @@ use Rattle.std.proofs.lemmas.List.{take-append-drop}
 use Rattle.save_disk.specs.Trace.{Event, Write, Sync, Said, with_sector, image_after}
 use Rattle.save_disk.specs.Stops.{is_sync, has_sync, synced, unsynced, HasWrite, EachWrite, Fits, syncs, until_sync}
 use Rattle.save_disk.specs.Stops.{AtEachMoment}
-use Rattle.save_disk.specs.Writes.{OnlyWrites}
 use Rattle.save_disk.proofs.SectorBytes.{length-with_sector}
 
 -- a write among events behind events is among the first or among the second
@@ -39,20 +38,6 @@ module _ (Q : ℕ → List ℕ → Type 0) where
   pub each_write-take : (n : ℕ) (events : List Event) → EachWrite Q events → EachWrite Q (take n events)
   each_write-take n events each = each_write-front (take n events) (drop n events)
       (subst (EachWrite Q) (sym (take-append-drop n events)) each)
-
-  -- a list of nothing but such writes
-  pub only_writes-each : (events : List Event) → OnlyWrites Q events → EachWrite Q events
-  only_writes-each [] only = λ sector bytes has. absurd has
-  only_writes-each (Write number written ∷ events) only = λ sector bytes has.
-      ⊎_elim
-      (λ (here : Write number written ≡ Write sector bytes).
-      let same_sector : number ≡ sector = cc in
-      let same_bytes : written ≡ bytes = cc in
-      subst (λ (s : ℕ). Q s bytes) same_sector (subst (Q number) same_bytes only.0))
-      (λ later. only_writes-each events only.1 sector bytes later)
-      has
-  only_writes-each (Sync ∷ events) only = absurd only
-  only_writes-each (Said said ∷ events) only = absurd only
 
 -- the images of events behind events
 pub image_after-append :

@@ -1,10 +1,9 @@
 -- Pieces of an image as its sectors give them.
-use Rattle.std.proofs.Common.{◌≡◌, ℕ, ◌+◌, ◌-◌, ◌*◌, ◌≤◌, List, ◌++◌, length, take, drop, replicate, min, Option, Some}
-use Rattle.std.proofs.Common.{IsTrue, IfSome, ◌∙◌, ap, subst, arith}
+use Rattle.std.proofs.Common.{◌≡◌, ℕ, ◌+◌, ◌-◌, ◌*◌, ◌≤◌, List, ◌++◌, length, take, drop, replicate, min}
+use Rattle.std.proofs.Common.{◌∙◌, ap, arith}
 use Rattle.std.proofs.lemmas.List.{length-take, length-drop, take-append-le, drop-append-le, drop-take, take-take}
 use Rattle.std.proofs.lemmas.List.{drop-drop}
-use Rattle.save_disk.specs.Trace.{Told, IsFresh, sector_cut, sector_of, image_after, image_now}
-use Rattle.save_disk.specs.State.{State, IsRead, IsSound}
+use Rattle.save_disk.specs.Trace.{sector_cut, sector_of}
 
 -- what a piece within a sector has, the image has at its place
 pub piece_of_sector : (grain image_size : ℕ) (image : List ℕ) (sector from n at : ℕ) → length image ≡ image_size
@@ -36,19 +35,3 @@ piece_of_sector grain image_size image sector from n at long place inside fits =
     ∙ ap (λ (l : List ℕ). take n l) third
     ∙ fourth
     ∙ ap (λ (l : List ℕ). take n l) fifth
-
--- a read of a fresh disk gives a sector of the image of its start
-pub read_fresh : (state : State) (told : Told) (sector : ℕ) (bytes : List ℕ) → IsSound state → state.told ≡ Some told
-    → IsFresh told → IsRead state sector bytes → bytes ≡ sector_of state.grain told.start sector
-read_fresh state told sector bytes sound is fresh read =
-    let grain : told.grain ≡ state.grain = subst (λ (o : Option Told). IfSome o (λ t. t.grain ≡ state.grain)) is
-    sound.told_grain in
-    let given : bytes ≡ sector_of told.grain (image_now told) sector =
-    subst (λ (o : Option Told). IfSome o
-    (λ t. IsTrue (t.sure sector) → bytes ≡ sector_of t.grain (image_now t) sector)) is read (fresh.sure sector) in
-    given ∙ ap (λ (events : _). sector_of told.grain (image_after told.grain told.start events) sector) fresh.silent
-    ∙ ap (λ (k : ℕ). sector_of k told.start sector) grain
-
-pub start_size : (state : State) (told : Told) → IsSound state → state.told ≡ Some told → length told.start ≡ state.size
-start_size state told sound is = subst (λ (o : Option Told). IfSome o (λ t. length t.start ≡ state.size)) is
-    sound.told_size

@@ -1,9 +1,8 @@
 -- How calls of a disk add up.
-use Rattle.std.proofs.Common.{List, [], ◌∷◌, ◌++◌, Option, Some, refl, sym, ◌∙◌, ap, arith, append_assoc}
+use Rattle.std.proofs.Common.{List, [], ◌∷◌, ◌++◌, Option, Some, refl, ◌∙◌, ap, arith, append_assoc}
 use Rattle.std.specs.Option.{option_map}
-use Rattle.std.proofs.lemmas.List.{append-nil}
 use Rattle.save_disk.specs.Trace.{Event, Told}
-use Rattle.save_disk.specs.State.{State, IsSteady, IsQuiet, Happens, then_event}
+use Rattle.save_disk.specs.State.{State, IsSteady, Happens, then_event}
 use Rattle.save_disk.specs.Tells.{Tells}
 
 pub steady_start : (state : State) → IsSteady state state
@@ -19,20 +18,6 @@ steady_join one two three before after = record {
 }
 
 module _ (P : List Event → Type 0) where
-  -- before the first call
-  pub tells_start : (state : State) → P [] → Tells P state state
-  tells_start state none = λ told is. (
-    [],
-    none,
-    is ∙ ap (λ (events : List Event). Some (record told { events = events }))
-        (sym (append-nil told.events)),
-  )
-
-  -- a call that adds nothing
-  pub tells_quiet : (one two three : State) → Tells P one two → IsQuiet two three → Tells P one three
-  tells_quiet one two three so_far quiet = λ told is. let before =
-      so_far told is in (before.0, before.1, quiet ∙ before.2)
-
   -- a call that adds an event
   pub tells_more : (Q : List Event → Type 0) (event : Event) (one two three : State) → Tells P one two
       → Happens event two three → ((events : List Event) → P events → Q (events ++ event ∷ [])) → Tells Q one three
@@ -44,8 +29,3 @@ module _ (P : List Event → Type 0) where
             ∙ ap (λ (events : List Event). Some (record told { events = events }))
             (append_assoc told.events before.0 (event ∷ [])),
       )
-
-  pub tells_weaker : (Q : List Event → Type 0) (one two : State) → Tells P one two
-      → ((events : List Event) → P events → Q events) → Tells Q one two
-  tells_weaker Q one two so_far weaker = λ told is. let before =
-      so_far told is in (before.0, weaker before.0 before.1, before.2)
