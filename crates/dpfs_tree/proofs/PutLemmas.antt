@@ -1,6 +1,6 @@
 -- The cells and the marks of a view after bytes were put into its base.
 use Rattle.std.proofs.Common.{◌≡◌, ◌≢◌, ℕ, ◌+◌, ◌-◌, ◌*◌, ◌/◌, ◌^◌, ◌<◌, ◌≤◌, Bool, true}
-use Rattle.std.proofs.Common.{false, if◌then◌else◌, List, length, get_or, refl, sym, ◌∙◌, ap, subst, arith, ⊎_elim}
+use Rattle.std.proofs.Common.{false, List, length, get_or, refl, sym, ◌∙◌, ap, subst, arith, ⊎_elim, if◌then◌else◌}
 use Rattle.std.proofs.lemmas.Bool.{cases_lt, cases_eq}
 use Rattle.std.proofs.lemmas.Nat.{same_from_place}
 use Rattle.save_bytes.specs.Cells.{Cell, Byte, AreBytesAt}
@@ -124,15 +124,17 @@ module _ (base : Shape) (part_at : ℕ) (difi : Difi) (was : DpfsState)
       abbrev start : ℕ
       start = begin part_at difi.dpfs3 at bit copies are below
 
+      -- a byte of the block lies in level 3
+      in_level3 : (x : ℕ) → IsWithin start copies.len x → x < difi.dpfs3.size
+      in_level3 x within = omega (arith, within.1, ends part_at difi.dpfs3 at bit copies are below)
+
       -- a byte of the block later lies in its other copy
       block_later : (x : ℕ) → IsWithin start copies.len x → place_of (bytes_of new) part_at difi now x ≡ copies.to
           + (x - start)
       block_later x within =
-          let in_level3 : x < difi.dpfs3.size = omega (arith, within.1, ends part_at difi.dpfs3 at bit copies are below)
-          in
           let there = place_in_block base part_at difi was.selector tree (bytes_of old) (is_marked now.touched.items) x
-          (at / 2 ^ difi.dpfs3.log) in_level3 (in_block part_at difi.dpfs3 at bit copies are below x within.0 within.1)
-          in
+          (at / 2 ^ difi.dpfs3.log) (in_level3 x within)
+          (in_block part_at difi.dpfs3 at bit copies are below x within.0 within.1) in
           let is : place_of (bytes_of new) part_at difi now x ≡ copy_place part_at difi.dpfs3 (1 - bit) x =
           later_place now x marked.selector ∙ there
           ∙ ap (λ (m : Bool). copy_place part_at difi.dpfs3 (copy_read m bit) x) marked.marked in
@@ -147,10 +149,9 @@ module _ (base : Shape) (part_at : ℕ) (difi : Difi) (was : DpfsState)
       block_before : (x : ℕ) → IsWithin start copies.len x → place_of (bytes_of old) part_at difi was x
           ≡ (if is_marked was.touched.items (at / 2 ^ difi.dpfs3.log) then copies.to else copies.from) + (x - start)
       block_before x within =
-          let in_level3 : x < difi.dpfs3.size = omega (arith, within.1, ends part_at difi.dpfs3 at bit copies are below)
-          in
           place_in_block base part_at difi was.selector tree (bytes_of old) (is_marked was.touched.items) x
-          (at / 2 ^ difi.dpfs3.log) in_level3 (in_block part_at difi.dpfs3 at bit copies are below x within.0 within.1)
+          (at / 2 ^ difi.dpfs3.log) (in_level3 x within)
+          (in_block part_at difi.dpfs3 at bit copies are below x within.0 within.1)
           ∙ read_place (is_marked was.touched.items (at / 2 ^ difi.dpfs3.log)) x within.0
 
       block_range : (k : ℕ) → k < length bytes → new (place_of (bytes_of new) part_at difi now (at + k))
@@ -169,40 +170,43 @@ module _ (base : Shape) (part_at : ℕ) (difi : Difi) (was : DpfsState)
           (λ hit. out (omega (arith, here, hit.0, within.0), omega (arith, here, hit.1, within.0))) in
           ap new (block_later x within) ∙ around ∙ sym (ap old (block_before x within))
 
+      -- the bit that chooses the copy of a byte
+      abbrev its : ℕ → ℕ
+      its x = bit_of (pick2 (bytes_of old) part_at difi was.selector) (x / 2 ^ difi.dpfs3.log)
+
       -- a byte of another block is read where it was, and lies elsewhere
       other_place_apart : (m : ℕ → Bool) (x : ℕ) → x < difi.dpfs3.size
           → x / 2 ^ difi.dpfs3.log ≢ at / 2 ^ difi.dpfs3.log
           → ¬ IsWithin copies.to copies.len (place_by (bytes_of old) part_at difi was.selector m x)
-      other_place_apart m x in_level3 other within =
-          let of = x / 2 ^ difi.dpfs3.log in
-          let its = bit_of (pick2 (bytes_of old) part_at difi was.selector) of in
+      other_place_apart m x low other within =
           let size = difi.dpfs3.size in
-          let is = place_in_block base part_at difi was.selector tree (bytes_of old) m x of in_level3 refl in
+          let is = place_in_block base part_at difi was.selector tree (bytes_of old) m x (x / 2 ^ difi.dpfs3.log) low
+          refl in
           let y : ℕ = start + (place_by (bytes_of old) part_at difi was.selector m x - copies.to) in
           let end = ends part_at difi.dpfs3 at bit copies are below in
           let y_in : y < size = omega (arith, within.0, within.1, end) in
-          let rows : copy_read (m of) its * size + x ≡ (1 - bit) * size + y = omega (arith, is, are.to, within.0) in
-          let same = same_from_place (copy_read (m of) its) x (1 - bit) y size in_level3 y_in rows in
+          let rows : copy_read (m (x / 2 ^ difi.dpfs3.log)) (its x) * size + x ≡ (1 - bit) * size + y =
+          omega (arith, is, are.to, within.0) in
+          let same = same_from_place (copy_read (m (x / 2 ^ difi.dpfs3.log)) (its x)) x (1 - bit) y size low y_in rows
+          in
           other (in_block part_at difi.dpfs3 at bit copies are below x (omega (arith, same.1))
           (omega (arith, same.1, within.0, within.1)))
 
       level3_others : (x : ℕ) → x < view_size difi → x < difi.dpfs3.size
           → x / 2 ^ difi.dpfs3.log ≢ at / 2 ^ difi.dpfs3.log
           → new (place_of (bytes_of new) part_at difi now x) ≡ old (place_of (bytes_of old) part_at difi was x)
-      level3_others x in_view in_level3 other =
-          let of = x / 2 ^ difi.dpfs3.log in
-          let its = bit_of (pick2 (bytes_of old) part_at difi was.selector) of in
+      level3_others x in_view low other =
           let before = is_marked was.touched.items in
-          let mark = marked.others of other in
+          let mark = marked.others (x / 2 ^ difi.dpfs3.log) other in
           let later = place_in_block base part_at difi was.selector tree (bytes_of old) (is_marked now.touched.items) x
-          of in_level3 refl in
-          let was_there = place_in_block base part_at difi was.selector tree (bytes_of old) before x of in_level3 refl
-          in
+          (x / 2 ^ difi.dpfs3.log) low refl in
+          let was_there = place_in_block base part_at difi was.selector tree (bytes_of old) before x
+          (x / 2 ^ difi.dpfs3.log) low refl in
           let same : place_of (bytes_of new) part_at difi now x ≡ place_of (bytes_of old) part_at difi was x =
           later_place now x marked.selector ∙ later
-          ∙ ap (λ (m : Bool). copy_place part_at difi.dpfs3 (copy_read m its) x) mark ∙ sym was_there in
+          ∙ ap (λ (m : Bool). copy_place part_at difi.dpfs3 (copy_read m (its x)) x) mark ∙ sym was_there in
           ap new same ∙ stays _ (place_by-inside base part_at difi was.selector tree before (bytes_of old) x in_view)
-          (other_place_apart before x in_level3 other)
+          (other_place_apart before x low other)
 
       external_others : (x : ℕ) → x < view_size difi → difi.dpfs3.size ≤ x
           → new (place_of (bytes_of new) part_at difi now x) ≡ old (place_of (bytes_of old) part_at difi was x)

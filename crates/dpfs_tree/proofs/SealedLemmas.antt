@@ -89,7 +89,6 @@ module _ (base : Shape) (part_at : ℕ) (difi : Difi) (state : DpfsState)
       → ¬ SealWrites bytes part_at difi state (place_by bytes part_at difi state.selector marks x)
   view_off bytes marks x inside site =
       let place = place_by bytes part_at difi state.selector marks x in
-      let bits = pick1 bytes part_at difi state.selector in
       ⊎_elim
       (λ (one : SealsLevel1 part_at difi state.selector place).
       off_level base part_at difi state.selector tree difi.dpfs1 tree.apart13
@@ -98,8 +97,20 @@ module _ (base : Shape) (part_at : ℕ) (difi : Difi) (state : DpfsState)
       (λ (two : SealsLevel2 bytes part_at difi state place).
       off_level base part_at difi state.selector tree difi.dpfs2 tree.apart23
       (λ external. (tree.external_apart external).1) bytes marks
-      x inside (1 - bit_of bits two.0) two.1.0 (omega arith) two.1.1 (sym two.1.4))
+      x inside (1 - bit_of (pick1 bytes part_at difi state.selector) two.0) two.1.0 (omega arith) two.1.1 (sym two.1.4))
       site
+
+  -- a byte of the word of a bit lies in each copy of level 2, and a copy in the base
+  word_below : (k i : ℕ) → k < blocks_of difi.dpfs3 → i < 4 → 4 * (k / 32) + i < difi.dpfs2.size
+  word_below k i less small = omega (arith, word_inside k (blocks_of difi.dpfs3) less, tree.bits2, small)
+
+  level2_below : (copy x : ℕ) → copy < 2 → x < difi.dpfs2.size → copy_place part_at difi.dpfs2 copy x < base.size
+  level2_below copy x one inside =
+      omega (
+        arith,
+        in_copy (part_at + difi.dpfs2.at) difi.dpfs2.size copy (x + 1) base.size one (omega (arith, inside))
+            tree.level2,
+      )
 
   -- so these bytes stand where they stood
   pub upper_sealed : (old new : ℕ → Cell)
@@ -114,10 +125,8 @@ module _ (base : Shape) (part_at : ℕ) (difi : Difi) (state : DpfsState)
     level2 = λ x h.
         (let bits = pick1 (bytes_of old) part_at difi state.selector in
         let copy = bit_of bits (x / 2 ^ difi.dpfs2.log) in
-        let one = bit_of-lt bits (x / 2 ^ difi.dpfs2.log) in
-        let there = in_copy (part_at + difi.dpfs2.at) difi.dpfs2.size copy (x + 1) base.size one (omega (arith, h))
-        tree.level2 in
-        rw (stays (copy_place part_at difi.dpfs2 copy x) (omega (arith, there)) (chosen2_off (bytes_of old) x h)) refl);
+        let there = level2_below copy x (bit_of-lt bits (x / 2 ^ difi.dpfs2.log)) h in
+        rw (stays (copy_place part_at difi.dpfs2 copy x) there (chosen2_off (bytes_of old) x h)) refl);
   }
 
   -- the places of a block, by what the base was before other blocks were sealed
@@ -148,15 +157,12 @@ module _ (base : Shape) (part_at : ℕ) (difi : Difi) (state : DpfsState)
       ⊎_elim
       (λ (front : block < n).
       let copy = bit_of (pick1 (bytes_of old) part_at difi state.selector) block in
-      let word = word_inside k (blocks_of difi.dpfs3) less in
-      let start : ℕ = part_at + difi.dpfs2.at in
       bit_of-same _ _ k
       (λ i small.
       (let x : ℕ = 4 * (k / 32) + i in
-      let inside : x < difi.dpfs2.size = omega (arith, word, tree.bits2, small) in
-      let there = in_copy start difi.dpfs2.size (1 - copy) (x + 1) base.size (omega arith) (omega (arith, inside))
-      tree.level2 in
-      let same = then_stays (copy_place part_at difi.dpfs2 (1 - copy) x) (omega (arith, there))
+      let inside = word_below k i less small in
+      let same = then_stays (copy_place part_at difi.dpfs2 (1 - copy) x)
+      (level2_below (1 - copy) x (omega arith) inside)
       (λ (y, y_in, of_n, its, is).
       (let at_y = (one_copy part_at difi.dpfs2 (1 - copy) x _ y inside y_in is).1 in
       let of_block = word_place k i small in
@@ -219,19 +225,15 @@ module _ (base : Shape) (part_at : ℕ) (difi : Difi) (state : DpfsState)
         let below = bit_block_below base part_at difi state tree k less in
         let copy : 1 - bits1 block ≡ bit_of (pick1 (bytes_of new) part_at difi (1 - state.selector)) block =
         sym (block_copy block below ∙ ap (λ (m : Bool). copy_read m (bits1 block)) marked) in
-        let word = word_inside k (blocks_of difi.dpfs3) less in
-        let start : ℕ = part_at + difi.dpfs2.at in
         sym (read_bit k (1 - state.selector) (1 - bits1 block) copy)
         ∙ bit_of-same _ _ k
         (λ i small.
         (let x : ℕ = 4 * (k / 32) + i in
-        let inside : x < difi.dpfs2.size = omega (arith, word, tree.bits2, small) in
-        let there = in_copy start difi.dpfs2.size (1 - bits1 block) (x + 1) base.size (omega arith)
-        (omega (arith, inside)) tree.level2 in
-        let same = then_stays (copy_place part_at difi.dpfs2 (1 - bits1 block) x) (omega (arith, there))
+        let inside = word_below k i less small in
+        let same = then_stays (copy_place part_at difi.dpfs2 (1 - bits1 block) x)
+        (level2_below (1 - bits1 block) x (omega arith) inside)
         (λ (y, y_in, is). levels_apart part_at difi.dpfs1 difi.dpfs2 tree.apart12 (1 - state.selector) y
-        (1 - bits1 block) x (omega arith)
-        y_in (omega arith) inside (sym is)) in
+        (1 - bits1 block) x (omega arith) y_in (omega arith) inside (sym is)) in
         ap value_of same))
         ∙ blocks k less below (some_marked-found (is_marked state.touched.items) _ _ marked)
 

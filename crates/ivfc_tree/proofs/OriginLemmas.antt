@@ -1,6 +1,6 @@
 -- What blocks that are not marked tell of the tree as the transaction began.
-use Rattle.std.proofs.Common.{◌≡◌, ◌≢◌, ◌⊎◌, ℕ, zero, suc, ◌≤◌, Bool, true, false, List, if◌then◌else◌, refl}
-use Rattle.std.proofs.Common.{sym, ◌∙◌, inl, inr, arith, ⊎_elim}
+use Rattle.std.proofs.Common.{◌≡◌, ◌≢◌, ◌⊎◌, ℕ, zero, suc, ◌≤◌, Bool, true, false, List, refl}
+use Rattle.std.proofs.Common.{sym, ◌∙◌, inl, inr, arith, ⊎_elim, if◌then◌else◌}
 use Rattle.std.specs.Str.{bytes_eq}
 use Rattle.std.proofs.lemmas.Bool.{cases_Bool}
 use Rattle.sha2.specs.Sha256.{sha256}
@@ -126,6 +126,12 @@ CameFrom-none difi marked was master none = record {
 module _ (base : Shape) (difi : Difi) (master_len : ℕ) (tree : HasTree base difi master_len) (marked : ℕ → ℕ → Bool)
     (was cells : ℕ → Cell) (was_master master : List ℕ) (came : CameFrom difi marked was was_master cells master)
   where
+    -- the block above one lies in the tree too
+    above_there : (level block : ℕ) → HasBlock difi (suc (suc level)) block
+        → HasBlock difi (suc level) (parent_of difi (suc level) block)
+    above_there level block there =
+        (parent_there base difi master_len (suc level) block tree (omega arith) there).parent
+
     -- a block whose path held is good while it is not marked
     came_good : (level block : ℕ) → HasBlock difi (suc level) block → marked (suc level) block ≡ false
         → path_state was was_master difi (suc level) block ≡ Good
@@ -137,11 +143,10 @@ module _ (base : Shape) (difi : Difi) (master_len : ℕ) (tree : HasTree base di
         parts.1
     came_good (suc level) block there isnt good =
         let above = parent_of difi (suc level) block in
-        let parent = parent_there base difi master_len (suc level) block tree (omega arith) there in
         let parts = after_good _ _ (rw path_step at good) in
         let upper : marked_state cells master difi marked (suc level) above ≡ Good =
         ⊎_elim (λ (is : marked (suc level) above ≡ true). marked_good cells master difi marked level above is)
-        (λ (no : marked (suc level) above ≡ false). came_good level above parent.parent no parts.0)
+        (λ (no : marked (suc level) above ≡ false). came_good level above (above_there level block there) no parts.0)
         (cases_Bool (marked (suc level) above)) in
         unmarked_step cells master difi marked (suc level) block isnt
         ∙ rw (upper, came.kept (suc level) block there isnt parts.0) parts.1
@@ -159,7 +164,6 @@ module _ (base : Shape) (difi : Difi) (master_len : ℕ) (tree : HasTree base di
         isnt ∙ rw now_top refl))
     came_back (suc level) block there isnt own =
         let above = parent_of difi (suc level) block in
-        let parent = parent_there base difi master_len (suc level) block tree (omega arith) there in
         let step = unmarked_step cells master difi marked (suc level) block isnt in
         let parts = after_own (suc level) block _ _ (state_above cells master difi marked (suc level) above) (rw
         step at own) in
@@ -170,7 +174,8 @@ module _ (base : Shape) (difi : Difi) (master_len : ℕ) (tree : HasTree base di
         (λ (bare : own_state cells master difi (suc (suc level)) block ≡ BlankAt (suc (suc level)) block). absurd
         (parts.1 bare))
         (came.zeroed level block there isnt is))
-        (λ (no : marked (suc level) above ≡ false). came_back level above parent.parent no (inl parts.0) ∙ parts.0)
+        (λ (no : marked (suc level) above ≡ false). came_back level above (above_there level block there) no
+        (inl parts.0) ∙ parts.0)
         (cases_Bool (marked (suc level) above)) in
         path_step was was_master difi (suc level) block
         ∙ rw (upper, ← came.kept (suc level) block there isnt upper) (sym (step ∙ rw parts.0 refl))
@@ -192,11 +197,11 @@ module _ (base : Shape) (difi : Difi) (master_len : ℕ) (tree : HasTree base di
           (λ (bared : IsBared difi marked cells master new new_master 0 block). absurd (omega (arith, bared.below)))
           (step.unmarked 0 block there isnt)
       more_kept (suc level) block there isnt good =
-          let parent = parent_there base difi master_len (suc level) block tree (omega arith) there in
           ⊎_elim (λ (same : TellsSame difi marked still cells master new new_master (suc level) block).
           same.own ∙ came.kept (suc level) block there (step.more (suc (suc level)) block isnt) good)
           (λ (bared : IsBared difi marked cells master new new_master (suc level) block).
-          absurd (bared.spoilt (came_good level (parent_of difi (suc level) block) parent.parent bared.above good)))
+          absurd (bared.spoilt (came_good level (parent_of difi (suc level) block) (above_there level block there)
+          bared.above good)))
           (step.unmarked (suc level) block there isnt)
 
       more_zeroed : (level block : ℕ) → HasBlock difi (suc (suc level)) block → still (suc (suc level)) block ≡ false
@@ -205,7 +210,6 @@ module _ (base : Shape) (difi : Difi) (master_len : ℕ) (tree : HasTree base di
           ⊎ (own_state new new_master difi (suc (suc level)) block ≡ BlankAt (suc (suc level)) block)
       more_zeroed level block there isnt is =
           let above = parent_of difi (suc level) block in
-          let parent = parent_there base difi master_len (suc level) block tree (omega arith) there in
           let was_unmarked = step.more (suc (suc level)) block isnt in
           ⊎_elim (λ (same : TellsSame difi marked still cells master new new_master (suc level) block).
           ⊎_elim
@@ -216,7 +220,7 @@ module _ (base : Shape) (difi : Difi) (master_len : ℕ) (tree : HasTree base di
           (came.zeroed level block there was_unmarked before))
           (λ (no : marked (suc level) above ≡ false).
           let good = same.above (omega arith) no is in
-          inl (came_back level above parent.parent no (inl good) ∙ good))
+          inl (came_back level above (above_there level block there) no (inl good) ∙ good))
           (cases_Bool (marked (suc level) above)))
           (λ (bared : IsBared difi marked cells master new new_master (suc level) block). inr bared.own)
           (step.unmarked (suc level) block there isnt)

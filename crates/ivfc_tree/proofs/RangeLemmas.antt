@@ -1,11 +1,15 @@
 -- The blocks that a range meets, made ready one after another.
-use Rattle.std.proofs.Common.{◌≡◌, ◌⊎◌, ℕ, ◌+◌, ◌-◌, ◌/◌, ◌%◌, ◌<◌, ◌≤◌, true, List, length, refl, ◌∙◌}
+use Rattle.std.proofs.Common.{◌≡◌, ◌⊎◌, ℕ, ◌+◌, ◌-◌, ◌/◌, ◌%◌, ◌<◌, ◌≤◌, true, Option, None, List, length, refl, ◌∙◌}
 use Rattle.std.proofs.Common.{ap, arith, ⊎_elim}
 use Rattle.std.proofs.lemmas.Bool.{cases_lt}
 use Rattle.std.proofs.lemmas.Nat.{pow_pos, div-add-mod'}
 use Rattle.save_bytes.specs.Cells.{Cell, Byte, Blank, Spoilt, IsUnspoilt}
 use Rattle.save_bytes.specs.CellNumbers.{value_of}
-use Rattle.save_bytes.specs.State.{Shape}
+use Rattle.save_bytes.specs.declared.space.Bad.{Bad}
+use Rattle.save_bytes.specs.State.{Shape, State}
+use Rattle.save_bytes.specs.Spots.{Spot}
+use Rattle.save_bytes.specs.Writes.{Writes}
+use Rattle.save_bytes.proofs.WriteLemmas.{Writes-wider, Writes-join}
 use Rattle.save_bytes.specs.Puts.{IsDeeper}
 use Rattle.difi.specs.declared.descriptor.Difi.{Difi}
 use Rattle.difi.specs.Places.{block_size}
@@ -85,6 +89,21 @@ module _ (difi : Difi) (at n done block : ℕ) (less : done < n) (is : block ≡
 
   pub path_blocks : (level other : ℕ) → IsInPath difi block level other → IsInPaths difi at n level other
   path_blocks level other on = (done, less, on ∙ ap (λ (b : ℕ). block_above difi 4 b level) is)
+
+  -- so one path more marks and writes what the range may
+  pub path_marks : (s t u : IvfcState) → MarksWithin (IsInPaths difi at n) s t → MarksWithin (IsInPath difi block) t u
+      → MarksWithin (IsInPaths difi at n) s u
+  path_marks s t u = within_more (IsInPath difi block) (IsInPaths difi at n) s t u path_blocks
+
+  pub path_writes : {A : Type 0} (states : A → State) (keeps : Spot → A → A → Type 0) (lands : A → ℕ → Spot → Type 0)
+      → ((spot : Spot) (s t u : A) → keeps spot s t → keeps spot t u → keeps spot s u) → (s t u : A)
+      (refusal : Option Bad) → Writes states keeps lands (RangeSites difi at n) s t None
+      → Writes states keeps lands (PathSites difi block) t u refusal
+      → Writes states keeps lands (RangeSites difi at n) s u refusal
+  path_writes states keeps lands join s t u refusal before next =
+      Writes-join states keeps lands join (RangeSites difi at n) s t u refusal before
+      (Writes-wider states keeps lands (PathSites difi block) (RangeSites difi at n) t u refusal
+      (λ told x below site. path_sites x site) next)
 
 module _ (base : Shape) (difi : Difi) (master : List ℕ) (tree : HasTree base difi (length master)) (at n : ℕ)
     (fits : at + n ≤ difi.ivfc4.size) (one mid new : ℕ → Cell) (was then_state now : IvfcState) where

@@ -1,6 +1,6 @@
 -- One block, one level and the whole tree sealed.
-use Rattle.std.proofs.Common.{◌≡◌, ℕ, ◌+◌, ◌-◌, ◌*◌, ◌<◌, ◌≤◌, Bool, true, List, length, IsTrue, Option, refl, sym}
-use Rattle.std.proofs.Common.{◌∙◌, ap, subst, arith, ⊎_elim}
+use Rattle.std.proofs.Common.{◌≡◌, ℕ, ◌+◌, ◌-◌, ◌*◌, ◌<◌, ◌≤◌, Bool, true, List, length, IsTrue, Option, None, refl}
+use Rattle.std.proofs.Common.{sym, ◌∙◌, ap, subst, arith, ⊎_elim}
 use Rattle.std.proofs.lemmas.Bool.{cases_lt}
 use Rattle.sha2.specs.Sha256.{sha256}
 use Rattle.save_bytes.specs.Cells.{Cell, AreBytesAt}
@@ -10,6 +10,7 @@ use Rattle.save_bytes.specs.Refusals.{IfDone}
 use Rattle.save_bytes.specs.Spots.{Spot}
 use Rattle.save_bytes.specs.Writes.{IsWithin, Writes}
 use Rattle.save_bytes.proofs.SpaceLemmas.{IfDone-map, UnlessDisk-map}
+use Rattle.save_bytes.proofs.WriteLemmas.{Writes-then}
 use Rattle.difi.specs.declared.descriptor.Difi.{Difi}
 use Rattle.ivfc_tree.specs.declared.marks.Marks.{Marks}
 use Rattle.ivfc_tree.specs.declared.state.IvfcState.{IvfcState}
@@ -17,9 +18,9 @@ use Rattle.ivfc_tree.specs.Levels.{IsLevel, level_of, HasBlock, padded_block, ha
 use Rattle.ivfc_tree.specs.Marks.{mark_in, is_put, is_marked}
 use Rattle.ivfc_tree.specs.View.{HasTree}
 use Rattle.ivfc_tree.specs.Seals.{HasMarkedBlock, MarkedEntry, MarkedFirst, LevelSites, MasterSites, HashSites}
-use Rattle.ivfc_tree.specs.Seals.{DiffersAt, CountsOn, AreDigests, SealsTree}
+use Rattle.ivfc_tree.specs.Seals.{DiffersAt, CountsOn, AreDigests, SealsLevel, SealsTree}
 use Rattle.ivfc_tree.proofs.EntryLemmas.{entry_in_block, entries_apart, digest_stays, padded-kept, block_inside}
-use Rattle.ivfc_tree.proofs.EntryLemmas.{in_base, entry_written}
+use Rattle.ivfc_tree.proofs.EntryLemmas.{in_base, entry_written, DiffersAt-then}
 use Rattle.ivfc_tree.proofs.SealLemmas.{digests_hash, seal_shows}
 
 module _ (base : Shape) (difi : Difi) (master_len : ℕ) (tree : HasTree base difi master_len) (level block : ℕ)
@@ -121,6 +122,33 @@ CountsOn-join s t u h k = record { marks = k.marks ∙ h.marks; counted = omega 
 
 -- what a seal leaves
 module _ {A : Type 0} (states : A → State) (keeps : Spot → A → A → Type 0) (lands : A → ℕ → Spot → Type 0) where
+  -- a level was sealed behind others
+  pub record SealsMore (difi : Difi) (marked : ℕ → ℕ → Bool) (level : ℕ) (s t u : A) (first master new_master : List ℕ)
+      (refusal : Option Bad) : Type 0 where
+    pub sealed : SealsLevel states keeps lands difi marked level t master u new_master refusal
+    pub writes : Writes states keeps lands (HashSites difi marked) s u refusal
+    pub entries : DiffersAt (MasterSites difi marked 1) first new_master
+
+  -- its marks are those of the start, and so are its places
+  pub level_sealed : ((spot : Spot) (s t u : A) → keeps spot s t → keeps spot t u → keeps spot s u) → (difi : Difi)
+      (start mid : IvfcState) (level : ℕ) (s t u : A) (first master new_master : List ℕ) (refusal : Option Bad)
+      → CountsOn start mid → Writes states keeps lands (HashSites difi (is_marked start)) s t None
+      → DiffersAt (MasterSites difi (is_marked start) 1) first master
+      → SealsLevel states keeps lands difi (is_marked mid) level t master u new_master refusal
+      → SealsMore difi (is_marked start) level s t u first master new_master refusal
+  level_sealed join difi start mid level s t u first master new_master refusal counts writes changes now =
+      let marked = is_marked start in
+      let own = subst (λ (m : ℕ → ℕ → Bool). SealsLevel states keeps lands difi m level t master u new_master refusal)
+      (marked-counts start mid counts) now in
+      record {
+        sealed = own;
+        writes = Writes-then states keeps lands join (HashSites difi marked) (LevelSites difi marked level) s t u
+            refusal
+            (λ told x inside site. (level, site)) writes own.writes;
+        entries = DiffersAt-then (MasterSites difi marked 1) (MasterSites difi marked level) first master new_master
+            (first_sites difi marked level) changes own.master_hash;
+      }
+
   pub seals_tree : (s t : A) (difi : Difi) (marked : ℕ → ℕ → Bool) (master new_master : List ℕ) (refusal : Option Bad)
       → HasTree (states s).shape difi (length master)
       → (IsTrue (states s).told → IfDone refusal ((level : ℕ) → 0 < level → AreDigests (states t).cells

@@ -1,12 +1,12 @@
 use Rattle.std.proofs.Common.{◌+◌, ◌/◌, ℕ, ap, arith, Some, None}
 use Rattle.std.proofs.lemmas.Bool.{and_parts, and_from}
 use Rattle.save_bytes.proofs.CallLemmas.{Reads-same}
-use Rattle.save_bytes.proofs.WriteLemmas.{Writes-read, Writes-wider, Writes-join}
+use Rattle.save_bytes.proofs.WriteLemmas.{Writes-read}
 use Rattle.ivfc_tree.specs.ViewLaws.{level4_size, level4_log, block_of_there}
 use Rattle.ivfc_tree.specs.KnownLaws.{true-remembers, remembers-true}
-use Rattle.ivfc_tree.specs.Readies.{PathSites, RangeSites, IsInPath, IsInPaths}
+use Rattle.ivfc_tree.specs.Readies.{RangeSites, IsInPaths}
 use Rattle.ivfc_tree.proofs.LearnLemmas.{made_later}
-use Rattle.ivfc_tree.proofs.RangeLemmas.{MarksWithin-same, within_more, path_sites, path_blocks, range_start}
+use Rattle.ivfc_tree.proofs.RangeLemmas.{MarksWithin-same, path_marks, path_writes, range_start}
 use Rattle.ivfc_tree.proofs.RangeLemmas.{next_unspoilt, range_more}
 use Rattle.ivfc_tree.proofs.put.prepare_range.Goals as goal
 
@@ -52,30 +52,19 @@ prepare-requires-clause-there g c =
 
 pub returns-in-Err-clause-marks : goal.returns-in-Err-clause-marks
 returns-in-Err-clause-marks g c =
-    let difi = c.args.difi.now in
-    let size = c.block_size-size.result in
-    let is = ap (λ (m : ℕ). (c.args.at + c.loop-done.done) / m) c.block_size-size.ensures in
-    within_more (IsInPath difi ((c.args.at + c.loop-done.done) / size)) (IsInPaths difi c.args.at c.args.n)
-    c.args.state.now c.loop-done.state
-    c.prepare.new.state
-    (path_blocks difi c.args.at c.args.n c.loop-done.done ((c.args.at + c.loop-done.done) / size)
-    c.loop-done-test.true is)
-    c.loop-done.invariant.marks c.in-Err.ensures.marks
+    let block = (c.args.at + c.loop-done.done) / c.block_size-size.result in
+    path_marks c.args.difi.now c.args.at c.args.n c.loop-done.done block c.loop-done-test.true
+    (ap (λ (m : ℕ). (c.args.at + c.loop-done.done) / m) c.block_size-size.ensures) c.args.state.now c.loop-done.state
+    c.prepare.new.state c.loop-done.invariant.marks c.in-Err.ensures.marks
 
 pub returns-in-Err-clause-writes : goal.returns-in-Err-clause-writes
 returns-in-Err-clause-writes g c =
     let space = g.S.Space in
-    let difi = c.args.difi.now in
-    let size = c.block_size-size.result in
-    let block = (c.args.at + c.loop-done.done) / size in
-    let is = ap (λ (m : ℕ). (c.args.at + c.loop-done.done) / m) c.block_size-size.ensures in
-    let sites = path_sites difi c.args.at c.args.n c.loop-done.done block c.loop-done-test.true is in
-    Writes-join space.state space.keeps space.lands g.met.S.Space.keeps_join (RangeSites difi c.args.at c.args.n)
-    c.args.base.now
-    c.loop-done.base c.prepare.new.base (Some c.in-Err.bad) c.loop-done.invariant.writes
-    (Writes-wider space.state space.keeps space.lands (PathSites difi block) (RangeSites difi c.args.at c.args.n)
-    c.loop-done.base
-    c.prepare.new.base (Some c.in-Err.bad) (λ told x below site. sites x site) c.in-Err.ensures.writes)
+    let block = (c.args.at + c.loop-done.done) / c.block_size-size.result in
+    path_writes c.args.difi.now c.args.at c.args.n c.loop-done.done block c.loop-done-test.true
+    (ap (λ (m : ℕ). (c.args.at + c.loop-done.done) / m) c.block_size-size.ensures) space.state space.keeps space.lands
+    g.met.S.Space.keeps_join c.args.base.now c.loop-done.base c.prepare.new.base (Some c.in-Err.bad)
+    c.loop-done.invariant.writes c.in-Err.ensures.writes
 
 pub loop-done-preserved : goal.loop-done-preserved
 loop-done-preserved g c =
@@ -108,14 +97,8 @@ loop-done-preserved g c =
           range_more old.shape difi master c.requires.tree at n c.requires.inside old.cells mid.cells new.cells
           c.args.state.now c.loop-done.state c.prepare.new.state done less range run (omega (arith, short))
           (path unspoilt));
-      marks = within_more (IsInPath difi block) (IsInPaths difi at n) c.args.state.now c.loop-done.state
-          c.prepare.new.state
-          (path_blocks difi at n done block less is) before.marks c.in-Ok.ensures.marks;
-      writes = Writes-join space.state space.keeps space.lands g.met.S.Space.keeps_join (RangeSites difi at n)
-          c.args.base.now
-          c.loop-done.base c.prepare.new.base None before.writes
-          (Writes-wider space.state space.keeps space.lands (PathSites difi block) (RangeSites difi at n)
-          c.loop-done.base
-          c.prepare.new.base None (λ told x below site. path_sites difi at n done block less is x site)
-          c.in-Ok.ensures.writes);
+      marks = path_marks difi at n done block less is c.args.state.now c.loop-done.state c.prepare.new.state
+          before.marks c.in-Ok.ensures.marks;
+      writes = path_writes difi at n done block less is space.state space.keeps space.lands g.met.S.Space.keeps_join
+          c.args.base.now c.loop-done.base c.prepare.new.base None before.writes c.in-Ok.ensures.writes;
     }
