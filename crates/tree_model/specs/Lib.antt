@@ -2,3 +2,5 @@ pub mod Lines
 pub mod Trees
 pub mod Listings
 pub mod Answers
+pub mod Commands
+pub mod CommandReading

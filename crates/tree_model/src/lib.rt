@@ -3,11 +3,14 @@
 
 mod command;
 mod kind;
+mod laws;
 mod listing;
+mod reading;
 mod refusal;
 
 pub use command::{Command, Room, Target};
 pub use kind::TreeKind;
+pub use laws::lines_stand_for_one_command;
 pub use listing::{Listing, Row};
 pub use refusal::{FsFault, Full, Refusal};
 

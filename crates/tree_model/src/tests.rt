@@ -162,3 +162,90 @@ fn rows_in_order() -> [bool; 5]
 fn rows_are_ordered_by_their_paths(rt: HostRuntime) {
     assert_eq!(rt; rows_in_order(), [true, true, false, true, true]);
 }
+
+// The command's name, how many names its path has or 100 and the number of the path's fault, and its number.
+fn shown(read: &Option<Command>) -> (&'static str, usize, u64) {
+    match read {
+        None => ("none", 0, 0),
+        Some(Command::List) => ("list", 0, 0),
+        Some(Command::Room) => ("room", 0, 0),
+        Some(Command::Get(target)) => ("get", shown_target(target), 0),
+        Some(Command::Put(target, size)) => ("put", shown_target(target), *size),
+        Some(Command::Mkdir(target)) => ("mkdir", shown_target(target), 0),
+        Some(Command::Remove(target)) => ("remove", shown_target(target), 0),
+        Some(Command::Link(target, id)) => ("link", shown_target(target), *id),
+        Some(Command::Commit) => ("commit", 0, 0),
+        Some(Command::Abort) => ("abort", 0, 0),
+        Some(Command::End) => ("end", 0, 0),
+    }
+}
+
+fn shown_target(target: &Target) -> usize {
+    match target {
+        Target::Path(path) => path.len(),
+        Target::Fault(PathFault::Empty) => 101,
+        Target::Fault(PathFault::NoSlash) => 102,
+        Target::Fault(_) => 103,
+    }
+}
+
+#[test]
+fn a_line_is_read_as_its_command(rt: HostRuntime) {
+    let cases: [(&[u8], &'static str, usize, u64); 17] = [
+        (b"list", "list", 0, 0),
+        (b"room", "room", 0, 0),
+        (b"commit", "commit", 0, 0),
+        (b"abort", "abort", 0, 0),
+        (b"end", "end", 0, 0),
+        (b"get /", "get", 0, 0),
+        (b"get /a/b", "get", 2, 0),
+        (b"get ", "get", 101, 0),
+        (b"get a", "get", 102, 0),
+        (b"get //", "get", 103, 0),
+        (b"mkdir /a", "mkdir", 1, 0),
+        (b"remove /a", "remove", 1, 0),
+        (b"put /a 0", "put", 1, 0),
+        (b"put  10", "put", 101, 10),
+        (b"put /a 18446744073709551615", "put", 1, u64::MAX),
+        (b"link /a 7", "link", 1, 7),
+        (b"link a 7", "link", 102, 7),
+    ];
+    for (line, name, path, number) in cases {
+        let read = Command::read(line);
+        let (found, names, value) = shown(&read);
+        assert!(rt; found.as_bytes() == name.as_bytes(), "{line:?}");
+        assert!(rt; names == path && value == number, "{line:?}");
+    }
+}
+
+#[test]
+fn other_lines_are_none_of_the_forms(rt: HostRuntime) {
+    let cases: [&[u8]; 22] = [
+        b"",
+        b" ",
+        b"lists",
+        b"List",
+        b"list ",
+        b" list",
+        b"end ",
+        b"end\r",
+        b"get",
+        b"get  /a",
+        b"get /a ",
+        b"get /a 1",
+        b"mkdir",
+        b"puts /a 1",
+        b"put /a",
+        b"put /a ",
+        b"put /a 01",
+        b"put /a +1",
+        b"put /a 1 ",
+        b"put /a  1",
+        b"put /a 18446744073709551616",
+        b"link /a b 1",
+    ];
+    for line in cases {
+        let read = Command::read(line);
+        assert!(rt; read.is_none(), "{line:?}");
+    }
+}
