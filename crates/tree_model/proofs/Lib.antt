@@ -1,3 +1,5 @@
 pub mod NumberLemmas
 pub mod WordLemmas
 pub mod CommandLemmas
+pub mod TranscriptLemmas
+pub mod PrintLemmas

@@ -4,3 +4,4 @@ pub mod Listings
 pub mod Answers
 pub mod Commands
 pub mod CommandReading
+pub mod Transcripts

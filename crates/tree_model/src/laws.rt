@@ -1,12 +1,27 @@
-//! What the definition of a command's text means, for all texts: each function's contract is the law,
+//! What the definitions of commands and of a run's output mean, for all texts: each function's contract is the law,
 //! and its body is empty.
 
-ghost use Rattle.std.specs.Prelude.{◌≡◌, ℕ, List};
+ghost use Rattle.std.specs.Prelude.{◌≡◌, ◌≢◌, ℕ, ◌+◌, List, [], ◌++◌};
+ghost use Rattle.std.specs.List.{All, count_by};
 ghost use Rattle.tree_model.specs.declared.command.Command.{Command};
 ghost use Rattle.tree_model.specs.Commands.{IsCommandText};
+ghost use Rattle.tree_model.specs.Transcripts.{Reply, reply_text, transcript, IsPrintable, is_committed};
+ghost use Rattle.tree_model.specs.Transcripts.{IsAcknowledged};
 
 /// A line stands for one command.
 pub fn lines_stand_for_one_command()
     ensures { (line : List ℕ) (command other : Command) → IsCommandText line command → IsCommandText line other
         → command ≡ other }
+{}
+
+/// Said bytes acknowledge one number of commits. In front of other bytes, printed replies acknowledge as many commits
+/// as they report. A reply of which the end is missing acknowledges nothing.
+pub fn acknowledged_commits_add_up()
+    ensures one { (said : List ℕ) (count other : ℕ) → IsAcknowledged said count → IsAcknowledged said other
+        → count ≡ other }
+    ensures more { (replies : List Reply) (behind : List ℕ) (count : ℕ) → All IsPrintable replies
+        → IsAcknowledged behind count
+        → IsAcknowledged (transcript replies ++ behind) (count_by is_committed replies + count) }
+    ensures front { (reply : Reply) (front behind : List ℕ) → IsPrintable reply → reply_text reply ≡ front ++ behind
+        → behind ≢ [] → IsAcknowledged front 0 }
 {}

@@ -10,7 +10,7 @@ mod refusal;
 
 pub use command::{Command, Room, Target};
 pub use kind::TreeKind;
-pub use laws::lines_stand_for_one_command;
+pub use laws::{acknowledged_commits_add_up, lines_stand_for_one_command};
 pub use listing::{Listing, Row};
 pub use refusal::{FsFault, Full, Refusal};
 
