@@ -24,7 +24,7 @@ use Rattle.save_bytes.proofs.WithinLemmas.{ChangesWithin-join}
 use Rattle.alloc_chain.specs.Alters.{AreUnspoilt, Alters, IsOfEntries}
 
 -- a cell that is not spoilt softens to one that is not
-soft_unspoilt : (cell new : Cell) → MaySoften cell new → IsUnspoilt cell → IsUnspoilt new
+pub soft_unspoilt : (cell new : Cell) → MaySoften cell new → IsUnspoilt cell → IsUnspoilt new
 soft_unspoilt (Byte value) new soft is = rw soft tt
 soft_unspoilt (Blank part level block) new soft is =
     ⊎_elim

@@ -4,6 +4,8 @@ pub mod LinkLemmas
 pub mod CutLemmas
 pub mod TakeLemmas
 pub mod PlanLemmas
+pub mod ReadyLemmas
 pub mod SwapLemmas
 pub mod AnswerLemmas
 pub mod PlanRunLemmas
+pub mod SameLemmas

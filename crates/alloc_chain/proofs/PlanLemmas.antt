@@ -44,7 +44,7 @@ first_of table count few lead (node ∷ nodes) first at some h starts is first_i
     record { rest = nodes; whole = ap (λ (n : Node). n ∷ nodes) same.node; next = same.next }
 
 -- how many entries a node has
-length_run : (node : Node) → length (run_of node) ≡ node.last + 1 - node.first
+pub length_run : (node : Node) → length (run_of node) ≡ node.last + 1 - node.first
 length_run node = length-range_with_len node.first (node.last + 1 - node.first)
 
 pub length_around : (bs : List Node) (node : Node) (after : List Node)

@@ -89,6 +89,13 @@ abbrev pub AreCutBy : List Node → ℕ → Option Boundary → Type 0
 AreCutBy nodes n None = n ≡ 0
 AreCutBy nodes n (Some boundary) = (1 ≤ n) × IsBoundary nodes 0 n boundary
 
+-- just the blocks of the chain that is given back are taken, or there is none and none are taken
+abbrev pub IsSameCut : Option Given → Option Boundary → Type 0
+IsSameCut None None = ⊤
+IsSameCut None (Some boundary) = ⊥
+IsSameCut (Some given) None = ⊥
+IsSameCut (Some given) (Some boundary) = boundary.middle ≡ given.tail.last
+
 -- the plan of a swap: of these nodes of the old chain, and behind them of these free ones, the first n blocks are taken
 pub record IsPlan (old free : List Node) (n : ℕ) (plan : Plan) : Type 0 where
   pub given : AreGivenBy old plan.given

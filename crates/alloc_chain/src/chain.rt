@@ -15,7 +15,9 @@ ghost use Rattle.save_bytes.specs.Refusals.{UnlessDisk, NeverDamaged};
 ghost use Rattle.save_bytes.specs.Stays.{SameCells, SameSpace};
 ghost use Rattle.save_bytes.specs.Spots.{Hold};
 ghost use Rattle.alloc_chain.specs.Alters.{Alters};
-ghost use Rattle.alloc_chain.specs.Swaps.{ShareNone, CanSwap, IsSwapAnswer, IsReadyAnswer, IsSwapSite};
+ghost use Rattle.save_bytes.specs.Cells.{Cell};
+ghost use Rattle.alloc_chain.specs.Swaps.{ShareNone, CanSwap, IsSwapped, IsSwapAnswer, IsReadyAnswer, IsSwapSite};
+ghost use Rattle.alloc_chain.specs.Swaps.{CanTake, HasSoftened};
 ghost use Rattle.alloc_chain.specs.PlanRuns.{PlanFaultsOnly};
 ghost use Rattle.alloc_chain.specs.Held.{below, table_of, IsChainOver, SameChain};
 
@@ -159,18 +161,26 @@ impl<'a, S: Space> Chain<'a, S> {
 
     /// Gives back the chain that begins with `given`, and takes a chain of `n` blocks, in one change: first the blocks of
     /// the old chain in its order, then those of the free list in its order. It answers with the first entry of the chain
-    /// taken, none where `n` is 0. `Short` comes exactly where there are fewer blocks. On any refusal but `Disk` nothing
-    /// is changed.
+    /// taken, none where `n` is 0. `Short` comes exactly where there are fewer blocks. On any refusal but `Disk`, and
+    /// where `n` is the old chain's length, nothing is changed.
     pub fn swap(&mut self, given: Option<u32>, n: u64) -> Result<Option<u32>, ChainFault>
         requires table { HasAllocationTable (below S.state self.old).shape self.old.info }
         requires single { IsFalse (below S.state self.old).shape.doubled }
         ensures answer { IsTrue (below S.state self.old).told → (mine free : List ℕ)
             → CanSwap (table_of S.state self.old) self.old.info.count given mine free
             → IsSwapAnswer (table_of S.state self.old) (table_of S.state self.new) self.old.info.count n mine free result }
+        ensures exact { IsTrue (below S.state self.old).told → (ready : ℕ → ℕ → Cell)
+            → HasSoftened ready (table_of S.state self.old) → (mine free : List ℕ)
+            → CanSwap ready self.old.info.count given mine free → CanTake ready n mine free
+            → DoneUnlessDisk result (IsSwapped (table_of S.state self.new) self.old.info.count n (mine ++ free)) }
         ensures others { IsTrue (below S.state self.old).told → (mine free : List ℕ)
             → CanSwap (table_of S.state self.old) self.old.info.count given mine free → (first : ℕ) (list : List ℕ)
             → IsChain (table_of S.state self.old) self.old.info.count first list → ShareNone list (mine ++ free)
             → UnlessDisk (refusal_of (result_err result)) (IsChain (table_of S.state self.new) self.old.info.count first list) }
+        ensures unchanged { IsTrue (below S.state self.old).told → (mine free : List ℕ)
+            → CanSwap (table_of S.state self.old) self.old.info.count given mine free → n ≡ length mine
+            → Reads S.state S.keeps S.lands self.old.base.now self.new.base.now (refusal_of (result_err result))
+            × IfOk result (λ taken. taken ≡ given) }
         ensures alters { IsTrue (below S.state self.old).told → (mine free : List ℕ)
             → CanSwap (table_of S.state self.old) self.old.info.count given mine free
             → Alters S.state S.keeps S.lands (IsSwapSite self.old.info mine free) self.old.base.now self.new.base.now
@@ -200,6 +210,7 @@ impl<'a, S: Space> Chain<'a, S> {
         let base = &mut *self.base;
         ready_in(base, self.info, given, n)
     }
+
     /// The run from block number `pos` on of the chain that `swap` would take: first the blocks of the old chain in its
     /// order, then those of the free list. It is the rest of the node that has the block, or as much of it as lies in the
     /// first `n` blocks. `Broken` comes where there is no such block too. It changes nothing.

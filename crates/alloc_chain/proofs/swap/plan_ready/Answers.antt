@@ -4,7 +4,7 @@ use Rattle.chain_nodes.specs.Chains.{entries_of}
 use Rattle.chain_nodes.proofs.TableLemmas.{table_stays}
 use Rattle.alloc_chain.specs.Plans.{IsPlan}
 use Rattle.alloc_chain.specs.Swaps.{plan_entries}
-use Rattle.alloc_chain.proofs.SwapLemmas.{unspoilt_before, refused_plan, spoilt_plan}
+use Rattle.alloc_chain.proofs.SwapLemmas.{unspoilt_before, refused_plan, spoilt_plan, unspoilt_plan}
 use Rattle.alloc_chain.proofs.swap.plan_ready.Goals as goal
 
 pub returns-in-Err-clause-exact : goal.returns-in-Err-clause-exact
@@ -22,7 +22,18 @@ returns-in-Ok-ready_plan-clause-ready g c = λ told.
     (plan_entries c.in-Ok.plan) stays told (c.in-Ok-ready_plan.ensures.ready (stays.space.told told))
 
 pub returns-in-Ok-ready_plan-clause-exact : goal.returns-in-Ok-ready_plan-clause-exact
-returns-in-Ok-ready_plan-clause-exact g c = λ told old free can. c.in-Ok.ensures.exact told old free can
+returns-in-Ok-ready_plan-clause-exact g c = λ told old free can.
+    let s = g.S.Space.state c.args.base.now in
+    let m = g.S.Space.state c.plan_swap.new.base in
+    let info = c.args.info in
+    let stays = c.in-Ok.ensures.reads.stays in
+    let planned = c.in-Ok.ensures.exact told old free can in (
+      unspoilt_plan s info c.args.given c.args.n old free c.requires.table can c.in-Ok.plan planned.1
+          c.in-Ok.ensures.in_table planned.0
+          (unspoilt_before s m info (plan_entries c.in-Ok.plan) stays told
+          (c.in-Ok-ready_plan.ensures.ready (stays.space.told told))),
+      planned.1,
+    )
 
 pub returns-in-Ok-ready_plan-clause-reads : goal.returns-in-Ok-ready_plan-clause-reads
 returns-in-Ok-ready_plan-clause-reads g c =

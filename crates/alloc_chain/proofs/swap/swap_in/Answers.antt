@@ -6,9 +6,12 @@ use Rattle.chain_nodes.specs.Faults.{refusal_of}
 use Rattle.chain_nodes.proofs.TableLemmas.{table_stays}
 use Rattle.alloc_chain.specs.Alters.{IsOfEntries}
 use Rattle.alloc_chain.specs.Plans.{AreApartLists}
-use Rattle.alloc_chain.specs.Swaps.{IsSwapSite, plan_entries}
+use Rattle.alloc_chain.specs.Swaps.{IsSwapSite, IsSwapped, plan_entries}
+use Rattle.alloc_chain.proofs.SameLemmas.{same_swapped}
+use Rattle.std.proofs.Common.{◌++◌, ◌∙◌}
+use Rattle.std.proofs.lemmas.Bool.{false≢true}
 use Rattle.alloc_chain.proofs.AlterLemmas.{Alters-read, Alters-wider, Alters-join}
-use Rattle.alloc_chain.proofs.AnswerLemmas.{has_nodes, refusal_lists, swapped_lists, plan_sites, refused_ready}
+use Rattle.alloc_chain.proofs.AnswerLemmas.{taken_as_old, old_as_taken, has_nodes, refusal_lists, swapped_lists, plan_sites, refused_ready}
 use Rattle.alloc_chain.proofs.swap.swap_in.Goals as goal
 
 pub returns-in-Err-clause-answer : goal.returns-in-Err-clause-answer
@@ -90,9 +93,43 @@ returns-in-Ok-change-clause-answer g c = λ told mine free can.
     let planned = c.in-Ok.ensures.exact told nodes.old_nodes nodes.free_nodes nodes.can in
     let apart = subst (λ (t : ℕ → ℕ → Cell). AreApartLists t info.count nodes.old_nodes nodes.free_nodes)
     (sym (table_stays s m info c.requires.table stays told)) nodes.apart in (
-      omega (arith, planned.0, ap length nodes.old_is, ap length nodes.free_is),
+      omega (arith, planned.0.enough, ap length nodes.old_is, ap length nodes.free_is),
       swapped_lists new info.count c.args.n nodes.old_nodes nodes.free_nodes mine free c.in-Ok-change.taken
           nodes.old_is nodes.free_is
           (c.in-Ok-change.ensures.swapped (stays.space.told told) nodes.old_nodes nodes.free_nodes c.args.n apart
           planned.1),
     )
+
+pub returns-then-keeps_chain-clause-answer : goal.returns-then-keeps_chain-clause-answer
+returns-then-keeps_chain-clause-answer g c = λ told mine free can.
+    let s = g.S.Space.state c.args.base.now in
+    let info = c.args.info in
+    let table = table_in s.cells info in
+    let nodes = has_nodes table info.count mine free can.listed can.share_none c.args.given can.chain in
+    let planned = c.in-Ok.ensures.exact told nodes.old_nodes nodes.free_nodes nodes.can in
+    let later = table_stays s (g.S.Space.state c.plan_ready.new.base) info c.requires.table c.in-Ok.ensures.reads.stays
+    told in
+    let same = taken_as_old table info.count c.args.given c.args.n mine free nodes c.in-Ok.plan planned.1
+    c.in-Ok.ensures.in_table (c.keeps_chain.ensures.0 c.if-keeps_chain.true) in (
+      omega (arith, planned.0.enough, ap length nodes.old_is, ap length nodes.free_is),
+      subst (λ (t : ℕ → ℕ → Cell). IsSwapped t info.count c.args.n (mine ++ free) c.args.given) (sym later)
+          (same_swapped table info.count c.args.n c.args.given mine free can same),
+    )
+
+pub returns-in-Ok-change-clause-unchanged : goal.returns-in-Ok-change-clause-unchanged
+returns-in-Ok-change-clause-unchanged g c = λ told mine free can same.
+    let info = c.args.info in
+    let table = table_in (g.S.Space.state c.args.base.now).cells info in
+    let nodes = has_nodes table info.count mine free can.listed can.share_none c.args.given can.chain in
+    let cut = old_as_taken table info.count c.args.given c.args.n mine free nodes c.in-Ok.plan
+    (c.in-Ok.ensures.exact told nodes.old_nodes nodes.free_nodes nodes.can).1 c.in-Ok.ensures.in_table same in
+    absurd (false≢true (sym c.if-keeps_chain.false ∙ c.keeps_chain.ensures.1 cut))
+
+pub returns-in-Err-change-clause-unchanged : goal.returns-in-Err-change-clause-unchanged
+returns-in-Err-change-clause-unchanged g c = λ told mine free can same.
+    let info = c.args.info in
+    let table = table_in (g.S.Space.state c.args.base.now).cells info in
+    let nodes = has_nodes table info.count mine free can.listed can.share_none c.args.given can.chain in
+    let cut = old_as_taken table info.count c.args.given c.args.n mine free nodes c.in-Ok.plan
+    (c.in-Ok.ensures.exact told nodes.old_nodes nodes.free_nodes nodes.can).1 c.in-Ok.ensures.in_table same in
+    absurd (false≢true (sym c.if-keeps_chain.false ∙ c.keeps_chain.ensures.1 cut))
