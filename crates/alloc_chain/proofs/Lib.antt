@@ -8,4 +8,5 @@ pub mod ReadyLemmas
 pub mod SwapLemmas
 pub mod AnswerLemmas
 pub mod PlanRunLemmas
+pub mod PlanPlaceLemmas
 pub mod SameLemmas

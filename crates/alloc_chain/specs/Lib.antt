@@ -3,3 +3,4 @@ pub mod Alters
 pub mod Plans
 pub mod Swaps
 pub mod PlanRuns
+pub mod PlanPlaces

@@ -19,9 +19,12 @@ ghost use Rattle.save_bytes.specs.Cells.{Cell};
 ghost use Rattle.alloc_chain.specs.Swaps.{ShareNone, CanSwap, IsSwapped, IsSwapAnswer, IsReadyAnswer, IsSwapSite};
 ghost use Rattle.alloc_chain.specs.Swaps.{CanTake, HasSoftened};
 ghost use Rattle.alloc_chain.specs.PlanRuns.{PlanFaultsOnly};
+ghost use Rattle.alloc_chain.specs.PlanPlaces.{plan_passed, IsPlanPlace, StepFaultsOnly};
+ghost use Rattle.std.specs.Prelude.{Option};
 ghost use Rattle.alloc_chain.specs.Held.{below, table_of, IsChainOver, SameChain};
 
 use crate::lists::{chain_len, chain_run, free_len, free_start, next_run};
+use crate::plan_places::{PlanCursor, planned_step};
 use crate::plan_runs::planned_run;
 use crate::swap::{ready_in, swap_in};
 use chain_nodes::{ChainFault, ChainInfo, Cursor, Run};
@@ -229,5 +232,31 @@ impl<'a, S: Space> Chain<'a, S> {
     {
         let base = &mut *self.base;
         planned_run(base, self.info, old, n, pos)
+    }
+
+    /// The run behind a place of the chain that `swap` would take, and the place behind that run. The run is the rest of a
+    /// node, or as much of it as the chain has. To go over a plan by places reads each of its nodes once, and entry 0. It
+    /// changes nothing.
+    pub fn planned_behind(&mut self, cursor: PlanCursor) -> Result<(Run, PlanCursor), ChainFault>
+        requires table { HasAllocationTable (below S.state self.old).shape self.old.info }
+        requires not_at_end { plan_passed cursor < cursor.wanted }
+        ensures some { IfOk result (λ step. 1 ≤ step.0.len) }
+        ensures inside { IfOk result (λ step. step.0.block + step.0.len ≤ self.old.info.count) }
+        ensures wanted { IfOk result (λ step. step.1.wanted ≡ cursor.wanted) }
+        ensures passed { IfOk result (λ step. plan_passed step.1 ≡ plan_passed cursor + step.0.len) }
+        ensures place { IsTrue (below S.state self.old).told → (old : Option ℕ)
+            → IsPlanPlace (table_of S.state self.old) self.old.info.count old cursor
+            → IfOk result (λ step. IsPlanPlace (table_of S.state self.old) self.old.info.count old step.1) }
+        ensures exact { IsTrue (below S.state self.old).told → (old : Option ℕ) (mine free : List ℕ)
+            → IsPlanPlace (table_of S.state self.old) self.old.info.count old cursor
+            → CanSwap (table_of S.state self.old) self.old.info.count old mine free
+            → cursor.wanted ≤ length mine + length free
+            → DoneUnlessDisk result (λ step. IsRunIn (take cursor.wanted (mine ++ free)) (plan_passed cursor) step.0) }
+        ensures faults { StepFaultsOnly (below S.state self.old) self.old.info cursor (result_err result) }
+        ensures reads { Reads S.state S.keeps S.lands self.old.base.now self.new.base.now (refusal_of (result_err result)) }
+        ensures same { SameChain self.old self.new }
+    {
+        let base = &mut *self.base;
+        planned_step(base, self.info, cursor)
     }
 }

@@ -5,6 +5,7 @@ mod chain;
 mod links;
 mod lists;
 mod plan;
+mod plan_places;
 mod plan_runs;
 mod swap;
 mod words;
@@ -12,6 +13,7 @@ mod words;
 pub use chain::Chain;
 pub use chain_nodes::{ChainFault, ChainInfo, Cursor, Run};
 pub use chain_space::ChainSpace;
+pub use plan_places::PlanCursor;
 
 #[cfg(test)]
 mod counted;
