@@ -18,6 +18,10 @@ pub use plan_places::PlanCursor;
 #[cfg(test)]
 mod counted;
 #[cfg(test)]
+mod hole_tests;
+#[cfg(test)]
+mod random_tests;
+#[cfg(test)]
 mod swap_tests;
 #[cfg(test)]
 mod tests;
