@@ -21,7 +21,7 @@ use Rattle.chain_nodes.specs.Runs.{DoneUnlessDisk}
 use Rattle.chain_nodes.proofs.OwnLemmas.{list_rests, words_read, same_v}
 use Rattle.std.proofs.lemmas.Grind.{get_or_default_zero}
 use Rattle.std.proofs.Common.{get_or, inr, Result, Ok, Err}
-use Rattle.alloc_chain.proofs.AlterLemmas.{soft_unspoilt}
+use Rattle.chain_links.proofs.AlterLemmas.{soft_unspoilt}
 use Rattle.chain_nodes.specs.Chains.{IsLinkedBy, IsChain, IsFreeList, entries_of}
 use Rattle.chain_nodes.specs.Faults.{refusal_of}
 use Rattle.chain_nodes.proofs.ListLemmas.{entries_of-append}
@@ -30,13 +30,13 @@ use Rattle.chain_nodes.proofs.TableLemmas.{table_cell}
 use Rattle.chain_nodes.proofs.ExactLemmas.{chain_few}
 use Rattle.chain_nodes.proofs.EditLemmas.{entry_within}
 use Rattle.alloc_chain.specs.declared.plan.Plan.{Plan}
-use Rattle.alloc_chain.specs.Alters.{AreUnspoilt, IsOfEntries}
+use Rattle.chain_links.specs.Alters.{AreUnspoilt, IsOfEntries}
 use Rattle.alloc_chain.specs.Plans.{IsPlan, IsPlanIn, IsSameCut, CanPlan, AreApartLists}
 use Rattle.alloc_chain.proofs.SameLemmas.{same_length, same_cut}
 use Rattle.alloc_chain.specs.Swaps.{IsOptChain, ShareNone, IsSwapped, IsSwapEntry, IsSwapRefusal, IsSwapSite}
 use Rattle.alloc_chain.specs.Swaps.{plan_entries, CanSwap, CanTake, HasSoftened, IsSwapAnswer}
 use Rattle.alloc_chain.proofs.SwapLemmas.{plan_in, others_stay}
-use Rattle.alloc_chain.proofs.WordLemmas.{entry_kept}
+use Rattle.chain_links.proofs.WordLemmas.{entry_kept}
 
 -- the nodes of the two lists of a swap
 pub record HasNodes (table : ℕ → ℕ → Cell) (count : ℕ) (given : Option ℕ) (mine free : List ℕ) : Type 0 where

@@ -1,8 +1,3 @@
-pub mod AlterLemmas
-pub mod WordLemmas
-pub mod LinkLemmas
-pub mod CutLemmas
-pub mod TakeLemmas
 pub mod PlanLemmas
 pub mod ReadyLemmas
 pub mod SwapLemmas

@@ -73,7 +73,8 @@ module _ (table : ℕ → ℕ → Cell) (count : ℕ) where
       → here.before ≡ min (cursor.before + cursor.list.passed) cursor.wanted
       → min (cursor.before + cursor.list.passed) cursor.wanted < cursor.wanted
       → IsListPlace table count here.list → IsPlanPlace table count old cursor → IsPlanPlace table count old here
-  place_behind_old old cursor here behind free opens first before less place (InFree is is_opens is_first length_is at) =
+  place_behind_old old cursor here behind free opens first before less place
+      (InFree is is_opens is_first length_is at) =
       absurd (cc (behind.in_old, is))
   place_behind_old old cursor here behind free opens first before less place (InOld is is_opens is_first none at) =
       let ends = length_at_end cursor.list at behind.at_end in
@@ -95,7 +96,8 @@ module _ (table : ℕ → ℕ → Cell) (count : ℕ) where
       (subst (λ (n : ℕ). HasOptLength table count old n) (sym before) length_is) (list at)
 
   -- the list of a place
-  pub list_place : (old : Option ℕ) (here : PlanCursor) → IsPlanPlace table count old here → IsListPlace table count here.list
+  pub list_place : (old : Option ℕ) (here : PlanCursor) → IsPlanPlace table count old here
+      → IsListPlace table count here.list
   list_place old here (InOld is is_opens is_first none at) = at
   list_place old here (InFree is is_opens is_first length_is at) = at
 
@@ -215,7 +217,8 @@ module _ (s m : State) (info : ChainInfo) (table : HasAllocationTable s.shape in
       (list_place (table_in s.cells info) info.count old here place)
 
   pub said_here : (Q : (ℕ → ℕ → Cell) → Type 0)
-      → (IsListPlace (table_in m.cells info) info.count here.list → Q (table_in m.cells info)) → Q (table_in s.cells info)
+      → (IsListPlace (table_in m.cells info) info.count here.list → Q (table_in m.cells info))
+      → Q (table_in s.cells info)
   said_here Q said = subst Q later (said at_later)
 
   pub place_said : (behind : PlanCursor) → behind.free ≡ here.free → behind.before ≡ here.before

@@ -14,7 +14,7 @@ use Rattle.chain_nodes.specs.Chains.{start_of, AreNodes, entries_of}
 use Rattle.chain_nodes.proofs.EditLemmas.{run_of}
 use Rattle.chain_nodes.proofs.ListLemmas.{entries_of-append}
 use Rattle.alloc_chain.specs.declared.plan.Boundary.{Boundary}
-use Rattle.alloc_chain.specs.Alters.{cut_entries}
+use Rattle.chain_links.specs.Alters.{cut_entries}
 use Rattle.alloc_chain.specs.Plans.{IsBoundary}
 use Rattle.alloc_chain.specs.Swaps.{IsNearCut, IsUnspoiltEntry}
 use Rattle.alloc_chain.proofs.PlanLemmas.{length_run, length_around}
@@ -139,7 +139,11 @@ module _ (table : ℕ → ℕ → Cell) (nodes : List Node) (n : ℕ) (boundary 
       let place : boundary.node.first + j ≡ entry = omega (arith, low, from) in
       record {
         k = length (entries_of is.before) + j;
-        near = (omega (arith, is.counted, from), omega (arith, is.counted, low, place), omega (arith, is.counted, high, place));
+        near = (
+          omega (arith, is.counted, from),
+          omega (arith, is.counted, low, place),
+          omega (arith, is.counted, high, place),
+        );
         inside = omega (arith, length_parts, inside, place);
         is_entry = from_node j ∙ entry_in_first boundary.node is.after j (omega (arith, place, inside)) ∙ place;
       }
@@ -162,7 +166,8 @@ module _ (table : ℕ → ℕ → Cell) (nodes : List Node) (n : ℕ) (boundary 
   behind_known j low =
       ⊎_elim
       (λ (within : boundary.middle + j < boundary.node.last).
-      inr (near_entry (min (boundary.middle + j) boundary.node.last) (omega (arith, within)) (omega (arith, low)) (omega arith)))
+      inr (near_entry (min (boundary.middle + j) boundary.node.last) (omega (arith, within)) (omega (arith, low))
+      (omega arith)))
       (λ (past : boundary.node.last ≤ boundary.middle + j).
       let same : boundary.node.last ≡ min (boundary.middle + j) boundary.node.last = omega (arith, past) in
       inl (subst (λ (x : ℕ). HasWords table x) same last_words))
@@ -185,7 +190,8 @@ module _ (table : ℕ → ℕ → Cell) (nodes : List Node) (n : ℕ) (boundary 
   each_of P a few here rest x (suc k, within, same) = rest x (k, omega (arith, within), same)
 
   pub cut_known : HasWords table 0 → (first : ℕ) → HasWords table first → (x : ℕ)
-      → Contains (first ∷ cut_entries boundary.node boundary.middle boundary.next) x → HasWords table x ⊎ HasNearPlace n (entries_of nodes) x
+      → Contains (first ∷ cut_entries boundary.node boundary.middle boundary.next) x
+      → HasWords table x ⊎ HasNearPlace n (entries_of nodes) x
   cut_known root first first_read =
       let node = boundary.node in
       let middle = boundary.middle in
@@ -223,7 +229,8 @@ module _ (table : ℕ → ℕ → Cell) (nodes : List Node) (n : ℕ) (boundary 
       let place = ap (λ (i : ℕ). get_or (entries_of nodes) i 0) (sym low) ∙ from_node j
       ∙ entry_in_first boundary.node is.after j fits in
       subst Q (sym place)
-      (of_cut (boundary.node.first + j) (omega (arith, near.1, is.counted, low)) (omega (arith, near.2, is.counted, low)) fits))
+      (of_cut (boundary.node.first + j) (omega (arith, near.1, is.counted, low))
+      (omega (arith, near.2, is.counted, low)) fits))
       (λ (behind : past + run ≤ k).
       let j : ℕ = k - (past + run) in
       let split : past + (run + j) ≡ k = omega (arith, behind) in

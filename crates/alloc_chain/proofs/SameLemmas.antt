@@ -34,7 +34,8 @@ distinct_places list once i j less inside same =
     ) (
       0,
       omega (arith, length-drop j list, inside),
-      get_or-drop j list 0 x ∙ ap (λ (k : ℕ). get_or list k x) (sum_none j) ∙ get_or_default_zero list j x inside ∙ sym same,
+      get_or-drop j list 0 x ∙ ap (λ (k : ℕ). get_or list k x) (sum_none j)
+          ∙ get_or_default_zero list j x inside ∙ sym same,
     )
   where
     sum_none : (j : ℕ) → j + 0 ≡ j
@@ -43,7 +44,8 @@ distinct_places list once i j less inside same =
 module _ (old free : List Node) (n count : ℕ) (once : IsDistinct nat_eq (entries_of (old ++ free))) where
   -- where the last entry of the old chain stands
   tail_place : (given : Given) → IsEndedBy old given → IsGivenIn count given
-      → (1 ≤ length (entries_of old)) × (get_or (entries_of (old ++ free)) (length (entries_of old) - 1) 0 ≡ given.tail.last)
+      → (1 ≤ length (entries_of old))
+      × (get_or (entries_of (old ++ free)) (length (entries_of old) - 1) 0 ≡ given.tail.last)
   tail_place given is inside =
       let tail = given.tail in
       let count_is = ap (λ (l : List Node). length (entries_of l)) is.whole ∙ length_around is.front tail [] in

@@ -24,7 +24,7 @@ use Rattle.chain_nodes.specs.Edits.{KeepsEntry, AreFreeNodes, AreTaken}
 use Rattle.chain_nodes.proofs.OwnLemmas.{list_rests, entry_of}
 use Rattle.chain_nodes.proofs.TableLemmas.{table_cell}
 use Rattle.chain_nodes.proofs.EditLemmas.{run_of, entry_within, AreNodes-split}
-use Rattle.alloc_chain.specs.Alters.{AreUnspoilt, IsOfEntries, cut_entries}
+use Rattle.chain_links.specs.Alters.{AreUnspoilt, IsOfEntries, cut_entries}
 use Rattle.chain_nodes.proofs.ListLemmas.{start_of-append, entries_of-append}
 use Rattle.chain_nodes.proofs.DistinctLemmas.{distinct_left}
 use Rattle.alloc_chain.specs.declared.plan.Boundary.{Boundary}
@@ -39,8 +39,8 @@ use Rattle.alloc_chain.specs.Swaps.{IsNearCut, IsUnspoiltEntry, CanTake, IsCutSp
 use Rattle.alloc_chain.proofs.ReadyLemmas.{AreReadNodes, linked_read, AreReadNodes-append, start_words, HasNearPlace}
 use Rattle.alloc_chain.proofs.ReadyLemmas.{cut_known, cut_behind_contains, each_near, words_unspoilt}
 use Rattle.alloc_chain.specs.Swaps.{taken_entries, plan_entries}
-use Rattle.alloc_chain.proofs.CutLemmas.{IsNoneOr, each_none, each_more, all_four, each_four}
-use Rattle.alloc_chain.proofs.TakeLemmas.{starts_some}
+use Rattle.chain_links.proofs.CutLemmas.{IsNoneOr, each_none, each_more, all_four, each_four}
+use Rattle.chain_links.proofs.TakeLemmas.{starts_some}
 use Rattle.alloc_chain.proofs.PlanLemmas.{length_around}
 
 -- a spoilt cell of an entry
@@ -60,8 +60,8 @@ unspoilt_before s m info entries stays told un x below site =
 
 -- no word of some entries is spoilt
 pub unspoilt_all : (s : State) (info : ChainInfo) (entries : List ℕ)
-    → ((k : ℕ) → k < length entries → AreUnspoilt s (IsOfEntries info (get_or entries k 0 ∷ []))) → AreUnspoilt s (IsOfEntries info
-    entries)
+    → ((k : ℕ) → k < length entries → AreUnspoilt s (IsOfEntries info (get_or entries k 0 ∷ [])))
+    → AreUnspoilt s (IsOfEntries info entries)
 unspoilt_all s info entries each x below (entry, (k, within, is), of) =
     let same : get_or entries k 0 ≡ entry = sym (get_or_default_zero entries k entry within) ∙ is in
     each k within x below (entry, (0, omega arith, same), of)
@@ -339,9 +339,8 @@ module _ (table : ℕ → ℕ → Cell) (count n : ℕ) (old free : List Node) (
       (taken_entries (first_of plan.given plan.head) plan.boundary) x within)
 
   -- such an entry lies in the table
-  pub plan_inside : (plan : Plan) → IsPlan old free n plan → IsPlanIn count plan → (x : ℕ) → Contains (plan_entries plan)
-      x
-      → x ≤ count
+  pub plan_inside : (plan : Plan) → IsPlan old free n plan → IsPlanIn count plan → (x : ℕ)
+      → Contains (plan_entries plan) x → x ≤ count
   plan_inside plan is inside x within =
       ⊎_elim
       (λ (none : x ≡ 0). omega (arith, none))
@@ -357,6 +356,9 @@ module _ (table : ℕ → ℕ → Cell) (count n : ℕ) (old free : List Node) (
 
     free_read : AreReadNodes table free
     free_read = linked_read table count OpensFree free 0 listed
+
+    both_read : AreReadNodes table (old ++ free)
+    both_read = AreReadNodes-append table old free old_read free_read
 
     -- where the chain is given back, only words are written that are bytes
     given_words : (given : Option Given) (head : ℕ) → AreGivenBy old given → start_of free 0 ≡ head → (x : ℕ)
@@ -385,8 +387,7 @@ module _ (table : ℕ → ℕ → Cell) (count n : ℕ) (old free : List Node) (
         ⊎_elim
         (λ (left : Contains (given_entries given head) x). inl (given_words given head is head_is x left))
         (λ (right : Contains (first_of given head ∷ cut_entries boundary.node boundary.middle boundary.next) x).
-        cut_known table (old ++ free) n boundary cut.1 (AreReadNodes-append table old free old_read free_read) inside.from
-        inside.up_to read (first_of given head) (first_words given head is head_is) x right)
+        cut_known table (old ++ free) n boundary cut.1 both_read inside.from inside.up_to read (first_of given head) (first_words given head is head_is) x right)
         (Contains-append_cases (given_entries given head)
         (first_of given head ∷ cut_entries boundary.node boundary.middle boundary.next) x within)
 
@@ -407,14 +408,15 @@ module _ (table : ℕ → ℕ → Cell) (count n : ℕ) (old free : List Node) (
         (words_or_near plan.given plan.head plan.boundary is.given is.head is.cut inside.boundary entry within)
 
     near_unspoilt : (boundary : Option Boundary) (first : ℕ) → AreCutBy (old ++ free) n boundary
-        → IfSome boundary (IsBoundaryIn count) → ((x : ℕ) → Contains (taken_entries first boundary) x → IsUnspoiltEntry table x)
+        → IfSome boundary (IsBoundaryIn count)
+        → ((x : ℕ) → Contains (taken_entries first boundary) x → IsUnspoiltEntry table x)
         → (k : ℕ) → IsNearCut n k → k < length (entries_of (old ++ free))
         → IsUnspoiltEntry table (get_or (entries_of (old ++ free)) k 0)
     near_unspoilt None first cut inside un = λ k near less. absurd (omega (arith, cut, near.0))
     near_unspoilt (Some boundary) first cut inside un =
-        each_near table (old ++ free) n boundary cut.1 (AreReadNodes-append table old free old_read free_read) inside.from
-        inside.up_to (λ (x : ℕ). IsUnspoiltEntry table x) (words_unspoilt table)
-        (λ x low high fits. un x (cut_behind_contains first boundary.node boundary.middle boundary.next x low high fits))
+        each_near table (old ++ free) n boundary cut.1 both_read inside.from inside.up_to (λ (x : ℕ). IsUnspoiltEntry table x) (words_unspoilt table)
+        (λ x low high fits.
+        un x (cut_behind_contains first boundary.node boundary.middle boundary.next x low high fits))
 
     -- where no entry of a plan is spoilt, its blocks can be taken
     pub plan_can_take : (plan : Plan) → IsPlan old free n plan → IsPlanIn count plan

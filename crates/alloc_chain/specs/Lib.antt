@@ -1,5 +1,4 @@
 pub mod Held
-pub mod Alters
 pub mod Plans
 pub mod Swaps
 pub mod PlanRuns

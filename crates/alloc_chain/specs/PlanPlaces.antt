@@ -37,8 +37,8 @@ pub record IsBehindOld (cursor : PlanCursor) : Type 0 where
   pub in_old : cursor.free ≡ false
   pub at_end : IsAtEnd cursor.list
 
--- Which fault comes when the run behind a place of a plan is looked for. A list is named as broken only where the place is
--- one of the old chain and the free list, and a block lies behind it.
+-- Which fault comes when the run behind a place of a plan is looked for. A list is named as broken only where the place
+-- is one of the old chain and the free list, and a block lies behind it.
 abbrev pub StepFaultsOnly : State → ChainInfo → PlanCursor → Option ChainFault → Type 0
 StepFaultsOnly s info cursor fault =
     FaultsOnly s info (λ e. (old : Option ℕ) → IsPlanPlace (table_in s.cells info) info.count old cursor

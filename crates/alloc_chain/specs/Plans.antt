@@ -61,6 +61,11 @@ pub record IsEndedBy (nodes : List Node) (given : Given) : Type 0 where
   pub whole : nodes ≡ front ++ given.tail ∷ []
   pub starts : start_of nodes 0 ≡ given.first
 
+-- the node is the last one of a chain that begins with an entry, and is counted as it says
+pub record IsLastOf (nodes : List Node) (first : ℕ) (at : NodeAt) : Type 0 where
+  pub ended : IsEndedBy nodes (record { first = first; tail = at.node })
+  pub counted : at.end ≡ length (entries_of nodes)
+
 -- what a plan names lies in a table of so many entries
 pub record IsBoundaryIn (count : ℕ) (boundary : Boundary) : Type 0 where
   pub some : 1 ≤ boundary.node.first

@@ -15,7 +15,7 @@ use Rattle.chain_nodes.specs.Chains.{IsChain, IsFreeList}
 use Rattle.alloc_chain.specs.declared.plan.Boundary.{Boundary}
 use Rattle.alloc_chain.specs.declared.plan.Given.{Given}
 use Rattle.alloc_chain.specs.declared.plan.Plan.{Plan}
-use Rattle.alloc_chain.specs.Alters.{cut_entries}
+use Rattle.chain_links.specs.Alters.{cut_entries}
 
 -- a chain that may be missing is this list of entries
 abbrev pub IsOptChain : (ℕ → ℕ → Cell) → ℕ → Option ℕ → List ℕ → Type 0
@@ -45,8 +45,9 @@ IsSwapEntry mine free entry = (entry ≡ 0) ⊎ Contains (mine ++ free) entry
 abbrev pub HasSpoilt : (ℕ → ℕ → Cell) → ℕ → ℕ → ℕ → ℕ → Type 0
 HasSpoilt table entry part level block = (k : ℕ) × (k < 8) × (table entry k ≡ Spoilt part level block)
 
--- A position of a list has the last of its first n entries, or one of the two behind that. Where a list of blocks is cut
--- behind its first n, these alone are written that may be ignored entries of a node: one ends a node, the others begin one.
+-- A position of a list has the last of its first n entries, or one of the two behind that. Where a list of blocks is
+-- cut behind its first n, of all entries that are written these alone may be ignored ones of a node: the one ends a node
+-- then, and the others begin one.
 abbrev pub IsNearCut : ℕ → ℕ → Type 0
 IsNearCut n k = (1 ≤ n) × (n ≤ k + 1) × (k ≤ n + 1)
 

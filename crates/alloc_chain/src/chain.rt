@@ -14,7 +14,7 @@ ghost use Rattle.std.specs.Prelude.{◌++◌, IsFalse, IfErr, Some, take};
 ghost use Rattle.save_bytes.specs.Refusals.{UnlessDisk, NeverDamaged};
 ghost use Rattle.save_bytes.specs.Stays.{SameCells, SameSpace};
 ghost use Rattle.save_bytes.specs.Spots.{Hold};
-ghost use Rattle.alloc_chain.specs.Alters.{Alters};
+ghost use Rattle.chain_links.specs.Alters.{Alters};
 ghost use Rattle.save_bytes.specs.Cells.{Cell};
 ghost use Rattle.alloc_chain.specs.Swaps.{ShareNone, CanSwap, IsSwapped, IsSwapAnswer, IsReadyAnswer, IsSwapSite};
 ghost use Rattle.alloc_chain.specs.Swaps.{CanTake, HasSoftened};
@@ -200,7 +200,8 @@ impl<'a, S: Space> Chain<'a, S> {
         swap_in(base, self.info, given, n)
     }
 
-    /// The refusal that `swap` would give. It changes nothing.
+    /// The refusal that `swap` would give. It changes nothing. After an Ok `swap` answers Ok or `Disk`, as long as the
+    /// table stays as it is or its cells soften.
     pub fn ready_swap(&mut self, given: Option<u32>, n: u64) -> Result<(), ChainFault>
         requires { HasAllocationTable (below S.state self.old).shape self.old.info }
         ensures answer { IsTrue (below S.state self.old).told → (mine free : List ℕ)

@@ -2,13 +2,11 @@
 #![tactic(auto)]
 
 mod chain;
-mod links;
 mod lists;
 mod plan;
 mod plan_places;
 mod plan_runs;
 mod swap;
-mod words;
 
 pub use chain::Chain;
 pub use chain_nodes::{ChainFault, ChainInfo, Cursor, Run};

@@ -11,7 +11,7 @@ ghost use Rattle.chain_nodes.specs.declared.node.Lead.TheVariants.{Opens};
 ghost use Rattle.chain_nodes.specs.Table.{table_in, HasAllocationTable};
 ghost use Rattle.chain_nodes.specs.Chains.{start_of, AreNodes, entries_of};
 ghost use Rattle.chain_nodes.specs.Edits.{AreFreeNodes};
-ghost use Rattle.alloc_chain.specs.Alters.{AreUnspoilt, Alters, IsOfEntries, cut_entries};
+ghost use Rattle.chain_links.specs.Alters.{AreUnspoilt, Alters, IsOfEntries, cut_entries};
 ghost use Rattle.alloc_chain.specs.Plans.{IsSameCut, IsBoundaryIn, IsGivenIn, IsPlanIn, AreGivenBy, AreCutBy, IsPlan, AreApartLists, CanPlan};
 ghost use Rattle.alloc_chain.specs.Swaps.{HasSpoilt, IsReadyAnswer, CanSwap, IsSwapAnswer, IsSwapSite};
 ghost use Rattle.save_bytes.specs.Stays.{SameCells, SameSpace};
@@ -19,8 +19,8 @@ ghost use Rattle.save_bytes.specs.Spots.{Hold};
 ghost use Rattle.chain_nodes.specs.Faults.{refusal_of};
 ghost use Rattle.alloc_chain.specs.Swaps.{IsSwapped, first_of, given_entries, taken_entries, plan_entries};
 
-use crate::links::{give_back, take_front};
 use crate::plan::{Boundary, Given, Plan, plan_swap};
+use chain_links::{give_back, take_front};
 use chain_nodes::{ChainFault, ChainInfo};
 use save_bytes::{Bad, Space};
 

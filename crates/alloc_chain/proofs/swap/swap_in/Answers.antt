@@ -4,14 +4,15 @@ use Rattle.chain_nodes.specs.Table.{table_in}
 use Rattle.chain_nodes.specs.Chains.{entries_of}
 use Rattle.chain_nodes.specs.Faults.{refusal_of}
 use Rattle.chain_nodes.proofs.TableLemmas.{table_stays}
-use Rattle.alloc_chain.specs.Alters.{IsOfEntries}
+use Rattle.chain_links.specs.Alters.{IsOfEntries}
 use Rattle.alloc_chain.specs.Plans.{AreApartLists}
 use Rattle.alloc_chain.specs.Swaps.{IsSwapSite, IsSwapped, plan_entries}
 use Rattle.alloc_chain.proofs.SameLemmas.{same_swapped}
 use Rattle.std.proofs.Common.{◌++◌, ◌∙◌}
 use Rattle.std.proofs.lemmas.Bool.{false≢true}
-use Rattle.alloc_chain.proofs.AlterLemmas.{Alters-read, Alters-wider, Alters-join}
-use Rattle.alloc_chain.proofs.AnswerLemmas.{taken_as_old, old_as_taken, has_nodes, refusal_lists, swapped_lists, plan_sites, refused_ready}
+use Rattle.chain_links.proofs.AlterLemmas.{Alters-read, Alters-wider, Alters-join}
+use Rattle.alloc_chain.proofs.AnswerLemmas.{taken_as_old, old_as_taken, has_nodes, refusal_lists, swapped_lists}
+use Rattle.alloc_chain.proofs.AnswerLemmas.{plan_sites, refused_ready}
 use Rattle.alloc_chain.proofs.swap.swap_in.Goals as goal
 
 pub returns-in-Err-clause-answer : goal.returns-in-Err-clause-answer
