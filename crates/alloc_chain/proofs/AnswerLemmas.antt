@@ -31,21 +31,12 @@ use Rattle.chain_nodes.proofs.ExactLemmas.{chain_few}
 use Rattle.chain_nodes.proofs.EditLemmas.{entry_within}
 use Rattle.alloc_chain.specs.declared.plan.Plan.{Plan}
 use Rattle.chain_links.specs.Alters.{AreUnspoilt, IsOfEntries}
-use Rattle.alloc_chain.specs.Plans.{IsPlan, IsPlanIn, IsSameCut, CanPlan, AreApartLists}
+use Rattle.alloc_chain.specs.Plans.{IsPlanIn, IsSameCut, HasNodes, IsListPlan}
 use Rattle.alloc_chain.proofs.SameLemmas.{same_length, same_cut}
 use Rattle.alloc_chain.specs.Swaps.{IsOptChain, ShareNone, IsSwapped, IsSwapEntry, IsSwapRefusal, IsSwapSite}
 use Rattle.alloc_chain.specs.Swaps.{plan_entries, CanSwap, CanTake, HasSoftened, IsSwapAnswer}
 use Rattle.alloc_chain.proofs.SwapLemmas.{plan_in, others_stay}
 use Rattle.chain_links.proofs.WordLemmas.{entry_kept}
-
--- the nodes of the two lists of a swap
-pub record HasNodes (table : ℕ → ℕ → Cell) (count : ℕ) (given : Option ℕ) (mine free : List ℕ) : Type 0 where
-  pub old_nodes : List Node
-  pub free_nodes : List Node
-  pub can : CanPlan table count given old_nodes free_nodes
-  pub apart : AreApartLists table count old_nodes free_nodes
-  pub old_is : entries_of old_nodes ≡ mine
-  pub free_is : entries_of free_nodes ≡ free
 
 module _ (table : ℕ → ℕ → Cell) (count : ℕ) (mine free : List ℕ) (listed : IsFreeList table count free) (share :
     ShareNone mine free)
@@ -58,7 +49,7 @@ module _ (table : ℕ → ℕ → Cell) (count : ℕ) (mine free : List ℕ) (li
         ∙ ap (λ (l : List ℕ). mine ++ l) listed.linked.entries))
         (distinct_both mine free once listed.once share)
 
-    pub has_nodes : (given : Option ℕ) → IsOptChain table count given mine → HasNodes table count given mine free
+    has_nodes : (given : Option ℕ) → IsOptChain table count given mine → HasNodes table count given mine free
     has_nodes None none =
         let free_once = subst (λ (l : List ℕ). IsDistinct nat_eq l) (sym listed.linked.entries) listed.once in
         let few = chain_few table count OpensFree _ free listed.linked listed.once in
@@ -121,6 +112,10 @@ module _ (table : ℕ → ℕ → Cell) (count : ℕ) (mine free : List ℕ) (li
           free_is = listed.linked.entries;
         }
 
+pub nodes_of : (table : ℕ → ℕ → Cell) (count : ℕ) (given : Option ℕ) (mine free : List ℕ)
+    → CanSwap table count given mine free → HasNodes table count given mine free
+nodes_of table count given mine free can = has_nodes table count mine free can.listed can.share_none given can.chain
+
 -- a refusal in words of the lists
 pub refusal_lists : (table : ℕ → ℕ → Cell) (n : ℕ) (one other mine free : List ℕ) (fault : ChainFault) → one ≡ mine →
     other ≡ free
@@ -144,13 +139,13 @@ swapped_lists table count n old free mine list taken old_is free_is h =
     free_is) h
 
 -- the words of a plan are words of the lists
-pub plan_sites : (table : ℕ → ℕ → Cell) (info : ChainInfo) (given : Option ℕ) (n : ℕ) (mine free : List ℕ)
-    (nodes : HasNodes table info.count given mine free) (plan : Plan) → IsPlan nodes.old_nodes nodes.free_nodes n plan
-    → IsPlanIn info.count plan → (x : ℕ) → IsOfEntries info (plan_entries plan) x → IsSwapSite info mine free x
-plan_sites table info given n mine free nodes plan is inside x (entry, within, of) =
+pub plan_sites : (table : ℕ → ℕ → Cell) (info : ChainInfo) (given : Option ℕ) (n : ℕ) (mine free : List ℕ) (plan : Plan)
+    → IsListPlan table info.count given n mine free plan → IsPlanIn info.count plan → (x : ℕ)
+    → IsOfEntries info (plan_entries plan) x → IsSwapSite info mine free x
+plan_sites table info given n mine free plan is inside x (entry, within, of) =
+    let nodes = is.nodes in
     let here = plan_in table info.count n nodes.old_nodes nodes.free_nodes nodes.apart.chain
-    nodes.apart.listed.linked plan is inside
-    entry within in (
+    nodes.apart.listed.linked plan is.planned inside entry within in (
       entry,
       subst (λ (l : List ℕ). IsSwapEntry mine l entry) nodes.free_is
           (subst (λ (l : List ℕ). IsSwapEntry l (entries_of nodes.free_nodes) entry) nodes.old_is here),
@@ -160,13 +155,13 @@ plan_sites table info given n mine free nodes plan is inside x (entry, within, o
 -- a word that is spoilt is one of the lists
 pub refused_ready : (s : State) (info : ChainInfo) (given : Option ℕ) (n : ℕ) (mine free : List ℕ) →
     HasAllocationTable s.shape info
-    → HasNodes (table_in s.cells info) info.count given mine free → (fault : ChainFault)
+    → CanSwap (table_in s.cells info) info.count given mine free → (fault : ChainFault)
     → IsSwapRefusal (table_in s.cells info) n mine free fault → AreUnspoilt s (IsSwapSite info mine free)
     → NeverDamaged (refusal_of (Some fault))
-refused_ready s info given n mine free table nodes (Refused Disk) h un = tt
-refused_ready s info given n mine free table nodes (Broken entry) h un = tt
-refused_ready s info given n mine free table nodes (Short need have) h un = tt
-refused_ready s info given n mine free table nodes (Refused (Damaged part level block)) h un =
+refused_ready s info given n mine free table can (Refused Disk) h un = tt
+refused_ready s info given n mine free table can (Broken entry) h un = tt
+refused_ready s info given n mine free table can (Short need have) h un = tt
+refused_ready s info given n mine free table can (Refused (Damaged part level block)) h un =
     let entry : ℕ = get_or (mine ++ free) h.k 0 in
     let k = h.spoilt.0 in
     let less = h.spoilt.1 in
@@ -175,14 +170,15 @@ refused_ready s info given n mine free table nodes (Refused (Damaged part level 
       h.inside,
       get_or_default_zero (mine ++ free) h.k entry h.inside,
     ) in
-    let inside : entry ≤ info.count = entry_inside entry within in
+    let inside : entry ≤ info.count =
+    entry_inside (nodes_of (table_in s.cells info) info.count given mine free can) entry within in
     let cell = table_cell s.cells info entry k inside less in
     subst (λ (c : Cell). IsUnspoilt c) (sym cell ∙ h.spoilt.2)
     (un (info.table_at + 8 * entry + k) (omega (arith, table.table, inside, less))
     (entry, inr within, (omega arith, omega (arith, less))))
   where
-    entry_inside : (entry : ℕ) → Contains (mine ++ free) entry → entry ≤ info.count
-    entry_inside entry within =
+    entry_inside : HasNodes (table_in s.cells info) info.count given mine free → (entry : ℕ) → Contains (mine ++ free) entry → entry ≤ info.count
+    entry_inside nodes entry within =
         (let whole = subst (λ (l : List ℕ). Contains l entry)
         (ap (λ (l : List ℕ). mine ++ l) (sym nodes.free_is) ∙ ap (λ (l : List ℕ). l ++ entries_of nodes.free_nodes)
         (sym nodes.old_is))
@@ -272,15 +268,16 @@ module _ (old new : ℕ → ℕ → Cell) (soft : HasSoftened old new) where
   }
 
 -- a plan takes just the blocks of the old chain where as many are wanted as it has
-module _ (table : ℕ → ℕ → Cell) (count : ℕ) (given : Option ℕ) (n : ℕ) (mine free : List ℕ)
-    (nodes : HasNodes table count given mine free) (plan : Plan)
-    (is : IsPlan nodes.old_nodes nodes.free_nodes n plan) (inside : IsPlanIn count plan) where
+module _ (table : ℕ → ℕ → Cell) (count : ℕ) (given : Option ℕ) (n : ℕ) (mine free : List ℕ) (plan : Plan)
+    (is : IsListPlan table count given n mine free plan) (inside : IsPlanIn count plan) where
   pub taken_as_old : IsSameCut plan.given plan.boundary → n ≡ length mine
   taken_as_old same =
-      same_length nodes.old_nodes nodes.free_nodes n count nodes.apart.once plan.given plan.boundary is.given is.cut
-      inside.given inside.boundary same ∙ ap (λ (l : List ℕ). length l) nodes.old_is
+      same_length is.nodes.old_nodes is.nodes.free_nodes n count is.nodes.apart.once plan.given plan.boundary
+      is.planned.given is.planned.cut inside.given inside.boundary same
+      ∙ ap (λ (l : List ℕ). length l) is.nodes.old_is
 
   pub old_as_taken : n ≡ length mine → IsSameCut plan.given plan.boundary
   old_as_taken same =
-      same_cut nodes.old_nodes nodes.free_nodes n count nodes.apart.once plan.given plan.boundary is.given is.cut
-      inside.given inside.boundary (same ∙ sym (ap (λ (l : List ℕ). length l) nodes.old_is))
+      same_cut is.nodes.old_nodes is.nodes.free_nodes n count is.nodes.apart.once plan.given plan.boundary
+      is.planned.given is.planned.cut inside.given inside.boundary
+      (same ∙ sym (ap (λ (l : List ℕ). length l) is.nodes.old_is))

@@ -125,3 +125,18 @@ pub record AreApartLists (table : ℕ → ℕ → Cell) (count : ℕ) (old free 
   pub chain : AreNodes table count Opens old 0
   pub listed : AreFreeNodes table count free
   pub once : IsDistinct nat_eq (entries_of (old ++ free))
+
+-- the nodes of an old chain, which may be missing, and of the free list, as lists of entries
+pub record HasNodes (table : ℕ → ℕ → Cell) (count : ℕ) (given : Option ℕ) (mine free : List ℕ) : Type 0 where
+  pub old_nodes : List Node
+  pub free_nodes : List Node
+  pub can : CanPlan table count given old_nodes free_nodes
+  pub apart : AreApartLists table count old_nodes free_nodes
+  pub old_is : entries_of old_nodes ≡ mine
+  pub free_is : entries_of free_nodes ≡ free
+
+-- the plan of a swap: of these entries of the old chain, and behind them of these free ones, the first n are taken
+pub record IsListPlan (table : ℕ → ℕ → Cell) (count : ℕ) (given : Option ℕ) (n : ℕ) (mine free : List ℕ)
+    (plan : Plan) : Type 0 where
+  pub nodes : HasNodes table count given mine free
+  pub planned : IsPlan nodes.old_nodes nodes.free_nodes n plan

@@ -12,7 +12,7 @@ ghost use Rattle.chain_nodes.specs.Table.{table_in, HasAllocationTable};
 ghost use Rattle.chain_nodes.specs.Chains.{start_of, AreNodes, entries_of};
 ghost use Rattle.chain_nodes.specs.Edits.{AreFreeNodes};
 ghost use Rattle.chain_links.specs.Alters.{AreUnspoilt, Alters, IsOfEntries, cut_entries};
-ghost use Rattle.alloc_chain.specs.Plans.{IsSameCut, IsBoundaryIn, IsGivenIn, IsPlanIn, AreGivenBy, AreCutBy, IsPlan, AreApartLists, CanPlan};
+ghost use Rattle.alloc_chain.specs.Plans.{IsSameCut, IsBoundaryIn, IsGivenIn, IsPlanIn, AreGivenBy, AreCutBy, IsPlan, AreApartLists, IsListPlan};
 ghost use Rattle.alloc_chain.specs.Swaps.{HasSpoilt, IsReadyAnswer, CanSwap, IsSwapAnswer, IsSwapSite};
 ghost use Rattle.save_bytes.specs.Stays.{SameCells, SameSpace};
 ghost use Rattle.save_bytes.specs.Spots.{Hold};
@@ -263,10 +263,10 @@ pub(crate) fn plan_ready<S: Space>(
     ensures in_table { IfOk result (IsPlanIn info.count) }
     ensures ready { IsTrue (S.state base.old).told
         → IfOk result (λ plan. AreUnspoilt (S.state base.old) (IsOfEntries info (plan_entries plan))) }
-    ensures exact { IsTrue (S.state base.old).told → (old free : List Node)
-        → CanPlan (table_in (S.state base.old).cells info) info.count given old free
-        → IsReadyAnswer (table_in (S.state base.old).cells info) n (entries_of old) (entries_of free) result
-        × IfOk result (IsPlan old free n) }
+    ensures exact { IsTrue (S.state base.old).told → (mine free : List ℕ)
+        → CanSwap (table_in (S.state base.old).cells info) info.count given mine free
+        → IsReadyAnswer (table_in (S.state base.old).cells info) n mine free result
+        × IfOk result (IsListPlan (table_in (S.state base.old).cells info) info.count given n mine free) }
     ensures plain { IsTrue (S.state base.old).shape.plain → NeverDamaged (refusal_of (result_err result)) }
     ensures reads { Reads S.state S.keeps S.lands base.old base.new (refusal_of (result_err result)) }
 {
