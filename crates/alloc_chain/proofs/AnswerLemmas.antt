@@ -177,7 +177,8 @@ refused_ready s info given n mine free table can (Refused (Damaged part level bl
     (un (info.table_at + 8 * entry + k) (omega (arith, table.table, inside, less))
     (entry, inr within, (omega arith, omega (arith, less))))
   where
-    entry_inside : HasNodes (table_in s.cells info) info.count given mine free → (entry : ℕ) → Contains (mine ++ free) entry → entry ≤ info.count
+    entry_inside : HasNodes (table_in s.cells info) info.count given mine free → (entry : ℕ)
+        → Contains (mine ++ free) entry → entry ≤ info.count
     entry_inside nodes entry within =
         (let whole = subst (λ (l : List ℕ). Contains l entry)
         (ap (λ (l : List ℕ). mine ++ l) (sym nodes.free_is) ∙ ap (λ (l : List ℕ). l ++ entries_of nodes.free_nodes)

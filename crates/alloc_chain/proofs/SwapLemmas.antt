@@ -387,7 +387,8 @@ module _ (table : ℕ → ℕ → Cell) (count n : ℕ) (old free : List Node) (
         ⊎_elim
         (λ (left : Contains (given_entries given head) x). inl (given_words given head is head_is x left))
         (λ (right : Contains (first_of given head ∷ cut_entries boundary.node boundary.middle boundary.next) x).
-        cut_known table (old ++ free) n boundary cut.1 both_read inside.from inside.up_to read (first_of given head) (first_words given head is head_is) x right)
+        cut_known table (old ++ free) n boundary cut.1 both_read inside.from inside.up_to read
+        (first_of given head) (first_words given head is head_is) x right)
         (Contains-append_cases (given_entries given head)
         (first_of given head ∷ cut_entries boundary.node boundary.middle boundary.next) x within)
 
@@ -414,7 +415,8 @@ module _ (table : ℕ → ℕ → Cell) (count n : ℕ) (old free : List Node) (
         → IsUnspoiltEntry table (get_or (entries_of (old ++ free)) k 0)
     near_unspoilt None first cut inside un = λ k near less. absurd (omega (arith, cut, near.0))
     near_unspoilt (Some boundary) first cut inside un =
-        each_near table (old ++ free) n boundary cut.1 both_read inside.from inside.up_to (λ (x : ℕ). IsUnspoiltEntry table x) (words_unspoilt table)
+        each_near table (old ++ free) n boundary cut.1 both_read inside.from inside.up_to
+        (λ (x : ℕ). IsUnspoiltEntry table x) (words_unspoilt table)
         (λ x low high fits.
         un x (cut_behind_contains first boundary.node boundary.middle boundary.next x low high fits))
 

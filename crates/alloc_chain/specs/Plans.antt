@@ -38,8 +38,8 @@ pub record IsFirstOf (nodes : List Node) (at : NodeAt) : Type 0 where
   pub whole : nodes ≡ at.node ∷ rest
   pub next : start_of rest 0 ≡ at.next
 
--- The call was done, where there are as many blocks as are needed, and P holds of what it gave; where there are fewer, it
--- says so. Or the disk failed.
+-- The call was done, where there are as many blocks as are needed, and P holds of what it gave; where there are fewer,
+-- it says so. Or the disk failed.
 abbrev pub EnoughUnlessDisk : {A : Type 0} → (need have : ℕ) → Result A ChainFault → (A → Type 0) → Type 0
 EnoughUnlessDisk need have (Ok given) P = (need ≤ have) × P given
 EnoughUnlessDisk need have (Err (Refused Disk)) P = ⊤

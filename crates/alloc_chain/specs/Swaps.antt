@@ -46,8 +46,8 @@ abbrev pub HasSpoilt : (ℕ → ℕ → Cell) → ℕ → ℕ → ℕ → ℕ �
 HasSpoilt table entry part level block = (k : ℕ) × (k < 8) × (table entry k ≡ Spoilt part level block)
 
 -- A position of a list has the last of its first n entries, or one of the two behind that. Where a list of blocks is
--- cut behind its first n, of all entries that are written these alone may be ignored ones of a node: the one ends a node
--- then, and the others begin one.
+-- cut behind its first n, of all entries that are written these alone may be ignored ones of a node: the one ends a
+-- node then, and the others begin one.
 abbrev pub IsNearCut : ℕ → ℕ → Type 0
 IsNearCut n k = (1 ≤ n) × (n ≤ k + 1) × (k ≤ n + 1)
 

@@ -222,14 +222,17 @@ module _ {A : Type 0} (states : A → State) (keeps : Spot → A → A → Type 
 
   -- so at the words of entries
   pub alters_of : (info : ChainInfo) (few many : List ℕ) (s t : A) (refusal : Option Bad) → AreAmong few many
-      → Alters states keeps lands (IsOfEntries info few) s t refusal → Alters states keeps lands (IsOfEntries info many) s t refusal
+      → Alters states keeps lands (IsOfEntries info few) s t refusal
+      → Alters states keeps lands (IsOfEntries info many) s t refusal
   alters_of info few many s t refusal wider =
-      Alters-wider (IsOfEntries info few) (IsOfEntries info many) s t refusal (λ x (e, within, of). (e, wider e within, of))
+      Alters-wider (IsOfEntries info few) (IsOfEntries info many) s t refusal
+      (λ x (e, within, of). (e, wider e within, of))
 
   pub alters_then : ((spot : Spot) (s t u : A) → keeps spot s t → keeps spot t u → keeps spot s u) → (info :
       ChainInfo)
       (few more many : List ℕ) (s t u : A) (refusal : Option Bad) → AreAmong few many → AreAmong more many
-      → Alters states keeps lands (IsOfEntries info few) s t None → Alters states keeps lands (IsOfEntries info more) t u refusal
+      → Alters states keeps lands (IsOfEntries info few) s t None
+      → Alters states keeps lands (IsOfEntries info more) t u refusal
       → Alters states keeps lands (IsOfEntries info many) s u refusal
   alters_then join info few more many s t u refusal first second h k =
       Alters-join join (IsOfEntries info many) s t u refusal (alters_of info few many s t None first h)

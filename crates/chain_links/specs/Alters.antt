@@ -17,9 +17,9 @@ use Rattle.chain_nodes.specs.declared.node.Node.{Node}
 abbrev pub AreUnspoilt : State → (ℕ → Type 0) → Type 0
 AreUnspoilt s sites = (x : ℕ) → x < s.shape.size → sites x → IsUnspoilt (s.cells x)
 
--- The cells of all places but some have softened at most, and each spot is left alone that no put into one of these places
--- touches. Everywhere bytes are bytes still, and no cell became spoilt. No damaged cell is met where none of these places
--- has a spoilt one.
+-- The cells of all places but some have softened at most, and each spot is left alone that no put into one of these
+-- places touches. Everywhere bytes are bytes still, and no cell became spoilt. No damaged cell is met where none of these
+-- places has a spoilt one.
 pub record Alters {A : Type 0} (states : A → State) (keeps : Spot → A → A → Type 0) (lands : A → ℕ → Spot → Type 0)
     (sites : ℕ → Type 0) (old new : A) (refusal : Option Bad) : Type 0 where
   pub space : SameSpace (IsTrue (states old).told) (states old) (states new) refusal
@@ -48,8 +48,8 @@ pub record IsWordPut (old new : State) (at value : ℕ) : Type 0 where
 abbrev pub IsOfEntries : ChainInfo → List ℕ → ℕ → Type 0
 IsOfEntries info entries x = (entry : ℕ) × Contains entries entry × IsWithin (info.table_at + 8 * entry) 8 x
 
--- the entries that may be written where free nodes are cut behind the entry `middle` of a node, before those that begin with
--- `next`
+-- the entries that may be written where free nodes are cut behind the entry `middle` of a node, before those that begin
+-- with `next`
 abbrev pub cut_entries : Node → ℕ → ℕ → List ℕ
 cut_entries node middle next =
     0 ∷ node.first ∷ min (node.first + 1) middle ∷ middle ∷ min (middle + 1) node.last ∷ min (middle + 2) node.last ∷

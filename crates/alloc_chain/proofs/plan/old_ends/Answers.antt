@@ -60,7 +60,8 @@ returns-clause-exact g c = λ told nodes linked starts few.
     let tail = c.in-Ok-walk_on.tail in
     let at = c.in-Ok.ensures.exact told nodes linked starts few in (
       at,
-      last_of (table_in (g.S.Space.state c.args.base.now).cells info) info.count nodes [] linked c.args.first tail starts
+      last_of (table_in (g.S.Space.state c.args.base.now).cells info) info.count nodes [] linked c.args.first tail
+          starts
           (walk.exact (stays.space.told told) Opens nodes 0 later (omega (arith, few)) at) walk.in_table.ordered
           (is_last tail.next tail.end _ walk.found (omega (arith, walk.end, c.requires.table.few))),
     )

@@ -25,7 +25,8 @@ returns-then-n-at-clause-exact g c = λ told old free can head_is.
         head = head_is;
         cut = (
           omega arith,
-          cut_in_old (table_in (g.S.Space.state c.args.base.now).cells info) info.count old free can.old_nodes.1 c.args.n
+          cut_in_old (table_in (g.S.Space.state c.args.base.now).cells info) info.count old free can.old_nodes.1
+              c.args.n
               c.args.head at c.boundary_at.result head_is are.0 made.node (λ none. made.next ∙ next.none none)
               (λ some. made.next ∙ next.some some) made.counted,
         );

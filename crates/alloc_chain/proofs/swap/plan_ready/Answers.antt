@@ -56,9 +56,11 @@ returns-in-Err-ready_plan-clause-exact g c = λ told mine free can.
     let bad = c.in-Err-ready_plan.bad in
     let stays = c.in-Ok.ensures.reads.stays in
     let nodes = nodes_of (table_in s.cells info) info.count c.args.given mine free can in (
-      refusal_lists (table_in s.cells info) c.args.n (entries_of nodes.old_nodes) (entries_of nodes.free_nodes) mine free
+      refusal_lists (table_in s.cells info) c.args.n (entries_of nodes.old_nodes) (entries_of nodes.free_nodes) mine
+          free
           (Refused bad) nodes.old_is nodes.free_is
-          (spoilt_plan (table_in s.cells info) info.count c.args.given c.args.n nodes.old_nodes nodes.free_nodes nodes.can
+          (spoilt_plan (table_in s.cells info) info.count c.args.given c.args.n nodes.old_nodes nodes.free_nodes
+          nodes.can
           c.in-Ok.plan (c.in-Ok.ensures.exact told nodes.old_nodes nodes.free_nodes nodes.can).1
           c.in-Ok.ensures.in_table bad (table_in m.cells info) (table_stays s m info c.requires.table stays told)
           (c.in-Err-ready_plan.ensures.damaged (stays.space.told told))),

@@ -36,7 +36,8 @@ returns-in-Ok-clause-cut g c = λ told xs ys around.
       last =
           middle;
     } ∷ []) 0).
-    λ (changes : ChangesWithin m (IsOfEntries info (node.first ∷ min (node.first + 1) middle ∷ middle ∷ 0 ∷ [])) t.cells).
+    λ (changes : ChangesWithin m (IsOfEntries info (node.first ∷ min (node.first + 1) middle ∷ middle ∷ 0 ∷ []))
+    t.cells).
     cut_done s info xs node ys next around middle c.requires.from c.requires.below m t table single_mid changes
     behind front)
     (c.close.ensures.linked told_mid OpensFree xs
