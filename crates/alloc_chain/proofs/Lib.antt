@@ -1,9 +1,7 @@
-pub mod AlterLemmas
-pub mod WordLemmas
-pub mod LinkLemmas
-pub mod CutLemmas
-pub mod TakeLemmas
 pub mod PlanLemmas
+pub mod ReadyLemmas
 pub mod SwapLemmas
 pub mod AnswerLemmas
 pub mod PlanRunLemmas
+pub mod PlanPlaceLemmas
+pub mod SameLemmas

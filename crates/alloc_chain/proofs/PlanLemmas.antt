@@ -5,6 +5,12 @@ use Rattle.std.proofs.Common.{⊎_elim, append_assoc, length-append, Result, Err
 use Rattle.std.proofs.lemmas.Bool.{cases_lt}
 use Rattle.std.proofs.lemmas.List.FromFn.{length-range_with_len}
 use Rattle.save_bytes.specs.Cells.{Cell}
+use Rattle.save_bytes.specs.State.{State}
+use Rattle.save_bytes.specs.Stays.{Stays}
+use Rattle.std.proofs.Common.{IsTrue, None}
+use Rattle.chain_nodes.specs.declared.info.ChainInfo.{ChainInfo}
+use Rattle.chain_nodes.specs.Table.{table_in, HasAllocationTable}
+use Rattle.chain_nodes.proofs.TableLemmas.{table_stays}
 use Rattle.save_bytes.specs.declared.space.Bad.TheVariants.{Disk, Damaged}
 use Rattle.chain_nodes.specs.declared.fault.ChainFault.{ChainFault}
 use Rattle.chain_nodes.specs.declared.fault.ChainFault.TheVariants.{Broken, Short}
@@ -20,7 +26,7 @@ use Rattle.chain_nodes.proofs.EditLemmas.{run_of, AreNodes-split, no_nodes_behin
 use Rattle.alloc_chain.specs.declared.plan.NodeAt.{NodeAt}
 use Rattle.alloc_chain.specs.declared.plan.Boundary.{Boundary}
 use Rattle.alloc_chain.specs.declared.plan.Plan.{Plan}
-use Rattle.alloc_chain.specs.Plans.{IsNodeAt, IsFirstOf, IsBoundary, IsEndedBy, IsPlan, EnoughUnlessDisk}
+use Rattle.alloc_chain.specs.Plans.{IsNodeAt, IsFirstOf, IsBoundary, IsEndedBy, IsLastOf, IsPlan, EnoughUnlessDisk}
 
 -- a refusal for the disk's sake is one whatever was to be given
 pub done_other : {A B : Type 0} (P : A → Type 0) (Q : B → Type 0) (fault : ChainFault) → DoneUnlessDisk (Err fault) P
@@ -44,7 +50,7 @@ first_of table count few lead (node ∷ nodes) first at some h starts is first_i
     record { rest = nodes; whole = ap (λ (n : Node). n ∷ nodes) same.node; next = same.next }
 
 -- how many entries a node has
-length_run : (node : Node) → length (run_of node) ≡ node.last + 1 - node.first
+pub length_run : (node : Node) → length (run_of node) ≡ node.last + 1 - node.first
 length_run node = length-range_with_len node.first (node.last + 1 - node.first)
 
 pub length_around : (bs : List Node) (node : Node) (after : List Node)
@@ -82,6 +88,13 @@ module _ (nodes : List Node) (from : ℕ) (at : NodeAt) (is : IsNodeAt nodes fro
         next = first.next;
         counted = omega (arith, counted, is.counted, length_bs, ordered);
       }
+
+-- nodes of a table that a call left as it was
+pub nodes_later : (s m : State) (info : ChainInfo) → HasAllocationTable s.shape info → Stays s m None → IsTrue s.told
+    → (lead : Lead) (nodes : List Node) → AreNodes (table_in s.cells info) info.count lead nodes 0
+    → AreNodes (table_in m.cells info) info.count lead nodes 0
+nodes_later s m info table stays told lead nodes =
+    subst (λ (t : ℕ → ℕ → Cell). AreNodes t info.count lead nodes 0) (sym (table_stays s m info table stays told))
 
 -- the first one
 pub start_at : (nodes : List Node) (from : ℕ) (at : NodeAt) → IsFirstOf nodes at
@@ -159,7 +172,7 @@ start_or table count lead (node ∷ nodes) next head result h starts none some =
 
 module _ (table : ℕ → ℕ → Cell) (count : ℕ) (old free : List Node) (linked : AreNodes table count Opens old 0) where
   -- the last node of the old chain
-  pub ended_by : (first : ℕ) (tail : NodeAt) → start_of old 0 ≡ first → IsNodeAt old 0 tail → tail.node.first ≤
+  ended_by : (first : ℕ) (tail : NodeAt) → start_of old 0 ≡ first → IsNodeAt old 0 tail → tail.node.first ≤
       tail.node.last
       → tail.next ≡ 0 → IsEndedBy old (record { first = first; tail = tail.node })
   ended_by first tail starts is ordered none =
@@ -171,7 +184,7 @@ module _ (table : ℕ → ℕ → Cell) (count : ℕ) (old free : List Node) (li
       }
 
   -- how many blocks the old chain has
-  pub old_blocks : (tail : NodeAt) → IsNodeAt old 0 tail → tail.node.first ≤ tail.node.last → tail.next ≡ 0
+  old_blocks : (tail : NodeAt) → IsNodeAt old 0 tail → tail.node.first ≤ tail.node.last → tail.next ≡ 0
       → tail.end ≡ length (entries_of old)
   old_blocks tail is ordered none =
       omega (
@@ -179,6 +192,13 @@ module _ (table : ℕ → ℕ → Cell) (count : ℕ) (old free : List Node) (li
         all_before old 0 0 tail is ordered (all_counted old 0 0 tail is table count Opens linked ordered
             none),
       )
+
+  pub last_of : (first : ℕ) (tail : NodeAt) → start_of old 0 ≡ first → IsNodeAt old 0 tail
+      → tail.node.first ≤ tail.node.last → tail.next ≡ 0 → IsLastOf old first tail
+  last_of first tail starts is ordered none = record {
+    ended = ended_by first tail starts is ordered none;
+    counted = old_blocks tail is ordered none;
+  }
 
   -- the boundary lies in the old chain
   pub cut_in_old : (n head : ℕ) (at : NodeAt) (boundary : Boundary) → start_of free 0 ≡ head → IsNodeAt old 0 at

@@ -1,7 +1,7 @@
 -- What a swap needs of the words that it writes, and what it leaves as it is.
 use Rattle.std.proofs.Common.{◌≡◌, ℕ, ◌+◌, ◌*◌, ◌<◌, ◌≤◌, List, [], ◌∷◌, ◌++◌, length, get_or, refl, sym, ◌∙◌, ap}
 use Rattle.std.proofs.Common.{subst, arith}
-use Rattle.std.proofs.Common.{IsTrue, IfSome, min, Option, None, Some, Err, inl, inr, nat_eq, take, drop, ⊎_elim}
+use Rattle.std.proofs.Common.{IsTrue, IfSome, min, Option, None, Some, Err, inl, inr, ◌⊎◌, nat_eq, take, drop, ⊎_elim}
 use Rattle.std.proofs.Math.Seq.{take-append_seam, drop-append_seam}
 use Rattle.std.proofs.lemmas.Grind.{get_or_default_zero}
 use Rattle.std.proofs.lemmas.List.Elements.{Contains-append_left, Contains-append_right, Contains-append_cases}
@@ -9,7 +9,7 @@ use Rattle.std.specs.List.{Contains, IsDistinct}
 use Rattle.chain_nodes.specs.declared.node.Node.{Node}
 use Rattle.save_bytes.specs.State.{Shape, State}
 use Rattle.save_bytes.specs.Stays.{Stays}
-use Rattle.save_bytes.specs.Cells.{Cell, IsUnspoilt, Blames}
+use Rattle.save_bytes.specs.Cells.{Cell, IsUnspoilt}
 use Rattle.save_bytes.specs.Answers.{IsFirstSpoilt}
 use Rattle.save_bytes.specs.declared.space.Bad.TheVariants.{Disk, Damaged}
 use Rattle.chain_nodes.specs.declared.fault.ChainFault.{ChainFault}
@@ -18,27 +18,29 @@ use Rattle.chain_nodes.specs.declared.fault.ChainFault.TheVariants.{Bad as Refus
 use Rattle.chain_nodes.specs.declared.node.Lead.{Lead}
 use Rattle.chain_nodes.specs.declared.info.ChainInfo.{ChainInfo}
 use Rattle.chain_nodes.specs.declared.node.Lead.TheVariants.{Opens, OpensFree, Follows}
-use Rattle.chain_nodes.specs.Table.{table_in, HasWords}
+use Rattle.chain_nodes.specs.Table.{table_in, HasWords, HasAllocationTable}
 use Rattle.chain_nodes.specs.Chains.{IsChain, IsNode, lead_after, start_of, AreNodes, entries_of}
 use Rattle.chain_nodes.specs.Edits.{KeepsEntry, AreFreeNodes, AreTaken}
 use Rattle.chain_nodes.proofs.OwnLemmas.{list_rests, entry_of}
 use Rattle.chain_nodes.proofs.TableLemmas.{table_cell}
 use Rattle.chain_nodes.proofs.EditLemmas.{run_of, entry_within, AreNodes-split}
-use Rattle.alloc_chain.specs.Alters.{AreUnspoilt, IsOfEntries, cut_entries}
+use Rattle.chain_links.specs.Alters.{AreUnspoilt, IsOfEntries, cut_entries}
 use Rattle.chain_nodes.proofs.ListLemmas.{start_of-append, entries_of-append}
 use Rattle.chain_nodes.proofs.DistinctLemmas.{distinct_left}
 use Rattle.alloc_chain.specs.declared.plan.Boundary.{Boundary}
 use Rattle.alloc_chain.specs.declared.plan.Given.{Given}
 use Rattle.alloc_chain.specs.declared.plan.Plan.{Plan}
-use Rattle.chain_nodes.proofs.ExactLemmas.{no_words}
 use Rattle.save_bytes.specs.declared.space.Bad.{Bad}
 use Rattle.save_bytes.specs.Refusals.{IfDamaged}
 use Rattle.alloc_chain.specs.Plans.{IsBoundary, IsBoundaryIn, IsEndedBy, IsPlan, IsPlanIn, CanPlan}
 use Rattle.alloc_chain.specs.Plans.{EnoughUnlessDisk, AreOldNodes, AreGivenBy, AreCutBy}
 use Rattle.alloc_chain.specs.Swaps.{ShareNone, HasSpoilt, IsSwapped, IsSwapRefusal, first_of, given_entries}
+use Rattle.alloc_chain.specs.Swaps.{IsNearCut, IsUnspoiltEntry, CanTake, IsCutSpoilt}
+use Rattle.alloc_chain.proofs.ReadyLemmas.{AreReadNodes, linked_read, AreReadNodes-append, start_words, HasNearPlace}
+use Rattle.alloc_chain.proofs.ReadyLemmas.{cut_known, cut_behind_contains, each_near, words_unspoilt}
 use Rattle.alloc_chain.specs.Swaps.{taken_entries, plan_entries}
-use Rattle.alloc_chain.proofs.CutLemmas.{IsNoneOr, each_none, each_more, all_four, each_four}
-use Rattle.alloc_chain.proofs.TakeLemmas.{starts_some}
+use Rattle.chain_links.proofs.CutLemmas.{IsNoneOr, each_none, each_more, all_four, each_four}
+use Rattle.chain_links.proofs.TakeLemmas.{starts_some}
 use Rattle.alloc_chain.proofs.PlanLemmas.{length_around}
 
 -- a spoilt cell of an entry
@@ -58,8 +60,8 @@ unspoilt_before s m info entries stays told un x below site =
 
 -- no word of some entries is spoilt
 pub unspoilt_all : (s : State) (info : ChainInfo) (entries : List ℕ)
-    → ((k : ℕ) → k < length entries → AreUnspoilt s (IsOfEntries info (get_or entries k 0 ∷ []))) → AreUnspoilt s (IsOfEntries info
-    entries)
+    → ((k : ℕ) → k < length entries → AreUnspoilt s (IsOfEntries info (get_or entries k 0 ∷ [])))
+    → AreUnspoilt s (IsOfEntries info entries)
 unspoilt_all s info entries each x below (entry, (k, within, is), of) =
     let same : get_or entries k 0 ≡ entry = sym (get_or_default_zero entries k entry within) ∙ is in
     each k within x below (entry, (0, omega arith, same), of)
@@ -336,12 +338,27 @@ module _ (table : ℕ → ℕ → Cell) (count n : ℕ) (old free : List Node) (
       (Contains-append_cases (given_entries plan.given plan.head)
       (taken_entries (first_of plan.given plan.head) plan.boundary) x within)
 
+  -- such an entry lies in the table
+  pub plan_inside : (plan : Plan) → IsPlan old free n plan → IsPlanIn count plan → (x : ℕ)
+      → Contains (plan_entries plan) x → x ≤ count
+  plan_inside plan is inside x within =
+      ⊎_elim
+      (λ (none : x ≡ 0). omega (arith, none))
+      (λ (some : Contains (entries_of old ++ entries_of free) x). ⊎_elim
+      (λ (left : Contains (entries_of old) x). (entry_within table count Opens old 0 x chain left).1)
+      (λ (right : Contains (entries_of free) x). (entry_within table count OpensFree free 0 x listed right).1)
+      (Contains-append_cases (entries_of old) (entries_of free) x some))
+      (plan_in plan is inside x within)
+
   module _ (read : HasWords table 0) where
-    start_words : (lead : Lead) (nodes : List Node) → AreNodes table count lead nodes 0 → (first : ℕ) → start_of
-        nodes 0 ≡ first
-        → HasWords table first
-    start_words lead [] h first is = subst (λ (x : ℕ). HasWords table x) is read
-    start_words lead (node ∷ nodes) h first is = subst (λ (x : ℕ). HasWords table x) is h.0.read
+    old_read : AreReadNodes table old
+    old_read = linked_read table count Opens old 0 chain
+
+    free_read : AreReadNodes table free
+    free_read = linked_read table count OpensFree free 0 listed
+
+    both_read : AreReadNodes table (old ++ free)
+    both_read = AreReadNodes-append table old free old_read free_read
 
     -- where the chain is given back, only words are written that are bytes
     given_words : (given : Option Given) (head : ℕ) → AreGivenBy old given → start_of free 0 ≡ head → (x : ℕ)
@@ -349,26 +366,73 @@ module _ (table : ℕ → ℕ → Cell) (count n : ℕ) (old free : List Node) (
     given_words None head is head_is x (k, within, same) = absurd (omega (arith, within))
     given_words (Some given) head is head_is x within =
         all_four (λ (e : ℕ). HasWords table e) 0 given.first given.tail.first head read
-        (start_words Opens old chain given.first is.starts) (tail_node given is).read
-        (start_words OpensFree free listed head head_is) x within
+        (start_words table read old old_read given.first is.starts) (tail_node given is).read
+        (start_words table read free free_read head head_is) x within
 
-    none_spoilt : (given : Option Given) (head : ℕ) (boundary : Option Boundary) → AreGivenBy old given → start_of
-        free 0 ≡ head
-        → AreCutBy (old ++ free) n boundary → n ≡ 0 → (entry part level block : ℕ)
-        → Contains (given_entries given head ++ taken_entries (first_of given head) boundary) entry
-        → ¬ HasSpoilt table entry part level block
-    none_spoilt given head None is head_is cut none entry part level block within fault =
+    first_words : (given : Option Given) (head : ℕ) → AreGivenBy old given → start_of free 0 ≡ head
+        → HasWords table (first_of given head)
+    first_words None head is head_is = start_words table read free free_read head head_is
+    first_words (Some given) head is head_is = start_words table read old old_read given.first is.starts
+
+    words_or_near : (given : Option Given) (head : ℕ) (boundary : Option Boundary) → AreGivenBy old given
+        → start_of free 0 ≡ head → AreCutBy (old ++ free) n boundary → IfSome boundary (IsBoundaryIn count) → (x : ℕ)
+        → Contains (given_entries given head ++ taken_entries (first_of given head) boundary) x
+        → HasWords table x ⊎ HasNearPlace n (entries_of (old ++ free)) x
+    words_or_near given head None is head_is cut inside x within =
         ⊎_elim
-        (λ (left : Contains (given_entries given head) entry).
-        no_words table entry part level block (given_words given head is head_is entry left)
-        (fault.0, fault.1, subst (λ (c : Cell). Blames c part level block) (sym fault.2) (refl, refl, refl)))
-        (λ (right : Contains [] entry). absurd (omega (arith, right.1)))
-        (Contains-append_cases (given_entries given head) [] entry within)
-    none_spoilt given head (Some boundary) is head_is cut none entry part level block within fault = omega (
-      arith,
-      cut.0,
-      none,
-    )
+        (λ (left : Contains (given_entries given head) x). inl (given_words given head is head_is x left))
+        (λ (right : Contains [] x). absurd (omega (arith, right.1)))
+        (Contains-append_cases (given_entries given head) [] x within)
+    words_or_near given head (Some boundary) is head_is cut inside x within =
+        ⊎_elim
+        (λ (left : Contains (given_entries given head) x). inl (given_words given head is head_is x left))
+        (λ (right : Contains (first_of given head ∷ cut_entries boundary.node boundary.middle boundary.next) x).
+        cut_known table (old ++ free) n boundary cut.1 both_read inside.from inside.up_to read
+        (first_of given head) (first_words given head is head_is) x right)
+        (Contains-append_cases (given_entries given head)
+        (first_of given head ∷ cut_entries boundary.node boundary.middle boundary.next) x within)
+
+    -- an entry that a swap by a plan writes and that has a spoilt cell is near the cut
+    pub spoilt_near : (plan : Plan) → IsPlan old free n plan → IsPlanIn count plan → (entry part level block : ℕ)
+        → Contains (plan_entries plan) entry → HasSpoilt table entry part level block
+        → IsCutSpoilt table n (entries_of (old ++ free)) part level block
+    spoilt_near plan is inside entry part level block within fault =
+        ⊎_elim
+        (λ (words : HasWords table entry).
+        absurd (subst (λ (c : Cell). IsUnspoilt c) fault.2 (words_unspoilt table entry words fault.0 fault.1)))
+        (λ (place : HasNearPlace n (entries_of (old ++ free)) entry). record {
+          k = place.k;
+          near = place.near;
+          inside = place.inside;
+          spoilt = subst (λ (e : ℕ). HasSpoilt table e part level block) (sym place.is_entry) fault;
+        })
+        (words_or_near plan.given plan.head plan.boundary is.given is.head is.cut inside.boundary entry within)
+
+    near_unspoilt : (boundary : Option Boundary) (first : ℕ) → AreCutBy (old ++ free) n boundary
+        → IfSome boundary (IsBoundaryIn count)
+        → ((x : ℕ) → Contains (taken_entries first boundary) x → IsUnspoiltEntry table x)
+        → (k : ℕ) → IsNearCut n k → k < length (entries_of (old ++ free))
+        → IsUnspoiltEntry table (get_or (entries_of (old ++ free)) k 0)
+    near_unspoilt None first cut inside un = λ k near less. absurd (omega (arith, cut, near.0))
+    near_unspoilt (Some boundary) first cut inside un =
+        each_near table (old ++ free) n boundary cut.1 both_read inside.from inside.up_to
+        (λ (x : ℕ). IsUnspoiltEntry table x) (words_unspoilt table)
+        (λ x low high fits.
+        un x (cut_behind_contains first boundary.node boundary.middle boundary.next x low high fits))
+
+    -- where no entry of a plan is spoilt, its blocks can be taken
+    pub plan_can_take : (plan : Plan) → IsPlan old free n plan → IsPlanIn count plan
+        → n ≤ length (entries_of old) + length (entries_of free)
+        → ((x : ℕ) → Contains (plan_entries plan) x → IsUnspoiltEntry table x)
+        → CanTake table n (entries_of old) (entries_of free)
+    plan_can_take plan is inside enough un = record {
+      enough = enough;
+      cut = subst (λ (l : List ℕ). (k : ℕ) → IsNearCut n k → k < length l → IsUnspoiltEntry table (get_or l k 0))
+          (entries_of-append old free)
+          (near_unspoilt plan.boundary (first_of plan.given plan.head) is.cut inside.boundary
+          (λ x within. un x (Contains-append_right (given_entries plan.given plan.head)
+          (taken_entries (first_of plan.given plan.head) plan.boundary) x within)));
+    }
 
 -- a word of a plan that is spoilt
 pub spoilt_plan : (table : ℕ → ℕ → Cell) (count : ℕ) (given : Option ℕ) (n : ℕ) (old free : List Node)
@@ -383,11 +447,24 @@ spoilt_plan table count given n old free can plan is inside (Damaged part level 
   within,
   fault,
 ) =
-    let chain = old_start table count given old can.old_nodes in
-    let listed = can.free_nodes.linked in
-    let here = subst (λ (t : ℕ → ℕ → Cell). HasSpoilt t entry part level block) same fault in (
-      (λ none. none_spoilt table count n old free chain listed can.free_nodes.read plan.given plan.head plan.boundary
-          is.given is.head
-          is.cut none entry part level block within here),
-      (entry, plan_in table count n old free chain listed plan is inside entry within, here),
-    )
+    subst (λ (l : List ℕ). IsCutSpoilt table n l part level block) (entries_of-append old free)
+    (spoilt_near table count n old free (old_start table count given old can.old_nodes) can.free_nodes.linked
+    can.free_nodes.read plan is inside entry part level block within
+    (subst (λ (t : ℕ → ℕ → Cell). HasSpoilt t entry part level block) same fault))
+
+-- no word of a plan is spoilt
+pub unspoilt_plan : (s : State) (info : ChainInfo) (given : Option ℕ) (n : ℕ) (old free : List Node)
+    → HasAllocationTable s.shape info → CanPlan (table_in s.cells info) info.count given old free → (plan : Plan)
+    → IsPlan old free n plan → IsPlanIn info.count plan → n ≤ length (entries_of old) + length (entries_of free)
+    → AreUnspoilt s (IsOfEntries info (plan_entries plan))
+    → CanTake (table_in s.cells info) n (entries_of old) (entries_of free)
+unspoilt_plan s info given n old free table can plan is inside enough un =
+    let chain = old_start (table_in s.cells info) info.count given old can.old_nodes in
+    plan_can_take (table_in s.cells info) info.count n old free chain can.free_nodes.linked can.free_nodes.read plan is
+    inside enough
+    (λ x within k less.
+    (let fits : x ≤ info.count =
+    plan_inside (table_in s.cells info) info.count n old free chain can.free_nodes.linked plan is inside x within in
+    subst (λ (c : Cell). IsUnspoilt c) (sym (table_cell s.cells info x k fits less))
+    (un (info.table_at + 8 * x + k) (omega (arith, table.table, fits, less))
+    (x, within, (omega arith, omega (arith, less))))))

@@ -1,5 +1,5 @@
 pub mod Held
-pub mod Alters
 pub mod Plans
 pub mod Swaps
 pub mod PlanRuns
+pub mod PlanPlaces

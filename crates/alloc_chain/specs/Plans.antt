@@ -38,8 +38,8 @@ pub record IsFirstOf (nodes : List Node) (at : NodeAt) : Type 0 where
   pub whole : nodes ≡ at.node ∷ rest
   pub next : start_of rest 0 ≡ at.next
 
--- The call was done, where there are as many blocks as are needed, and P holds of what it gave; where there are fewer, it
--- says so. Or the disk failed.
+-- The call was done, where there are as many blocks as are needed, and P holds of what it gave; where there are fewer,
+-- it says so. Or the disk failed.
 abbrev pub EnoughUnlessDisk : {A : Type 0} → (need have : ℕ) → Result A ChainFault → (A → Type 0) → Type 0
 EnoughUnlessDisk need have (Ok given) P = (need ≤ have) × P given
 EnoughUnlessDisk need have (Err (Refused Disk)) P = ⊤
@@ -60,6 +60,11 @@ pub record IsEndedBy (nodes : List Node) (given : Given) : Type 0 where
   pub front : List Node
   pub whole : nodes ≡ front ++ given.tail ∷ []
   pub starts : start_of nodes 0 ≡ given.first
+
+-- the node is the last one of a chain that begins with an entry, and is counted as it says
+pub record IsLastOf (nodes : List Node) (first : ℕ) (at : NodeAt) : Type 0 where
+  pub ended : IsEndedBy nodes (record { first = first; tail = at.node })
+  pub counted : at.end ≡ length (entries_of nodes)
 
 -- what a plan names lies in a table of so many entries
 pub record IsBoundaryIn (count : ℕ) (boundary : Boundary) : Type 0 where
@@ -89,6 +94,13 @@ abbrev pub AreCutBy : List Node → ℕ → Option Boundary → Type 0
 AreCutBy nodes n None = n ≡ 0
 AreCutBy nodes n (Some boundary) = (1 ≤ n) × IsBoundary nodes 0 n boundary
 
+-- just the blocks of the chain that is given back are taken, or there is none and none are taken
+abbrev pub IsSameCut : Option Given → Option Boundary → Type 0
+IsSameCut None None = ⊤
+IsSameCut None (Some boundary) = ⊥
+IsSameCut (Some given) None = ⊥
+IsSameCut (Some given) (Some boundary) = boundary.middle ≡ given.tail.last
+
 -- the plan of a swap: of these nodes of the old chain, and behind them of these free ones, the first n blocks are taken
 pub record IsPlan (old free : List Node) (n : ℕ) (plan : Plan) : Type 0 where
   pub given : AreGivenBy old plan.given
@@ -113,3 +125,18 @@ pub record AreApartLists (table : ℕ → ℕ → Cell) (count : ℕ) (old free 
   pub chain : AreNodes table count Opens old 0
   pub listed : AreFreeNodes table count free
   pub once : IsDistinct nat_eq (entries_of (old ++ free))
+
+-- the nodes of an old chain, which may be missing, and of the free list, as lists of entries
+pub record HasNodes (table : ℕ → ℕ → Cell) (count : ℕ) (given : Option ℕ) (mine free : List ℕ) : Type 0 where
+  pub old_nodes : List Node
+  pub free_nodes : List Node
+  pub can : CanPlan table count given old_nodes free_nodes
+  pub apart : AreApartLists table count old_nodes free_nodes
+  pub old_is : entries_of old_nodes ≡ mine
+  pub free_is : entries_of free_nodes ≡ free
+
+-- the plan of a swap: of these entries of the old chain, and behind them of these free ones, the first n are taken
+pub record IsListPlan (table : ℕ → ℕ → Cell) (count : ℕ) (given : Option ℕ) (n : ℕ) (mine free : List ℕ)
+    (plan : Plan) : Type 0 where
+  pub nodes : HasNodes table count given mine free
+  pub planned : IsPlan nodes.old_nodes nodes.free_nodes n plan

@@ -1,10 +1,11 @@
 -- What a chain takes of its own blocks and of the free ones, in one change.
-use Rattle.std.specs.Prelude.{◌≡◌, ◌≢◌, ◌⊎◌, ℕ, ◌+◌, ◌*◌, ◌<◌, ◌≤◌, List, [], ◌∷◌, ◌++◌, length, take, drop, Option}
+use Rattle.std.specs.Prelude.{◌≡◌, ◌⊎◌, ℕ, ◌+◌, ◌*◌, ◌<◌, ◌≤◌, List, [], ◌∷◌, ◌++◌, length, take, drop, Option}
 use Rattle.std.specs.Prelude.{Some, None}
-use Rattle.std.specs.Prelude.{Result, Ok, Err, ⊤}
+use Rattle.std.specs.Prelude.{Result, Ok, Err, ⊤, slice_index}
 use Rattle.std.specs.List.{Contains}
 use Rattle.save_bytes.specs.declared.space.Bad.TheVariants.{Disk, Damaged}
-use Rattle.save_bytes.specs.Cells.{Cell, Spoilt}
+use Rattle.save_bytes.specs.Cells.{Cell, Spoilt, IsUnspoilt}
+use Rattle.save_bytes.specs.Within.{MaySoften}
 use Rattle.save_bytes.specs.Writes.{IsWithin}
 use Rattle.chain_nodes.specs.declared.info.ChainInfo.{ChainInfo}
 use Rattle.chain_nodes.specs.declared.fault.ChainFault.{ChainFault}
@@ -14,7 +15,7 @@ use Rattle.chain_nodes.specs.Chains.{IsChain, IsFreeList}
 use Rattle.alloc_chain.specs.declared.plan.Boundary.{Boundary}
 use Rattle.alloc_chain.specs.declared.plan.Given.{Given}
 use Rattle.alloc_chain.specs.declared.plan.Plan.{Plan}
-use Rattle.alloc_chain.specs.Alters.{cut_entries}
+use Rattle.chain_links.specs.Alters.{cut_entries}
 
 -- a chain that may be missing is this list of entries
 abbrev pub IsOptChain : (ℕ → ℕ → Cell) → ℕ → Option ℕ → List ℕ → Type 0
@@ -44,12 +45,38 @@ IsSwapEntry mine free entry = (entry ≡ 0) ⊎ Contains (mine ++ free) entry
 abbrev pub HasSpoilt : (ℕ → ℕ → Cell) → ℕ → ℕ → ℕ → ℕ → Type 0
 HasSpoilt table entry part level block = (k : ℕ) × (k < 8) × (table entry k ≡ Spoilt part level block)
 
--- Why a swap of n blocks is refused, where it can be made: there are fewer, or a word that it writes is spoilt. Where no
--- block is taken, only words are written that are bytes.
+-- A position of a list has the last of its first n entries, or one of the two behind that. Where a list of blocks is
+-- cut behind its first n, of all entries that are written these alone may be ignored ones of a node: the one ends a
+-- node then, and the others begin one.
+abbrev pub IsNearCut : ℕ → ℕ → Type 0
+IsNearCut n k = (1 ≤ n) × (n ≤ k + 1) × (k ≤ n + 1)
+
+-- no cell of an entry is spoilt
+abbrev pub IsUnspoiltEntry : (ℕ → ℕ → Cell) → ℕ → Type 0
+IsUnspoiltEntry table entry = (k : ℕ) → k < 8 → IsUnspoilt (table entry k)
+
+-- n blocks can be taken of two lists: there are so many, and no entry near the cut has a spoilt cell
+pub record CanTake (table : ℕ → ℕ → Cell) (n : ℕ) (mine free : List ℕ) : Type 0 where
+  pub enough : n ≤ length mine + length free
+  pub cut : (k : ℕ) → IsNearCut n k → k < length (mine ++ free)
+      → IsUnspoiltEntry table (slice_index (mine ++ free) k)
+
+-- an entry near the cut has a spoilt cell, which names this block
+pub record IsCutSpoilt (table : ℕ → ℕ → Cell) (n : ℕ) (list : List ℕ) (part level block : ℕ) : Type 0 where
+  pub k : ℕ
+  pub near : IsNearCut n k
+  pub inside : k < length list
+  pub spoilt : HasSpoilt table (slice_index list k) part level block
+
+-- each cell of a table is as it was in another, or softened since
+abbrev pub HasSoftened : (old new : ℕ → ℕ → Cell) → Type 0
+HasSoftened old new = (entry k : ℕ) → MaySoften (old entry k) (new entry k)
+
+-- why a swap of n blocks is refused, where it can be made: there are fewer, or a word that it writes is spoilt
 abbrev pub IsSwapRefusal : (table : ℕ → ℕ → Cell) (n : ℕ) (mine free : List ℕ) → ChainFault → Type 0
 IsSwapRefusal table n mine free (Refused Disk) = ⊤
 IsSwapRefusal table n mine free (Refused (Damaged part level block)) =
-    (n ≢ 0) × ((entry : ℕ) × IsSwapEntry mine free entry × HasSpoilt table entry part level block)
+    IsCutSpoilt table n (mine ++ free) part level block
 IsSwapRefusal table n mine free (Broken entry) = ⊥
 IsSwapRefusal table n mine free (Short need have) =
     (need ≡ n) × (have ≡ length mine + length free) × (have < n)
@@ -64,7 +91,7 @@ IsSwapAnswer old new count n mine free (Err fault) = IsSwapRefusal old n mine fr
 -- what is answered to the question whether it may be made
 abbrev pub IsReadyAnswer : {A : Type 0} (table : ℕ → ℕ → Cell) (n : ℕ) (mine free : List ℕ) → Result A ChainFault →
     Type 0
-IsReadyAnswer table n mine free (Ok given) = n ≤ length mine + length free
+IsReadyAnswer table n mine free (Ok given) = CanTake table n mine free
 IsReadyAnswer table n mine free (Err fault) = IsSwapRefusal table n mine free fault
 
 -- what is written where a chain is given back, or none

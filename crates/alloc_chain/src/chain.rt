@@ -14,12 +14,17 @@ ghost use Rattle.std.specs.Prelude.{◌++◌, IsFalse, IfErr, Some, take};
 ghost use Rattle.save_bytes.specs.Refusals.{UnlessDisk, NeverDamaged};
 ghost use Rattle.save_bytes.specs.Stays.{SameCells, SameSpace};
 ghost use Rattle.save_bytes.specs.Spots.{Hold};
-ghost use Rattle.alloc_chain.specs.Alters.{Alters};
-ghost use Rattle.alloc_chain.specs.Swaps.{ShareNone, CanSwap, IsSwapAnswer, IsReadyAnswer, IsSwapSite};
+ghost use Rattle.chain_links.specs.Alters.{Alters};
+ghost use Rattle.save_bytes.specs.Cells.{Cell};
+ghost use Rattle.alloc_chain.specs.Swaps.{ShareNone, CanSwap, IsSwapped, IsSwapAnswer, IsReadyAnswer, IsSwapSite};
+ghost use Rattle.alloc_chain.specs.Swaps.{CanTake, HasSoftened};
 ghost use Rattle.alloc_chain.specs.PlanRuns.{PlanFaultsOnly};
+ghost use Rattle.alloc_chain.specs.PlanPlaces.{plan_passed, IsPlanPlace, StepFaultsOnly};
+ghost use Rattle.std.specs.Prelude.{Option};
 ghost use Rattle.alloc_chain.specs.Held.{below, table_of, IsChainOver, SameChain};
 
 use crate::lists::{chain_len, chain_run, free_len, free_start, next_run};
+use crate::plan_places::{PlanCursor, planned_step};
 use crate::plan_runs::planned_run;
 use crate::swap::{ready_in, swap_in};
 use chain_nodes::{ChainFault, ChainInfo, Cursor, Run};
@@ -159,18 +164,26 @@ impl<'a, S: Space> Chain<'a, S> {
 
     /// Gives back the chain that begins with `given`, and takes a chain of `n` blocks, in one change: first the blocks of
     /// the old chain in its order, then those of the free list in its order. It answers with the first entry of the chain
-    /// taken, none where `n` is 0. `Short` comes exactly where there are fewer blocks. On any refusal but `Disk` nothing
-    /// is changed.
+    /// taken, none where `n` is 0. `Short` comes exactly where there are fewer blocks. On any refusal but `Disk`, and
+    /// where `n` is the old chain's length, nothing is changed.
     pub fn swap(&mut self, given: Option<u32>, n: u64) -> Result<Option<u32>, ChainFault>
         requires table { HasAllocationTable (below S.state self.old).shape self.old.info }
         requires single { IsFalse (below S.state self.old).shape.doubled }
         ensures answer { IsTrue (below S.state self.old).told → (mine free : List ℕ)
             → CanSwap (table_of S.state self.old) self.old.info.count given mine free
             → IsSwapAnswer (table_of S.state self.old) (table_of S.state self.new) self.old.info.count n mine free result }
+        ensures exact { IsTrue (below S.state self.old).told → (ready : ℕ → ℕ → Cell)
+            → HasSoftened ready (table_of S.state self.old) → (mine free : List ℕ)
+            → CanSwap ready self.old.info.count given mine free → CanTake ready n mine free
+            → DoneUnlessDisk result (IsSwapped (table_of S.state self.new) self.old.info.count n (mine ++ free)) }
         ensures others { IsTrue (below S.state self.old).told → (mine free : List ℕ)
             → CanSwap (table_of S.state self.old) self.old.info.count given mine free → (first : ℕ) (list : List ℕ)
             → IsChain (table_of S.state self.old) self.old.info.count first list → ShareNone list (mine ++ free)
             → UnlessDisk (refusal_of (result_err result)) (IsChain (table_of S.state self.new) self.old.info.count first list) }
+        ensures unchanged { IsTrue (below S.state self.old).told → (mine free : List ℕ)
+            → CanSwap (table_of S.state self.old) self.old.info.count given mine free → n ≡ length mine
+            → Reads S.state S.keeps S.lands self.old.base.now self.new.base.now (refusal_of (result_err result))
+            × IfOk result (λ taken. taken ≡ given) }
         ensures alters { IsTrue (below S.state self.old).told → (mine free : List ℕ)
             → CanSwap (table_of S.state self.old) self.old.info.count given mine free
             → Alters S.state S.keeps S.lands (IsSwapSite self.old.info mine free) self.old.base.now self.new.base.now
@@ -187,7 +200,8 @@ impl<'a, S: Space> Chain<'a, S> {
         swap_in(base, self.info, given, n)
     }
 
-    /// The refusal that `swap` would give. It changes nothing.
+    /// The refusal that `swap` would give. It changes nothing. After an Ok `swap` answers Ok or `Disk`, as long as the
+    /// table stays as it is or its cells soften.
     pub fn ready_swap(&mut self, given: Option<u32>, n: u64) -> Result<(), ChainFault>
         requires { HasAllocationTable (below S.state self.old).shape self.old.info }
         ensures answer { IsTrue (below S.state self.old).told → (mine free : List ℕ)
@@ -200,6 +214,7 @@ impl<'a, S: Space> Chain<'a, S> {
         let base = &mut *self.base;
         ready_in(base, self.info, given, n)
     }
+
     /// The run from block number `pos` on of the chain that `swap` would take: first the blocks of the old chain in its
     /// order, then those of the free list. It is the rest of the node that has the block, or as much of it as lies in the
     /// first `n` blocks. `Broken` comes where there is no such block too. It changes nothing.
@@ -218,5 +233,31 @@ impl<'a, S: Space> Chain<'a, S> {
     {
         let base = &mut *self.base;
         planned_run(base, self.info, old, n, pos)
+    }
+
+    /// The run behind a place of the chain that `swap` would take, and the place behind that run. The run is the rest of a
+    /// node, or as much of it as the chain has. To go over a plan by places reads each of its nodes once, and entry 0. It
+    /// changes nothing.
+    pub fn planned_behind(&mut self, cursor: PlanCursor) -> Result<(Run, PlanCursor), ChainFault>
+        requires table { HasAllocationTable (below S.state self.old).shape self.old.info }
+        requires not_at_end { plan_passed cursor < cursor.wanted }
+        ensures some { IfOk result (λ step. 1 ≤ step.0.len) }
+        ensures inside { IfOk result (λ step. step.0.block + step.0.len ≤ self.old.info.count) }
+        ensures wanted { IfOk result (λ step. step.1.wanted ≡ cursor.wanted) }
+        ensures passed { IfOk result (λ step. plan_passed step.1 ≡ plan_passed cursor + step.0.len) }
+        ensures place { IsTrue (below S.state self.old).told → (old : Option ℕ)
+            → IsPlanPlace (table_of S.state self.old) self.old.info.count old cursor
+            → IfOk result (λ step. IsPlanPlace (table_of S.state self.old) self.old.info.count old step.1) }
+        ensures exact { IsTrue (below S.state self.old).told → (old : Option ℕ) (mine free : List ℕ)
+            → IsPlanPlace (table_of S.state self.old) self.old.info.count old cursor
+            → CanSwap (table_of S.state self.old) self.old.info.count old mine free
+            → cursor.wanted ≤ length mine + length free
+            → DoneUnlessDisk result (λ step. IsRunIn (take cursor.wanted (mine ++ free)) (plan_passed cursor) step.0) }
+        ensures faults { StepFaultsOnly (below S.state self.old) self.old.info cursor (result_err result) }
+        ensures reads { Reads S.state S.keeps S.lands self.old.base.now self.new.base.now (refusal_of (result_err result)) }
+        ensures same { SameChain self.old self.new }
+    {
+        let base = &mut *self.base;
+        planned_step(base, self.info, cursor)
     }
 }

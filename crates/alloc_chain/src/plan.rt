@@ -11,7 +11,7 @@ ghost use Rattle.chain_nodes.specs.Chains.{start_of, AreNodes, entries_of};
 ghost use Rattle.chain_nodes.specs.Faults.{refusal_of};
 ghost use Rattle.chain_nodes.specs.Runs.{DoneUnlessDisk};
 ghost use Rattle.chain_nodes.specs.declared.node.Lead.TheVariants.{Opens, OpensFree};
-ghost use Rattle.alloc_chain.specs.Plans.{IsInTable, IsNodeAt, IsFirstOf, EnoughUnlessDisk, IsBoundary, IsBoundaryIn};
+ghost use Rattle.alloc_chain.specs.Plans.{IsInTable, IsNodeAt, IsLastOf, IsFirstOf, EnoughUnlessDisk, IsBoundary, IsBoundaryIn};
 ghost use Rattle.alloc_chain.specs.Plans.{IsPlan, IsPlanIn, CanPlan};
 ghost use Rattle.chain_nodes.specs.Edits.{AreFreeNodes};
 
@@ -117,6 +117,35 @@ pub(crate) fn walk_on<S: Space>(
     Ok(at)
 }
 
+// The node that has block number `pos` of the list that begins with an entry, or the last one where the list ends before.
+// So many blocks lie before the list.
+fn node_at<S: Space>(
+    base: &mut S,
+    info: ChainInfo,
+    lead: Lead,
+    first: u32,
+    passed: u64,
+    pos: u64,
+) -> Result<NodeAt, ChainFault>
+    requires table { HasAllocationTable (S.state base.old).shape info }
+    requires entry { IsEntry info.count first }
+    requires passed { passed ≤ info.count }
+    ensures in_table { IfOk result (IsInTable info.count) }
+    ensures end { IfOk result (λ at. at.end ≤ 3 * info.count) }
+    ensures found { IfOk result (λ at. at.next ≢ 0 → pos < at.end) }
+    ensures low { passed ≤ pos → IfOk result (λ at. at.end + at.node.first ≤ pos + at.node.last + 1) }
+    ensures exact { IsTrue (S.state base.old).told → (nodes : List Node)
+        → AreNodes (table_in (S.state base.old).cells info) info.count lead nodes 0 → start_of nodes 0 ≡ first
+        → length (entries_of nodes) ≤ info.count → DoneUnlessDisk result (IsNodeAt nodes passed) }
+    ensures plain { IsTrue (S.state base.old).shape.plain → NeverDamaged (refusal_of (result_err result)) }
+    ensures reads { Reads S.state S.keeps S.lands base.old base.new (refusal_of (result_err result)) }
+{
+    match read_at(base, info, lead, first, passed) {
+        Ok(start) => walk_on(base, info, start, pos),
+        Err(fault) => Err(fault),
+    }
+}
+
 // How many blocks these are, where the number fits.
 fn blocks(n: u64) -> u32
     ensures { n < 2 ^ 32 → result ≡ n }
@@ -164,11 +193,7 @@ fn free_boundary<S: Space>(
         let have = blocks(from);
         return Err(ChainFault::Short { need: n, have });
     }
-    let start = match read_at(base, info, Lead::OpensFree, head, from) {
-        Ok(start) => start,
-        Err(fault) => return Err(fault),
-    };
-    let at = match walk_on(base, info, start, n - 1) {
+    let at = match node_at(base, info, Lead::OpensFree, head, from, n - 1) {
         Ok(at) => at,
         Err(fault) => return Err(fault),
     };
@@ -198,15 +223,11 @@ fn old_ends<S: Space>(
     ensures exact { IsTrue (S.state base.old).told → (nodes : List Node)
         → AreNodes (table_in (S.state base.old).cells info) info.count Opens nodes 0 → start_of nodes 0 ≡ first
         → length (entries_of nodes) ≤ info.count
-        → DoneUnlessDisk result (λ ends. IsNodeAt nodes 0 ends.0 × IsNodeAt nodes 0 ends.1) }
+        → DoneUnlessDisk result (λ ends. IsNodeAt nodes 0 ends.0 × IsLastOf nodes first ends.1) }
     ensures plain { IsTrue (S.state base.old).shape.plain → NeverDamaged (refusal_of (result_err result)) }
     ensures reads { Reads S.state S.keeps S.lands base.old base.new (refusal_of (result_err result)) }
 {
-    let start = match read_at(base, info, Lead::Opens, first, 0) {
-        Ok(start) => start,
-        Err(fault) => return Err(fault),
-    };
-    let at = match walk_on(base, info, start, n.saturating_sub(1)) {
+    let at = match node_at(base, info, Lead::Opens, first, 0, n.saturating_sub(1)) {
         Ok(at) => at,
         Err(fault) => return Err(fault),
     };

@@ -112,8 +112,8 @@ fn run_of<S: Space>(
     }
 }
 
-// The first blocks of a run, so many at most.
-fn cut_run(run: Run, most: u64) -> Run
+/// The first blocks of a run, so many at most.
+pub(crate) fn cut_run(run: Run, most: u64) -> Run
     ensures block { result.block ≡ run.block }
     ensures len { result.len ≡ min run.len most }
 {

@@ -1,7 +1,7 @@
 //! Giving back a chain and taking another one.
 
 ghost use Rattle.std.specs.Prelude.{◌≡◌, ℕ, ◌+◌, ◌^◌, ◌<◌, ◌≤◌, nat_eq, IsTrue, IsFalse, List, [], ◌∷◌, ◌++◌, length, slice_index};
-ghost use Rattle.std.specs.Prelude.{IfOk, IfErr, IfSome, Option, Some};
+ghost use Rattle.std.specs.Prelude.{IfOk, IfErr, IfSome, Option, Some, ◌↔◌};
 ghost use Rattle.std.specs.List.{Contains, IsDistinct};
 ghost use Rattle.std.specs.Result.{result_err};
 ghost use Rattle.save_bytes.specs.Refusals.{IfDone, IfDamaged, NeverDamaged, UnlessDisk};
@@ -11,16 +11,16 @@ ghost use Rattle.chain_nodes.specs.declared.node.Lead.TheVariants.{Opens};
 ghost use Rattle.chain_nodes.specs.Table.{table_in, HasAllocationTable};
 ghost use Rattle.chain_nodes.specs.Chains.{start_of, AreNodes, entries_of};
 ghost use Rattle.chain_nodes.specs.Edits.{AreFreeNodes};
-ghost use Rattle.alloc_chain.specs.Alters.{AreUnspoilt, Alters, IsOfEntries, cut_entries};
-ghost use Rattle.alloc_chain.specs.Plans.{IsBoundaryIn, IsGivenIn, IsPlanIn, AreGivenBy, AreCutBy, IsPlan, AreApartLists, CanPlan};
+ghost use Rattle.chain_links.specs.Alters.{AreUnspoilt, Alters, IsOfEntries, cut_entries};
+ghost use Rattle.alloc_chain.specs.Plans.{IsSameCut, IsBoundaryIn, IsGivenIn, IsPlanIn, AreGivenBy, AreCutBy, IsPlan, AreApartLists, IsListPlan};
 ghost use Rattle.alloc_chain.specs.Swaps.{HasSpoilt, IsReadyAnswer, CanSwap, IsSwapAnswer, IsSwapSite};
 ghost use Rattle.save_bytes.specs.Stays.{SameCells, SameSpace};
 ghost use Rattle.save_bytes.specs.Spots.{Hold};
 ghost use Rattle.chain_nodes.specs.Faults.{refusal_of};
 ghost use Rattle.alloc_chain.specs.Swaps.{IsSwapped, first_of, given_entries, taken_entries, plan_entries};
 
-use crate::links::{give_back, take_front};
 use crate::plan::{Boundary, Given, Plan, plan_swap};
+use chain_links::{give_back, take_front};
 use chain_nodes::{ChainFault, ChainInfo};
 use save_bytes::{Bad, Space};
 
@@ -239,6 +239,19 @@ pub(crate) fn change<S: Space>(
     }
 }
 
+// Whether just the blocks of the chain that is given back are taken, or there is none and none are taken.
+fn keeps_chain(plan: Plan) -> bool
+    ensures { IsTrue result ↔ IsSameCut plan.given plan.boundary }
+{
+    match plan.given {
+        Some(given) => match plan.boundary {
+            Some(boundary) => boundary.middle == given.tail.last,
+            None => false,
+        },
+        None => plan.boundary.is_none(),
+    }
+}
+
 /// The plan of a swap whose words may be written.
 pub(crate) fn plan_ready<S: Space>(
     base: &mut S,
@@ -250,10 +263,10 @@ pub(crate) fn plan_ready<S: Space>(
     ensures in_table { IfOk result (IsPlanIn info.count) }
     ensures ready { IsTrue (S.state base.old).told
         → IfOk result (λ plan. AreUnspoilt (S.state base.old) (IsOfEntries info (plan_entries plan))) }
-    ensures exact { IsTrue (S.state base.old).told → (old free : List Node)
-        → CanPlan (table_in (S.state base.old).cells info) info.count given old free
-        → IsReadyAnswer (table_in (S.state base.old).cells info) n (entries_of old) (entries_of free) result
-        × IfOk result (IsPlan old free n) }
+    ensures exact { IsTrue (S.state base.old).told → (mine free : List ℕ)
+        → CanSwap (table_in (S.state base.old).cells info) info.count given mine free
+        → IsReadyAnswer (table_in (S.state base.old).cells info) n mine free result
+        × IfOk result (IsListPlan (table_in (S.state base.old).cells info) info.count given n mine free) }
     ensures plain { IsTrue (S.state base.old).shape.plain → NeverDamaged (refusal_of (result_err result)) }
     ensures reads { Reads S.state S.keeps S.lands base.old base.new (refusal_of (result_err result)) }
 {
@@ -279,6 +292,10 @@ pub(crate) fn swap_in<S: Space>(
     ensures answer { let table = table_in (S.state base.old).cells info in IsTrue (S.state base.old).told
         → (mine free : List ℕ) → CanSwap table info.count given mine free
         → IsSwapAnswer table (table_in (S.state base.new).cells info) info.count n mine free result }
+    ensures unchanged { IsTrue (S.state base.old).told → (mine free : List ℕ)
+        → CanSwap (table_in (S.state base.old).cells info) info.count given mine free → n ≡ length mine
+        → Reads S.state S.keeps S.lands base.old base.new (refusal_of (result_err result))
+        × IfOk result (λ taken. taken ≡ given) }
     ensures alters { IsTrue (S.state base.old).told → (mine free : List ℕ)
         → CanSwap (table_in (S.state base.old).cells info) info.count given mine free
         → Alters S.state S.keeps S.lands (IsSwapSite info mine free) base.old base.new (refusal_of (result_err result)) }
@@ -293,6 +310,9 @@ pub(crate) fn swap_in<S: Space>(
         Ok(plan) => plan,
         Err(fault) => return Err(fault),
     };
+    if keeps_chain(plan) {
+        return Ok(given);
+    }
     match change(base, info, plan) {
         Ok(taken) => Ok(taken),
         Err(bad) => Err(ChainFault::Bad(bad)),

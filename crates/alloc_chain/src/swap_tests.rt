@@ -1,7 +1,9 @@
 ghost use Rattle.std.specs.Prelude.{◌≡◌, ◌+◌, ◌*◌, ◌<◌, ◌≤◌, length};
+ghost use Rattle.chain_nodes.specs.Table.{HasAllocationTable};
+ghost use Rattle.alloc_chain.specs.Held.{below};
 
 use super::*;
-use save_bytes::{MemSpace, set_u32, u32_at};
+use save_bytes::{MemSpace, Space, set_u32, u32_at};
 use std::test::Fail;
 
 /// The flag of a word.
@@ -275,4 +277,61 @@ fn a_plan_of_a_chain_of_no_entry_is_refused(rt: HostRuntime) {
         planned(Some(0), 1, 0),
         Err(ChainFault::Broken { entry: 0 })
     );
+}
+
+// The first block and the length of each run behind a place of a plan. At most eight are read.
+fn runs_behind<S: Space>(
+    chain: &mut Chain<S>,
+    start: PlanCursor,
+) -> Result<[(u32, u32); 8], ChainFault>
+    requires { HasAllocationTable (below S.state chain.old).shape chain.old.info }
+{
+    let mut place = start;
+    let mut runs = [(0, 0); 8];
+    for k in 0..8usize {
+        if place.is_at_end() {
+            return Ok(runs);
+        }
+        let (run, behind) = chain.planned_behind(place)?;
+        runs[k] = (run.block, run.len);
+        place = behind;
+    }
+    Ok(runs)
+}
+
+#[test]
+fn a_plan_is_gone_over_by_places(rt: HostRuntime) {
+    let none = (0, 0);
+    let cases: [(Option<u32>, u64, &[(u32, u32)]); 6] = [
+        (Some(3), 7, &[(2, 3), (8, 1), (5, 3)]),
+        (Some(3), 5, &[(2, 3), (8, 1), (5, 1)]),
+        (Some(3), 4, &[(2, 3), (8, 1)]),
+        (Some(3), 2, &[(2, 2)]),
+        (None, 2, &[(5, 2)]),
+        (Some(3), 0, &[]),
+    ];
+    for (old, n, want) in cases {
+        let mut bytes = chain_and_free();
+        let mut space = MemSpace::new(&mut bytes, 16);
+        let mut chain = Chain::new(&mut space, NINE);
+        let mut runs = [none; 8];
+        for (k, run) in want.iter().enumerate() {
+            if k < 8 {
+                runs[k] = *run;
+            }
+        }
+        let found = runs_behind(&mut chain, PlanCursor::of_swap(old, n));
+        assert_eq!(rt; found, Ok(runs), "{n} blocks");
+    }
+}
+
+#[test]
+fn no_run_lies_behind_the_last_free_block(rt: HostRuntime) {
+    for (old, n) in [(Some(3), 8), (None, 4)] {
+        let mut bytes = chain_and_free();
+        let mut space = MemSpace::new(&mut bytes, 16);
+        let mut chain = Chain::new(&mut space, NINE);
+        let found = runs_behind(&mut chain, PlanCursor::of_swap(old, n));
+        assert_eq!(rt; found, Err(ChainFault::Broken { entry: 6 }));
+    }
 }

@@ -318,3 +318,60 @@ fn of_each_node_three_entries_are_read(rt: HostRuntime) {
     }
     assert_eq!(rt; runs_and_pieces(&mut bytes), Ok((250, 1500)));
 }
+
+// How many blocks and runs lie behind a place of a plan. At most 1,000 are read.
+fn by_planned_runs<S: Space>(
+    chain: &mut Chain<S>,
+    start: PlanCursor,
+) -> Result<(u64, u32), ChainFault>
+    requires { HasAllocationTable (below S.state chain.old).shape chain.old.info }
+{
+    let mut place = start;
+    for runs in 0..1000 {
+        if place.is_at_end() {
+            return Ok((place.passed(), runs));
+        }
+        let (_, behind) = chain.planned_behind(place)?;
+        place = behind;
+    }
+    Ok((place.passed(), 1000))
+}
+
+// How many blocks and runs the plan of a swap has, and how many pieces were read to go over them.
+fn planned_and_pieces(bytes: &mut [u8], n: u64) -> Result<(u64, u32, u64), ChainFault>
+    requires { length bytes.old ≡ 8008 }
+{
+    let mut memory = MemSpace::new(bytes, 16);
+    let mut space = Counted::new(&mut memory);
+    let mut chain = Chain::new(&mut space, THOUSAND);
+    let (blocks, runs) = by_planned_runs(&mut chain, PlanCursor::of_swap(Some(1), n))?;
+    Ok((blocks, runs, space.pieces()))
+}
+
+#[test]
+fn of_each_node_of_a_plan_three_entries_are_read(rt: HostRuntime) {
+    // A chain of 125 nodes of four entries each, and as many free ones.
+    let mut bytes = [0; 8008];
+    set_entry(&mut bytes, 0, 0, 501);
+    for node in 0..250usize {
+        let first = 4 * node + 1;
+        let u = match node {
+            0 => FLAG,
+            125 => 0,
+            _ => first as u32 - 4,
+        };
+        let next = if node == 124 || node == 249 {
+            0
+        } else {
+            first as u32 + 4
+        };
+        set_entry(&mut bytes, first, u, FLAG + next);
+        set_entry(&mut bytes, first + 1, FLAG + first as u32, first as u32 + 3);
+        set_entry(&mut bytes, first + 3, FLAG + first as u32, first as u32 + 3);
+    }
+    // To read an entry reads two pieces, one of each word. Entry 0 is read where the plan has free blocks.
+    assert_eq!(rt; planned_and_pieces(&mut bytes, 1000), Ok((1000, 250, 1502)));
+    assert_eq!(rt; planned_and_pieces(&mut bytes, 999), Ok((999, 250, 1502)));
+    assert_eq!(rt; planned_and_pieces(&mut bytes, 500), Ok((500, 125, 750)));
+    assert_eq!(rt; planned_and_pieces(&mut bytes, 1), Ok((1, 1, 6)));
+}

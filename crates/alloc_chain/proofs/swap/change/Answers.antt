@@ -1,8 +1,8 @@
 use Rattle.std.proofs.Common.{ℕ, List, ◌++◌, Some, subst}
 use Rattle.std.specs.Result.{result_err}
-use Rattle.alloc_chain.specs.Alters.{Alters, IsOfEntries}
+use Rattle.chain_links.specs.Alters.{Alters, IsOfEntries}
 use Rattle.alloc_chain.specs.Swaps.{first_of, given_entries, taken_entries}
-use Rattle.alloc_chain.proofs.AlterLemmas.{alters_of, alters_then, among_left, among_right}
+use Rattle.chain_links.proofs.AlterLemmas.{alters_of, alters_then, among_left, among_right}
 use Rattle.alloc_chain.proofs.swap.change.Goals as goal
 
 pub returns-in-Ok-clause-swapped : goal.returns-in-Ok-clause-swapped

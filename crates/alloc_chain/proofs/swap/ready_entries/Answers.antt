@@ -5,7 +5,7 @@ use Rattle.save_bytes.specs.Cells.{Cell}
 use Rattle.save_bytes.proofs.CallLemmas.{reads_then}
 use Rattle.save_bytes.proofs.SpaceLemmas.{IfDamaged-map}
 use Rattle.chain_nodes.proofs.TableLemmas.{table_stays}
-use Rattle.alloc_chain.specs.Alters.{AreUnspoilt, IsOfEntries}
+use Rattle.chain_links.specs.Alters.{AreUnspoilt, IsOfEntries}
 use Rattle.alloc_chain.specs.Swaps.{HasSpoilt}
 use Rattle.alloc_chain.proofs.SwapLemmas.{unspoilt_before, unspoilt_all}
 use Rattle.alloc_chain.proofs.swap.ready_entries.Goals as goal

@@ -1,6 +1,6 @@
 use Rattle.std.proofs.Common.{ℕ, ◌<◌, IsTrue, [], ◌∷◌, get_or, None}
 use Rattle.save_bytes.specs.Reads.{Reads}
-use Rattle.alloc_chain.specs.Alters.{AreUnspoilt, IsOfEntries}
+use Rattle.chain_links.specs.Alters.{AreUnspoilt, IsOfEntries}
 use Rattle.alloc_chain.proofs.swap.ready_entries.Given as goal
 
 abbrev pub invariant-loop-entry : goal.invariant-loop-entry

@@ -7,7 +7,7 @@ use Rattle.save_bytes.specs.Cells.{Cell}
 use Rattle.save_bytes.proofs.CallLemmas.{reads_then}
 use Rattle.save_bytes.proofs.SpaceLemmas.{IfDone-map, IfDamaged-map}
 use Rattle.chain_nodes.proofs.TableLemmas.{table_stays}
-use Rattle.alloc_chain.specs.Alters.{AreUnspoilt, IsOfEntries}
+use Rattle.chain_links.specs.Alters.{AreUnspoilt, IsOfEntries}
 use Rattle.alloc_chain.specs.Swaps.{first_of, given_entries, taken_entries}
 use Rattle.alloc_chain.specs.Swaps.{HasSpoilt}
 use Rattle.alloc_chain.proofs.SwapLemmas.{unspoilt_before, unspoilt_both}
@@ -33,7 +33,8 @@ returns-clause-ready g c = λ told.
     let taken : List ℕ = taken_entries c.first_free.result plan.boundary in
     IfDone-map (result_err c.ready_taken.result)
     (λ (un : AreUnspoilt m (IsOfEntries info taken)).
-    subst (λ (first : ℕ). AreUnspoilt s (IsOfEntries info (given ++ taken_entries first plan.boundary))) c.first_free.ensures
+    subst (λ (first : ℕ). AreUnspoilt s (IsOfEntries info (given ++ taken_entries first plan.boundary)))
+    c.first_free.ensures
     (unspoilt_both s info given taken (c.in-Ok.ensures.ready told) (unspoilt_before s m info taken stays told un)))
     (c.ready_taken.ensures.ready (stays.space.told told))
 
