@@ -70,6 +70,8 @@ pub fn entry_bytes<S: Space>(
     requires inside { offset + length out.old ≤ entry_size kind }
     ensures bytes { TellsEntryTable (S.state space.old) kind info → entry < most_in (S.state space.old).cells info
         → OnOk result (AreBytesAt (S.state space.old).cells (entry_place kind info entry + offset) out.new) }
+    ensures read { entry_place kind info entry + entry_size kind ≤ (S.state space.old).shape.size
+        → IsRead (S.state space.old) (entry_place kind info entry + offset) (length out.old) (result_err result) }
     ensures damaged { IsTrue (S.state space.old).told → IfDamaged (result_err result)
         (BlamesRead kind info (entry_place kind info entry + offset) (length out.old) (S.state space.old).cells) }
     ensures plain { IsTrue (S.state space.old).shape.plain → NeverDamaged (result_err result) }

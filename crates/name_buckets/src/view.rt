@@ -1,6 +1,7 @@
 //! The entries of the tables in a space.
 
 ghost use Rattle.std.specs.Prelude.{◌≡◌, ◌<◌, IsTrue, IfOk, OnOk, ⊤};
+ghost use Rattle.save_bytes.specs.State.{State};
 ghost use Rattle.save_bytes.specs.Stays.{SameCells};
 ghost use Rattle.entry_tables.specs.declared.table.EntryKind.TheVariants.{Dir, File};
 ghost use Rattle.save_bytes.specs.Answers.{IsReady};
@@ -15,6 +16,8 @@ ghost use Rattle.entry_tables.specs.Words.{with_fields};
 ghost use Rattle.entry_tables.specs.Fails.{NamesWrongly, IsBrokenBucket, RuleFailsAt};
 ghost use Rattle.entry_tables.specs.Layout.{HasCounts, HasEntryTables, HasLink, BlamesTable};
 ghost use Rattle.entry_tables.specs.Causes.{bad_of, IfRuleBroken, HasEntryCause};
+ghost use Rattle.entry_tables.specs.Changes.{CanChangeTables};
+ghost use Rattle.entry_changes.specs.Bytes.{OkOrDisk, HaveSoftened, HasRemovalBytes};
 ghost use Rattle.entry_changes.specs.Lacks.{IsTakenOut, IsRemovalSite};
 ghost use Rattle.entry_changes.specs.Plans.{HasChangeCause, MayRemove, IsRemovalReady};
 ghost use Rattle.name_buckets.specs.Replies.{IsFoundEntry, IsRoom, IsFirstChild, IsNextChild};
@@ -247,6 +250,10 @@ impl<'a, S: Space> Entries<'a, S> {
             → RuleFailsAt t table number) result }
         ensures never_broken { CanChange S.state self.old → MayRemove (tables_of S.state self.old) kind entry
             → IfRuleBroken result (λ _ _. ⊥) }
+        ensures exact { (was : State) → CanChangeTables was self.old.dirs self.old.files
+            → HasRemovalBytes was self.old.dirs self.old.files kind entry
+            → HaveSoftened was (space_of S.state self.old) self.old.dirs self.old.files → CanChange S.state self.old
+            → MayRemove (tables_of S.state self.old) kind entry → OkOrDisk result }
         ensures broken { IsTrue (space_of S.state self.old).told
             → IfRuleBroken result (λ _ _. SameCells (space_of S.state self.old) (space_of S.state self.new)) }
         ensures changes { let t = tables_of S.state self.old in
@@ -260,11 +267,14 @@ impl<'a, S: Space> Entries<'a, S> {
     }
 
     /// Whether an entry may be taken out of its table: the refusal of `remove`, but for what comes from the disk as it
-    /// writes. It changes nothing.
+    /// writes. It changes nothing. After its Ok `remove` answers Ok or `Disk`, as long as the tables stay and their
+    /// cells soften at most.
     pub fn ready_remove(&mut self, kind: EntryKind, entry: u32) -> Result<(), EntryFault>
         requires { HoldsTables S.state self.old }
         ensures ready { CanChange S.state self.old → MayRemove (tables_of S.state self.old) kind entry
             → OnOk result (IsRemovalReady (space_of S.state self.old) self.old.dirs self.old.files kind entry) }
+        ensures bytes { CanChange S.state self.old → MayRemove (tables_of S.state self.old) kind entry
+            → OnOk result (HasRemovalBytes (space_of S.state self.old) self.old.dirs self.old.files kind entry) }
         ensures cause { let t = tables_of S.state self.old in
             HasChangeCause (space_of S.state self.old) self.old.dirs self.old.files (MayRemove t kind entry)
             (λ table number. used_entries (t.table kind) entry → used_entries (t.table Dir) ((t.table kind).parent entry)
