@@ -25,7 +25,7 @@ use Rattle.entry_tables.proofs.ByteLemmas.{field_is}
 use Rattle.entry_tables.specs.Changes.{Area, EntriesOf, BucketsOf, IsAreaPlace, CanChangeTables}
 
 -- a number in the first of two lists
-number_at-append : (n : ℕ) (xs ys : List ℕ) (at : ℕ) → at + n ≤ length xs
+pub number_at-append : (n : ℕ) (xs ys : List ℕ) (at : ℕ) → at + n ≤ length xs
     → number_at n (xs ++ ys) at ≡ number_at n xs at
 number_at-append n xs ys at fits = number_at-same n (xs ++ ys) xs at at (λ k h.
     get_or_append_left xs ys 0 (at + k) (omega arith))

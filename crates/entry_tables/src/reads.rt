@@ -40,8 +40,8 @@ pub fn read_counts<S: Space>(space: &mut S, kind: EntryKind, info: TableInfo) ->
     })
 }
 
-// Where an entry stands in a space of `len` bytes; none where it does not lie in it.
-pub(crate) fn entry_at(len: u64, kind: EntryKind, info: TableInfo, entry: u32) -> Option<u64>
+/// Where an entry stands in a space of `len` bytes; none where it does not lie in it.
+pub fn entry_at(len: u64, kind: EntryKind, info: TableInfo, entry: u32) -> Option<u64>
     requires { info.table_at ≤ len }
     ensures place { IfSome result (λ at. at ≡ entry_place kind info entry) }
     ensures inside { IfSome result (λ at. at + entry_size kind ≤ len) }

@@ -1,0 +1,6 @@
+pub mod AddLemmas
+pub mod AddedLemmas
+pub mod ImageLemmas
+pub mod PlanLemmas
+pub mod PutLemmas
+pub mod TakingLemmas
