@@ -1,10 +1,10 @@
 -- An addition as a whole: calls that only read, the entry, and then three words.
 use Rattle.std.proofs.Common.{◌≡◌, ◌≢◌, ℕ, ◌+◌, ◌<◌, ◌≤◌, IsTrue, List, Option, None, Result, Err, refl, sym, ◌∙◌, ap}
-use Rattle.std.proofs.Common.{subst, arith, ⊎_elim, ◌⊎◌}
+use Rattle.std.proofs.Common.{subst, arith, ⊎_elim, ◌⊎◌, length, get_or}
 use Rattle.std.proofs.lemmas.Bool.{cases_eq, eq-eqb, ne_eqb}
 use Rattle.std.proofs.lemmas.List.Elements.{All-weaker}
 use Rattle.save_bytes.specs.declared.space.Bad.{Bad}
-use Rattle.save_bytes.specs.Cells.{Cell, Byte, Blank, Spoilt, IsByte, IsUnspoilt}
+use Rattle.save_bytes.specs.Cells.{Cell, Byte, Blank, Spoilt, IsByte, IsUnspoilt, AreBytesAt}
 use Rattle.save_bytes.specs.State.{Shape, State}
 use Rattle.save_bytes.specs.Answers.{IsReady}
 use Rattle.save_bytes.specs.Refusals.{IfDamaged, NeverDamaged}
@@ -49,16 +49,18 @@ use Rattle.entry_changes.proofs.PlannedLemmas.{zero_has}
 use Rattle.entry_additions.specs.declared.entry.NewEntry.{NewEntry}
 use Rattle.entry_additions.specs.declared.entry.NewPlace.{NewPlace}
 use Rattle.entry_additions.specs.declared.plan.Addition.{Addition}
-use Rattle.entry_additions.specs.Added.{taken_entry, count_after, freed_after, HasRoom, table_put, tables_put}
+use Rattle.entry_additions.specs.Added.{taken_entry, taken_edit, count_after, freed_after, HasRoom, table_put, tables_put}
 use Rattle.entry_additions.specs.Added.{tables_with_new}
 use Rattle.entry_additions.specs.Gains.{GainsOne}
 use Rattle.entry_additions.specs.Puts.{IsEntryPut}
 use Rattle.entry_additions.specs.Additions.{MayAdd, BlamesForNew, InUnused, HasAdditionCause, HasAdditionWords}
 use Rattle.entry_additions.specs.Additions.{HasAdditionBytes, IsAdditionPlan}
 use Rattle.entry_additions.specs.Results.{IsAddedTo, IsAdditionSite, OfEntry, OfWord}
+use Rattle.entry_additions.specs.Images.{written_entry}
+use Rattle.entry_additions.proofs.BytesLemmas.{IsElsewhere, last_elsewhere, bytes_stay}
 use Rattle.entry_additions.proofs.AddedLemmas.{Taking, added_orderly, added_gains}
 use Rattle.entry_additions.proofs.TakingLemmas.{taken, tables_begun, addition_after}
-use Rattle.entry_additions.proofs.PlanLemmas.{head_has, first_has, freed_taken}
+use Rattle.entry_additions.proofs.PlanLemmas.{head_has, first_has, freed_taken, All-three}
 
 -- an entry that is written anew changes no count of entries or buckets
 most_put : (t : Tables) (kind : EntryKind) (e : ℕ) (new : NewEntry) (sibling link : ℕ) (other : EntryKind)
@@ -139,8 +141,11 @@ pub added_to : (s t u v : State) (dirs files : TableInfo) → HasEntryTables s.s
     → (can : CanChangeTables s dirs files) (stays : Stays s t None) (kind : EntryKind) (new : NewEntry) (plan : Addition)
     → MayAdd (tables_in s.cells dirs files) kind new.parent new.name.0
     → IsAdditionPlan s dirs files kind new.parent new.name.0 plan → IsEntryPut t u dirs files kind plan.place new
-    → AreSet u v dirs files plan.edits → IsAddedTo s v dirs files kind new plan.place.entry
-added_to s t u v dirs files tables can stays kind new plan may made put set =
+    → AreSet u v dirs files plan.edits
+    → AreBytesAt v.cells (entry_place kind (info_of dirs files kind) plan.place.entry)
+    (written_entry kind new plan.place.sibling plan.place.link)
+    → IsAddedTo s v dirs files kind new plan.place.entry
+added_to s t u v dirs files tables can stays kind new plan may made put set bytes =
     let old = tables_in s.cells dirs files in
     let taking = taking_is s dirs files can kind new.parent new.name.0 may in
     let some : taken_entry (table_in s.cells kind (info_of dirs files kind)) ≢ 0 = λ nothing.
@@ -161,6 +166,9 @@ added_to s t u v dirs files tables can stays kind new plan may made put set =
       gains = subst (λ (w : Tables). GainsOne old w kind plan.place.entry new) (sym are)
           (subst (λ (e : ℕ). GainsOne old (tables_with_new old kind new) kind e new) (sym made.entry)
           (added_gains old may.rules kind _ _ _ new may.can taking));
+      bytes = subst (λ (l : List ℕ). AreBytesAt v.cells
+          (entry_place kind (info_of dirs files kind) plan.place.entry) l)
+          (λ i. written_entry kind new (made.sibling i) (made.link i)) bytes;
       can = set.can;
     }
 
@@ -390,3 +398,44 @@ never_broken s dirs files kind parent name result cause can may =
     IfRuleBroken-map result
     (λ table number fails. nowhere_fails (tables_in s.cells dirs files) table number may.rules fails)
     (cause.broken can)
+
+-- its bytes stay while the words are put
+pub entry_bytes_stay : (s t u v : State) (dirs files : TableInfo) → HasEntryTables s.shape dirs files
+    → HasEntryTables u.shape dirs files → (can : CanChangeTables s dirs files) (stays : Stays s t None)
+    (kind : EntryKind) (new : NewEntry) (plan : Addition)
+    → MayAdd (tables_in s.cells dirs files) kind new.parent new.name.0
+    → IsAdditionPlan s dirs files kind new.parent new.name.0 plan → IsEntryPut t u dirs files kind plan.place new
+    → length (written_entry kind new plan.place.sibling plan.place.link) ≡ entry_size kind
+    → CanSetAll u dirs files plan.edits → ChangesWithin u (IsSite dirs files plan.edits) v.cells
+    → AreBytesAt v.cells (entry_place kind (info_of dirs files kind) plan.place.entry)
+    (written_entry kind new plan.place.sibling plan.place.link)
+entry_bytes_stay s t u v dirs files tables there can stays kind new plan may made put long all soft k less =
+    let some : plan.place.entry ≢ 0 = λ nothing. omega (arith, nothing, made.has.some) in
+    let below : plan.place.entry < (table_in u.cells kind (info_of dirs files kind)).most =
+    omega (
+      arith,
+      made.has.below,
+      ap (λ (w : Tables). (w.table kind).most) put.tables,
+      most_put (tables_in t.cells dirs files) kind plan.place.entry new plan.place.sibling plan.place.link kind,
+      ap (λ (w : Tables). (w.table kind).most) (stays_tables s dirs files tables can t stays),
+    ) in
+    let parent_apart = λ (is : kind ≡ Dir) (same : new.parent ≡ plan.place.entry).
+    (taking_is s dirs files can kind new.parent new.name.0 may).fresh
+    (subst (λ (k : EntryKind). used_entries (table_in s.cells k (info_of dirs files k))
+    (taken_entry (table_in s.cells kind (info_of dirs files kind)))) (sym is)
+    (subst (λ (e : ℕ). used_entries (table_in s.cells Dir dirs) e) (same ∙ made.entry) may.can.directory)) in
+    bytes_stay u dirs files there put.can kind plan.place.entry
+    (record { some = made.has.some; below = below }) v plan.edits all.each
+    (rw made.edits (All-three (λ edit. IsElsewhere kind plan.place.entry edit.word)
+    (record {
+      word = Head kind (bucket_number new.parent new.name.0 (info_of dirs files kind).buckets);
+      value = taken_entry (table_in s.cells kind (info_of dirs files kind));
+    })
+    (record {
+      word = First kind new.parent;
+      value = taken_entry (table_in s.cells kind (info_of dirs files kind));
+    })
+    (taken_edit kind (table_in s.cells kind (info_of dirs files kind))) tt parent_apart
+    (last_elsewhere kind (table_in s.cells kind (info_of dirs files kind)) plan.place.entry some))) soft k
+    (get_or (written_entry kind new plan.place.sibling plan.place.link) k 0) (omega (arith, less, long))
+    (put.bytes k less)

@@ -1,5 +1,6 @@
 pub mod AddLemmas
 pub mod AddedLemmas
+pub mod BytesLemmas
 pub mod ImageLemmas
 pub mod PlanLemmas
 pub mod PutLemmas

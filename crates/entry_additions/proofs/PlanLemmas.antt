@@ -303,7 +303,7 @@ last_set s dirs files can kind room has zero =
     ((table_in s.cells kind (info_of dirs files kind)).link 0)) has tt zero))
     (cases_eq ((table_in s.cells kind (info_of dirs files kind)).link 0) 0)
 
-All-three : {A : Type 0} (P : A → Type 0) (one two three : A) → P one → P two → P three
+pub All-three : {A : Type 0} (P : A → Type 0) (one two three : A) → P one → P two → P three
     → All P (one ∷ two ∷ three ∷ [])
 All-three P one two three p q r =
     All-cons P one (two ∷ three ∷ []) p (All-cons P two (three ∷ []) q (All-cons P three [] r (All-nil P)))

@@ -501,3 +501,33 @@ pub entry_outside : (s : State) (dirs files : TableInfo) (kind : EntryKind) (e l
     → ¬ (CanChangeTables s dirs files × HasEntry (table_in s.cells kind (info_of dirs files kind)) e)
 entry_outside s dirs files kind e len long outside (can, has) =
     omega (arith, long, outside, (can.tells kind).entries (can.counts kind) e has.below)
+
+-- how many bytes a new entry has
+pub written_long : (kind : EntryKind) (new : NewEntry) (sibling link : ℕ) → length new.name.0 ≡ 16
+    → length (written_entry kind new sibling link) ≡ entry_size kind
+written_long Dir new sibling link name = omega (
+  arith,
+  name,
+  length-append (little_bytes 4 new.parent) new.name.0,
+  length-append (little_bytes 4 new.parent ++ new.name.0) (little_bytes 4 sibling),
+  length-append (little_bytes 4 new.parent ++ new.name.0 ++ little_bytes 4 sibling) (replicate 12 0),
+  length-append (little_bytes 4 new.parent ++ new.name.0 ++ little_bytes 4 sibling ++ replicate 12 0)
+      (little_bytes 4 link),
+  length-replicate {A = ℕ} 12 0,
+)
+written_long File new sibling link name = omega (
+  arith,
+  name,
+  length-append (little_bytes 4 new.parent) new.name.0,
+  length-append (little_bytes 4 new.parent ++ new.name.0) (little_bytes 4 sibling),
+  length-append (little_bytes 4 new.parent ++ new.name.0 ++ little_bytes 4 sibling) (replicate 4 0),
+  length-append (little_bytes 4 new.parent ++ new.name.0 ++ little_bytes 4 sibling ++ replicate 4 0)
+      (little_bytes 4 new.fields.start),
+  length-append (little_bytes 4 new.parent ++ new.name.0 ++ little_bytes 4 sibling ++ replicate 4 0
+      ++ little_bytes 4 new.fields.start) (little_bytes 8 new.fields.wide),
+  length-append (little_bytes 4 new.parent ++ new.name.0 ++ little_bytes 4 sibling ++ replicate 4 0
+      ++ little_bytes 4 new.fields.start ++ little_bytes 8 new.fields.wide) (replicate 4 0),
+  length-append (little_bytes 4 new.parent ++ new.name.0 ++ little_bytes 4 sibling ++ replicate 4 0
+      ++ little_bytes 4 new.fields.start ++ little_bytes 8 new.fields.wide ++ replicate 4 0) (little_bytes 4 link),
+  length-replicate {A = ℕ} 4 0,
+)

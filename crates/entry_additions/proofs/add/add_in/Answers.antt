@@ -1,4 +1,4 @@
-use Rattle.std.proofs.Common.{Some, None, sym, subst, ◌∙◌}
+use Rattle.std.proofs.Common.{Some, None, sym, subst, ◌∙◌, ◌≡◌, length, rules}
 use Rattle.save_bytes.specs.State.{Shape}
 use Rattle.save_bytes.specs.Writes.{IsWithin}
 use Rattle.save_bytes.proofs.SpaceLemmas.{IfDamaged-never}
@@ -14,9 +14,10 @@ use Rattle.entry_changes.proofs.TakenLemmas.{reads_change, more_sites, all_later
 use Rattle.entry_additions.specs.Additions.{MayAdd}
 use Rattle.entry_additions.specs.Results.{IsAdditionSite}
 use Rattle.entry_additions.proofs.PlanLemmas.{addition_bad_cause}
-use Rattle.entry_additions.proofs.AddLemmas.{set_behind_put, added_to, taken_blamed, taken_never, cause_again}
+use Rattle.entry_additions.proofs.AddLemmas.{set_behind_put, added_to, entry_bytes_stay, taken_blamed, taken_never, cause_again}
 use Rattle.entry_additions.proofs.AddLemmas.{addition_bytes_later, read_then_change, planned_entry}
 use Rattle.entry_additions.proofs.AddLemmas.{planned_words, has_later}
+use Rattle.entry_additions.proofs.PutLemmas.{written_long}
 use Rattle.entry_additions.proofs.add.add_in.Goals as goal
 
 pub returns-in_err-plan-clause-cause : goal.returns-in_err-plan-clause-cause
@@ -202,6 +203,7 @@ returns-in_err-set_words-clause-changes g c =
 
 pub returns-clause-added : goal.returns-clause-added
 returns-clause-added g c = λ can may.
+    let name_long : length c.args.new.name.0 ≡ 16 = search rules in
     let s = g.S.Space.state c.args.space.now in
     let t = g.S.Space.state c.plan_addition.new.space in
     let read = c.in_ok-plan.ensures.reads.stays in
@@ -224,6 +226,12 @@ returns-clause-added g c = λ can may.
     added_to s t u (g.S.Space.state c.set_words.new.space) c.args.dirs c.args.files c.requires can read c.args.kind
     c.args.new c.in_ok-plan.plan may made (c.in_ok-put_entry.ensures.put can_then has)
     (c.in_ok-set_words.ensures.set (gives (can, may)))
+    (entry_bytes_stay s t u (g.S.Space.state c.set_words.new.space) c.args.dirs c.args.files c.requires
+    (subst (λ (shape : Shape). HasEntryTables shape c.args.dirs c.args.files)
+    (sym (c.in_ok-put_entry.ensures.changes.space.shape ∙ read.space.shape)) c.requires) can read c.args.kind c.args.new
+    c.in_ok-plan.plan may made (c.in_ok-put_entry.ensures.put can_then has)
+    (written_long c.args.kind c.args.new c.in_ok-plan.plan.place.sibling c.in_ok-plan.plan.place.link name_long)
+    (gives (can, may)) (c.in_ok-set_words.ensures.changes.within (gives (can, may))))
 
 pub returns-clause-cause : goal.returns-clause-cause
 returns-clause-cause g c = record {
