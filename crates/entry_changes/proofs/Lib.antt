@@ -1,7 +1,9 @@
 pub mod CutLemmas
+pub mod ExactLemmas
 pub mod PlanLemmas
 pub mod PlannedLemmas
 pub mod RemovedLemmas
 pub mod TakenLemmas
 pub mod WalkLemmas
+pub mod WayLemmas
 pub mod WordLemmas

@@ -61,7 +61,7 @@ module _ {A : Type 0} (states : A → State) (keeps : Spot → A → A → Type 
     }
 
     -- fewer places are some of more
-    more_sites : (few many : ℕ → Type 0) (s t : A) (refusal : Option Bad) → (P → (x : ℕ) → few x → many x)
+    pub more_sites : (few many : ℕ → Type 0) (s t : A) (refusal : Option Bad) → (P → (x : ℕ) → few x → many x)
         → ChangesAt states keeps lands P few s t refusal → ChangesAt states keeps lands P many s t refusal
     more_sites few many s t refusal wider h = record {
       space = h.space;

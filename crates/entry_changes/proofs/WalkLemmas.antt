@@ -69,7 +69,7 @@ next_word : (t : Tables) (list : EntryList) (x : ℕ) → word_of t (entry_word 
 next_word t (Bucket kind bucket) x = refl
 next_word t (Children kind dir) x = refl
 
-entry_has : (t : Tables) (list : EntryList) (x : ℕ) → HasEntry (t.table (list_kind list)) x
+pub entry_has : (t : Tables) (list : EntryList) (x : ℕ) → HasEntry (t.table (list_kind list)) x
     → HasWord t (entry_word list x)
 entry_has t (Bucket kind bucket) x has = has.below
 entry_has t (Children kind dir) x has = has

@@ -3,3 +3,4 @@ pub mod Lacks
 pub mod Lists
 pub mod EntryWords
 pub mod Plans
+pub mod Bytes

@@ -7,7 +7,7 @@ use Rattle.entry_tables.specs.declared.table.EntryKind.TheVariants.{Dir}
 use Rattle.entry_tables.specs.declared.word.Word.{Word}
 use Rattle.entry_tables.specs.declared.word.Word.TheVariants.{Head, Link, Sibling, First}
 use Rattle.entry_tables.specs.Kinds.{bucket_table, table_number}
-use Rattle.entry_tables.specs.Tables.{HasEntry, Tables}
+use Rattle.entry_tables.specs.Tables.{HasEntry, Tables, tables_in}
 use Rattle.entry_tables.specs.Links.{LeadsTo, last_of}
 use Rattle.entry_tables.specs.Words.{word_place}
 use Rattle.entry_changes.specs.declared.list.EntryList.{EntryList}
@@ -79,3 +79,8 @@ pub record IsOnTheWay (t : Tables) (list : EntryList) (e : ℕ) (xs : List ℕ) 
 -- the four cells of a word are bytes
 abbrev pub AreBytesOf : (ℕ → Cell) → TableInfo → TableInfo → Word → Type 0
 AreBytesOf cells dirs files word = (k : ℕ) → k < 4 → IsByte (cells (word_place dirs files word + k))
+
+-- the words of a list on the way to an entry, or to the list's end, are bytes
+abbrev pub HasWayBytes : (ℕ → Cell) → TableInfo → TableInfo → EntryList → ℕ → Type 0
+HasWayBytes cells dirs files list e = (xs : List ℕ) (word : Word)
+    → IsOnTheWay (tables_in cells dirs files) list e xs word → AreBytesOf cells dirs files word

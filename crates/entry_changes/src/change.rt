@@ -1,6 +1,7 @@
 //! Taking an entry out of its table.
 
 ghost use Rattle.std.specs.Prelude.{◌≡◌, [], ◌∷◌, IfOk, OnOk, IsTrue};
+ghost use Rattle.save_bytes.specs.State.{State};
 ghost use Rattle.save_bytes.specs.Reads.{Reads};
 ghost use Rattle.save_bytes.specs.Stays.{SameCells};
 ghost use Rattle.entry_tables.specs.Tables.{tables_in};
@@ -10,6 +11,7 @@ ghost use Rattle.entry_tables.specs.Layout.{HasEntryTables};
 ghost use Rattle.entry_tables.specs.Causes.{bad_of, IfRuleBroken};
 ghost use Rattle.entry_tables.specs.Changes.{CanChangeTables, ChangesAt};
 ghost use Rattle.entry_tables.specs.declared.table.EntryKind.TheVariants.{Dir};
+ghost use Rattle.entry_changes.specs.Bytes.{OkOrDisk, HaveSoftened, HasRemovalBytes};
 ghost use Rattle.entry_changes.specs.Lacks.{IsTakenOut, IsRemovalSite};
 ghost use Rattle.entry_changes.specs.Plans.{HasChangeCause, MayRemove, IsRemovalPlan, IsRemovalReady};
 
@@ -36,6 +38,9 @@ pub fn remove_in<S: Space>(
         HasChangeCause (S.state space.old) dirs files (MayRemove t kind entry)
         (λ table number. used_entries (t.table kind) entry → used_entries (t.table Dir) ((t.table kind).parent entry)
         → RuleFailsAt t table number) result }
+    ensures exact { (was : State) → CanChangeTables was dirs files → HasRemovalBytes was dirs files kind entry
+        → HaveSoftened was (S.state space.old) dirs files → CanChangeTables (S.state space.old) dirs files
+        → MayRemove (tables_in (S.state space.old).cells dirs files) kind entry → OkOrDisk result }
     ensures broken { IsTrue (S.state space.old).told
         → IfRuleBroken result (λ _ _. SameCells (S.state space.old) (S.state space.new)) }
     ensures changes { let t = tables_in (S.state space.old).cells dirs files in
@@ -63,6 +68,9 @@ pub fn ready_remove_in<S: Space>(
     ensures ready { CanChangeTables (S.state space.old) dirs files
         → MayRemove (tables_in (S.state space.old).cells dirs files) kind entry
         → OnOk result (IsRemovalReady (S.state space.old) dirs files kind entry) }
+    ensures bytes { CanChangeTables (S.state space.old) dirs files
+        → MayRemove (tables_in (S.state space.old).cells dirs files) kind entry
+        → OnOk result (HasRemovalBytes (S.state space.old) dirs files kind entry) }
     ensures cause { let t = tables_in (S.state space.old).cells dirs files in
         HasChangeCause (S.state space.old) dirs files (MayRemove t kind entry)
         (λ table number. used_entries (t.table kind) entry → used_entries (t.table Dir) ((t.table kind).parent entry)
@@ -85,6 +93,12 @@ pub fn removal<S: Space>(
     ensures plan { CanChangeTables (S.state space.old) dirs files
         → MayRemove (tables_in (S.state space.old).cells dirs files) kind entry
         → IfOk result (IsRemovalPlan (S.state space.old) dirs files kind entry) }
+    ensures bytes { CanChangeTables (S.state space.old) dirs files
+        → MayRemove (tables_in (S.state space.old).cells dirs files) kind entry
+        → OnOk result (HasRemovalBytes (S.state space.old) dirs files kind entry) }
+    ensures exact { CanChangeTables (S.state space.old) dirs files
+        → MayRemove (tables_in (S.state space.old).cells dirs files) kind entry
+        → HasRemovalBytes (S.state space.old) dirs files kind entry → OkOrDisk result }
     ensures cause { let t = tables_in (S.state space.old).cells dirs files in
         HasChangeCause (S.state space.old) dirs files (MayRemove t kind entry)
         (λ table number. used_entries (t.table kind) entry → used_entries (t.table Dir) ((t.table kind).parent entry)

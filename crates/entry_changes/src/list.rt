@@ -1,6 +1,6 @@
 //! The word that names an entry in the list of its bucket or of its directory.
 
-ghost use Rattle.std.specs.Prelude.{◌≡◌, ℕ, List, IsTrue, IfOk, IfSome};
+ghost use Rattle.std.specs.Prelude.{◌≡◌, ℕ, List, IsTrue, IfOk, OnOk, IfSome};
 ghost use Rattle.save_bytes.specs.Answers.{IsFirstFault};
 ghost use Rattle.save_bytes.specs.Refusals.{IfDamaged, NeverDamaged};
 ghost use Rattle.save_bytes.specs.Reads.{Reads};
@@ -10,7 +10,7 @@ ghost use Rattle.entry_tables.specs.Layout.{HasEntryTables};
 ghost use Rattle.entry_tables.specs.Words.{word_place};
 ghost use Rattle.entry_tables.specs.Changes.{CanChangeTables};
 ghost use Rattle.entry_tables.specs.Causes.{bad_of, IfRuleBroken, NeverNoEntry};
-ghost use Rattle.entry_changes.specs.Lists.{list_kind, first_word, entry_word, list_table, list_number, HasList, IsWordBefore, HasNoEnd, IsOnTheWay, AreBytesOf};
+ghost use Rattle.entry_changes.specs.Lists.{list_kind, first_word, entry_word, list_table, list_number, HasList, IsWordBefore, HasNoEnd, IsOnTheWay, AreBytesOf, HasWayBytes};
 
 use entry_tables::{EntryFault, EntryKind, TableInfo, Word, read_word};
 use save_bytes::Space;
@@ -79,6 +79,10 @@ pub fn word_before<S: Space>(
         → HasList (tables_in (S.state space.old).cells dirs files) list
         → ((tables_in (S.state space.old).cells dirs files).table (list_kind list)).count ≡ count
         → IfOk result (λ found. IfSome found (λ word. AreBytesOf (S.state space.old).cells dirs files word)) }
+    ensures walked { CanChangeTables (S.state space.old) dirs files
+        → HasList (tables_in (S.state space.old).cells dirs files) list
+        → ((tables_in (S.state space.old).cells dirs files).table (list_kind list)).count ≡ count
+        → OnOk result (HasWayBytes (S.state space.old).cells dirs files list entry) }
     ensures broken { let t = tables_in (S.state space.old).cells dirs files in
         CanChangeTables (S.state space.old) dirs files → HasList t list → (t.table (list_kind list)).count ≡ count
         → IfRuleBroken result (λ table number.

@@ -1,8 +1,9 @@
 //! What an entry's lists need of it.
 
-ghost use Rattle.std.specs.Prelude.{ℕ, ◌+◌, ◌<◌, IsTrue, IfOk, OnOk};
+ghost use Rattle.std.specs.Prelude.{ℕ, ◌+◌, ◌<◌, ◌≤◌, IsTrue, IfOk, OnOk};
 ghost use Rattle.std.specs.Result.{result_err};
 ghost use Rattle.save_bytes.specs.Cells.{IsByte};
+ghost use Rattle.save_bytes.specs.Answers.{IsRead};
 ghost use Rattle.save_bytes.specs.Refusals.{IfDamaged, NeverDamaged};
 ghost use Rattle.save_bytes.specs.Reads.{Reads};
 ghost use Rattle.entry_tables.specs.Kinds.{entry_size};
@@ -37,6 +38,8 @@ pub fn read_entry<S: Space>(
         → HasEntry (table_in (S.state space.old).cells kind info) entry
         → OnOk result ((j : ℕ) → j < entry_size kind
         → IsByte ((S.state space.old).cells (entry_place kind info entry + j))) }
+    ensures read { entry_place kind info entry + entry_size kind ≤ (S.state space.old).shape.size
+        → IsRead (S.state space.old) (entry_place kind info entry) (entry_size kind) (result_err result) }
     ensures damaged { IsTrue (S.state space.old).told → IfDamaged (result_err result)
         (BlamesRead kind info (entry_place kind info entry) (entry_size kind) (S.state space.old).cells) }
     ensures plain { IsTrue (S.state space.old).shape.plain → NeverDamaged (result_err result) }

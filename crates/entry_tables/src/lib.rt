@@ -9,7 +9,7 @@ mod word;
 
 pub use fields::{counts_in, fields_in, head_in, link_in, name_in, word_in};
 pub use hash::bucket;
-pub use reads::{Counts, entry_bytes, entry_word, read_counts};
+pub use reads::{Counts, entry_at, entry_bytes, entry_word, read_counts};
 pub use table::{EntryFault, EntryKind, FileFields, TableInfo};
 pub use word::{Edit, Word, info_for, read_word, ready_word, set_fields_in, set_word, set_words};
 

@@ -40,8 +40,8 @@ pub fn read_counts<S: Space>(space: &mut S, kind: EntryKind, info: TableInfo) ->
     })
 }
 
-// Where an entry stands in a space of `len` bytes; none where it does not lie in it.
-pub(crate) fn entry_at(len: u64, kind: EntryKind, info: TableInfo, entry: u32) -> Option<u64>
+/// Where an entry stands in a space of `len` bytes; none where it does not lie in it.
+pub fn entry_at(len: u64, kind: EntryKind, info: TableInfo, entry: u32) -> Option<u64>
     requires { info.table_at ≤ len }
     ensures place { IfSome result (λ at. at ≡ entry_place kind info entry) }
     ensures inside { IfSome result (λ at. at + entry_size kind ≤ len) }
@@ -70,6 +70,8 @@ pub fn entry_bytes<S: Space>(
     requires inside { offset + length out.old ≤ entry_size kind }
     ensures bytes { TellsEntryTable (S.state space.old) kind info → entry < most_in (S.state space.old).cells info
         → OnOk result (AreBytesAt (S.state space.old).cells (entry_place kind info entry + offset) out.new) }
+    ensures read { entry_place kind info entry + entry_size kind ≤ (S.state space.old).shape.size
+        → IsRead (S.state space.old) (entry_place kind info entry + offset) (length out.old) (result_err result) }
     ensures damaged { IsTrue (S.state space.old).told → IfDamaged (result_err result)
         (BlamesRead kind info (entry_place kind info entry + offset) (length out.old) (S.state space.old).cells) }
     ensures plain { IsTrue (S.state space.old).shape.plain → NeverDamaged (result_err result) }

@@ -9,4 +9,6 @@ pub use entry_tables::{Counts, EntryFault, EntryKind, FileFields, TableInfo, buc
 pub use view::Entries;
 
 #[cfg(test)]
+mod add_tests;
+#[cfg(test)]
 mod tests;

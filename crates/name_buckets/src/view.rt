@@ -1,6 +1,7 @@
 //! The entries of the tables in a space.
 
 ghost use Rattle.std.specs.Prelude.{◌≡◌, ◌<◌, IsTrue, IfOk, OnOk, ⊤};
+ghost use Rattle.save_bytes.specs.State.{State};
 ghost use Rattle.save_bytes.specs.Stays.{SameCells};
 ghost use Rattle.entry_tables.specs.declared.table.EntryKind.TheVariants.{Dir, File};
 ghost use Rattle.save_bytes.specs.Answers.{IsReady};
@@ -15,6 +16,10 @@ ghost use Rattle.entry_tables.specs.Words.{with_fields};
 ghost use Rattle.entry_tables.specs.Fails.{NamesWrongly, IsBrokenBucket, RuleFailsAt};
 ghost use Rattle.entry_tables.specs.Layout.{HasCounts, HasEntryTables, HasLink, BlamesTable};
 ghost use Rattle.entry_tables.specs.Causes.{bad_of, IfRuleBroken, HasEntryCause};
+ghost use Rattle.entry_tables.specs.Changes.{CanChangeTables};
+ghost use Rattle.entry_additions.specs.Additions.{IfNoEntry, MayAdd, HasAdditionCause, HasAdditionBytes};
+ghost use Rattle.entry_additions.specs.Results.{IsAddedTo, IsAdditionSite};
+ghost use Rattle.entry_changes.specs.Bytes.{OkOrDisk, HaveSoftened, HasRemovalBytes};
 ghost use Rattle.entry_changes.specs.Lacks.{IsTakenOut, IsRemovalSite};
 ghost use Rattle.entry_changes.specs.Plans.{HasChangeCause, MayRemove, IsRemovalReady};
 ghost use Rattle.name_buckets.specs.Replies.{IsFoundEntry, IsRoom, IsFirstChild, IsNextChild};
@@ -23,6 +28,7 @@ ghost use Rattle.name_buckets.specs.Held.{CanChange, fields_place, ChangesEntrie
 
 use crate::find::find_in;
 use crate::free::free_in;
+use entry_additions::{NewEntry, add_in, ready_add_in};
 use entry_changes::{ready_remove_in, remove_in};
 use entry_tables::{
     Counts, EntryFault, EntryKind, FileFields, TableInfo, counts_in, fields_in, head_in, link_in,
@@ -230,6 +236,74 @@ impl<'a, S: Space> Entries<'a, S> {
         Ok(())
     }
 
+    /// Adds an entry with this parent and name to its directory and its bucket, and gives its number: the first freed
+    /// one, or where there is none the next that was never used. `fields` is not looked at for a directory, and its
+    /// entries are none; what the entry says no more is zero. The rules hold as before, and all other entries have their
+    /// parents, names and fields. The parent is a used directory that reaches the root by fewer than 64 parents, and the
+    /// name is not empty and not there. `NoEntry` comes exactly where no entry is freed and the count is at its most.
+    /// What is needed is read first; `Damaged` comes beside that for a spoilt cell of the entry that is taken; from the
+    /// first byte on only `Disk` can come, and any other refusal changes nothing.
+    pub fn add(
+        &mut self,
+        kind: EntryKind,
+        parent: u32,
+        name: &Name,
+        fields: FileFields,
+    ) -> Result<u32, EntryFault>
+        requires { HoldsTables S.state self.old }
+        ensures added { CanChange S.state self.old → MayAdd (tables_of S.state self.old) kind parent name.now.0
+            → IfOk result (IsAddedTo (space_of S.state self.old) (space_of S.state self.new) self.old.dirs self.old.files
+            kind (record { parent = parent; name = name.now; fields = fields })) }
+        ensures still { CanChange S.state self.old → MayAdd (tables_of S.state self.old) kind parent name.now.0
+            → OnOk result (CanChange S.state self.new) }
+        ensures exact { (was : State) → CanChangeTables was self.old.dirs self.old.files
+            → HasAdditionBytes was self.old.dirs self.old.files kind parent name.now.0
+            → HaveSoftened was (space_of S.state self.old) self.old.dirs self.old.files → CanChange S.state self.old
+            → MayAdd (tables_of S.state self.old) kind parent name.now.0 → OkOrDisk result }
+        ensures cause { HasAdditionCause (space_of S.state self.old) self.old.dirs self.old.files kind parent name.now.0
+            result }
+        ensures never_broken { CanChange S.state self.old → MayAdd (tables_of S.state self.old) kind parent name.now.0
+            → IfRuleBroken result (λ _ _. ⊥) }
+        ensures broken { IsTrue (space_of S.state self.old).told
+            → IfRuleBroken result (λ _ _. SameCells (space_of S.state self.old) (space_of S.state self.new)) }
+        ensures full { IsTrue (space_of S.state self.old).told
+            → IfNoEntry result (λ _. SameCells (space_of S.state self.old) (space_of S.state self.new)) }
+        ensures changes { let t = tables_of S.state self.old in
+            ChangesEntries S.state S.keeps S.lands (CanChange S.state self.old × MayAdd t kind parent name.now.0)
+            (IsAdditionSite t self.old.dirs self.old.files kind parent name.now.0) self.old self.new (bad_of result) }
+    {
+        let dirs = self.dirs;
+        let files = self.files;
+        let space = &mut *self.space;
+        let name = *name;
+        let new = NewEntry {
+            parent,
+            name,
+            fields,
+        };
+        add_in(space, dirs, files, kind, new)
+    }
+
+    /// Whether an entry of this parent and name may be added: the refusal of `add`, but for what comes from the disk as
+    /// it writes. It changes nothing. After its Ok `add` answers Ok or `Disk`, as long as the tables stay and their
+    /// cells soften at most.
+    pub fn ready_add(&mut self, kind: EntryKind, parent: u32, name: &Name) -> Result<(), EntryFault>
+        requires { HoldsTables S.state self.old }
+        ensures bytes { CanChange S.state self.old → MayAdd (tables_of S.state self.old) kind parent name.now.0
+            → OnOk result
+            (HasAdditionBytes (space_of S.state self.old) self.old.dirs self.old.files kind parent name.now.0) }
+        ensures cause { HasAdditionCause (space_of S.state self.old) self.old.dirs self.old.files kind parent name.now.0
+            result }
+        ensures never_broken { CanChange S.state self.old → MayAdd (tables_of S.state self.old) kind parent name.now.0
+            → IfRuleBroken result (λ _ _. ⊥) }
+        ensures reads { ReadsEntries S.state S.keeps S.lands self.old self.new (bad_of result) }
+    {
+        let dirs = self.dirs;
+        let files = self.files;
+        let space = &mut *self.space;
+        ready_add_in(space, dirs, files, kind, parent, name)
+    }
+
     /// Takes an entry out of its table, one other than the root, and of a directory none that has entries: out of its
     /// bucket's list and its directory's, and into that of the freed ones. The rules hold as before, and all other
     /// entries have their parents, names and fields. What is needed is read first; from the first word on only `Disk`
@@ -247,6 +321,10 @@ impl<'a, S: Space> Entries<'a, S> {
             → RuleFailsAt t table number) result }
         ensures never_broken { CanChange S.state self.old → MayRemove (tables_of S.state self.old) kind entry
             → IfRuleBroken result (λ _ _. ⊥) }
+        ensures exact { (was : State) → CanChangeTables was self.old.dirs self.old.files
+            → HasRemovalBytes was self.old.dirs self.old.files kind entry
+            → HaveSoftened was (space_of S.state self.old) self.old.dirs self.old.files → CanChange S.state self.old
+            → MayRemove (tables_of S.state self.old) kind entry → OkOrDisk result }
         ensures broken { IsTrue (space_of S.state self.old).told
             → IfRuleBroken result (λ _ _. SameCells (space_of S.state self.old) (space_of S.state self.new)) }
         ensures changes { let t = tables_of S.state self.old in
@@ -260,11 +338,14 @@ impl<'a, S: Space> Entries<'a, S> {
     }
 
     /// Whether an entry may be taken out of its table: the refusal of `remove`, but for what comes from the disk as it
-    /// writes. It changes nothing.
+    /// writes. It changes nothing. After its Ok `remove` answers Ok or `Disk`, as long as the tables stay and their
+    /// cells soften at most.
     pub fn ready_remove(&mut self, kind: EntryKind, entry: u32) -> Result<(), EntryFault>
         requires { HoldsTables S.state self.old }
         ensures ready { CanChange S.state self.old → MayRemove (tables_of S.state self.old) kind entry
             → OnOk result (IsRemovalReady (space_of S.state self.old) self.old.dirs self.old.files kind entry) }
+        ensures bytes { CanChange S.state self.old → MayRemove (tables_of S.state self.old) kind entry
+            → OnOk result (HasRemovalBytes (space_of S.state self.old) self.old.dirs self.old.files kind entry) }
         ensures cause { let t = tables_of S.state self.old in
             HasChangeCause (space_of S.state self.old) self.old.dirs self.old.files (MayRemove t kind entry)
             (λ table number. used_entries (t.table kind) entry → used_entries (t.table Dir) ((t.table kind).parent entry)

@@ -8,6 +8,7 @@ use Rattle.entry_tables.proofs.CauseLemmas.{passed_on, passed_error, plain_stays
 use Rattle.entry_changes.specs.Lacks.{IsRemovalSite}
 use Rattle.entry_changes.proofs.PlanLemmas.{change_bad_cause}
 use Rattle.entry_changes.proofs.TakenLemmas.{reads_change, taken_out, planned_later, removal_changes}
+use Rattle.entry_changes.proofs.ExactLemmas.{removal_bytes_later}
 use Rattle.entry_changes.proofs.change.remove_in.Goals as goal
 
 pub returns-in_err-edits-clause-changes : goal.returns-in_err-edits-clause-changes
@@ -61,3 +62,19 @@ returns-clause-changes g c =
     (g.met.S.Space.keeps_hold c.args.space.now c.removal.new.space c.in_ok-edits.ensures.reads.frame)
     c.in_ok-edits.ensures.reads c.args.kind c.args.entry c.in-Some.edits None
     (rw c.in-Some.is at c.in_ok-edits.ensures.plan) (λ all. tt) c.in_ok-set_words.ensures.changes
+
+pub returns-in_err-edits-clause-exact : goal.returns-in_err-edits-clause-exact
+returns-in_err-edits-clause-exact g c = λ was could bytes soft can may.
+    rw (passed_error _ c.in_err-edits.field-0.0 c.from_residual.ensures.1)
+    (c.in_err-edits.ensures.exact can may
+    (removal_bytes_later was (g.S.Space.state c.args.space.now) c.args.dirs c.args.files c.requires could soft
+    c.args.kind c.args.entry may bytes))
+
+pub returns-in_err-set_words-clause-exact : goal.returns-in_err-set_words-clause-exact
+returns-in_err-set_words-clause-exact g c = λ was could bytes soft can may.
+    let s = g.S.Space.state c.args.space.now in
+    let t = g.S.Space.state c.removal.new.space in
+    rw (passed_on _ c.in_err-set_words.field-0.0 c.from_residual-in_err-set_words.ensures.1)
+    (c.in_err-set_words.ensures.never
+    (planned_later s t c.args.dirs c.args.files c.requires c.in_ok-edits.ensures.reads.stays c.args.kind c.args.entry
+    c.in-Some.edits (rw c.in-Some.is at c.in_ok-edits.ensures.plan) (can, may)))

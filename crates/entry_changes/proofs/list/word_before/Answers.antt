@@ -8,6 +8,7 @@ use Rattle.entry_tables.proofs.CauseLemmas.{passed_on, plain_stays}
 use Rattle.entry_changes.specs.Lists.{list_kind}
 use Rattle.entry_changes.proofs.WalkLemmas.{nothing_walked, one_more_walked, met_entry, met_end, no_entry_ends}
 use Rattle.entry_changes.proofs.WalkLemmas.{too_long_ends, on_the_way, read_then, bytes_then, fault_then}
+use Rattle.entry_changes.proofs.WayLemmas.{one_more_read, all_read}
 use Rattle.entry_changes.proofs.list.word_before.Goals as goal
 
 pub loop-step-init : goal.loop-step-init
@@ -16,6 +17,7 @@ loop-step-init g c = record {
   walked = λ can has counted. rw c.first_word-word.ensures
       (nothing_walked (tables_in (g.S.Space.state c.args.space.now).cells c.args.dirs c.args.files) c.args.list
       c.args.entry has);
+  read = λ can has counted ys word way less. absurd (omega (arith, less));
 }
 
 pub read_word-requires : goal.read_word-requires
@@ -69,6 +71,17 @@ returns-then-next-entry-clause-bytes g c = λ can has counted.
     c.loop-step.invariant.reads.stays c.loop-step.word (c.loop-step.invariant.walked can has counted).has
     c.in_ok-next.ensures.read
 
+pub returns-then-next-entry-clause-walked : goal.returns-then-next-entry-clause-walked
+returns-then-next-entry-clause-walked g c = λ can has counted.
+    let s = g.S.Space.state c.args.space.now in
+    let walked = c.loop-step.invariant.walked can has counted in
+    let stays = c.loop-step.invariant.reads.stays in
+    all_read s.cells c.args.dirs c.args.files c.args.list c.args.entry _ c.loop-step.word walked
+    (bytes_then s (g.S.Space.state c.loop-step.space) c.args.dirs c.args.files c.requires can stays c.loop-step.word
+    walked.has c.in_ok-next.ensures.read) (c.loop-step.invariant.read can has counted) c.in_ok-next.next
+    (read_then s (g.S.Space.state c.loop-step.space) c.args.dirs c.args.files c.requires can stays c.loop-step.word
+    walked.has c.in_ok-next.next c.in_ok-next.ensures.value) (λ other. absurd (other c.if-next-entry.true))
+
 pub returns-then-next-entry-clause-reads : goal.returns-then-next-entry-clause-reads
 returns-then-next-entry-clause-reads g c =
     reads_then g.met.S.Space.keeps_join c.loop-step.invariant.reads c.in_ok-next.ensures.reads
@@ -82,6 +95,17 @@ returns-then-next-eq0-clause-found g c = λ can has counted.
     (read_then s (g.S.Space.state c.loop-step.space) c.args.dirs c.args.files c.requires can
     c.loop-step.invariant.reads.stays c.loop-step.word walked.has c.in_ok-next.next c.in_ok-next.ensures.value)
     c.if-next-eq0.true
+
+pub returns-then-next-eq0-clause-walked : goal.returns-then-next-eq0-clause-walked
+returns-then-next-eq0-clause-walked g c = λ can has counted.
+    let s = g.S.Space.state c.args.space.now in
+    let walked = c.loop-step.invariant.walked can has counted in
+    let stays = c.loop-step.invariant.reads.stays in
+    all_read s.cells c.args.dirs c.args.files c.args.list c.args.entry _ c.loop-step.word walked
+    (bytes_then s (g.S.Space.state c.loop-step.space) c.args.dirs c.args.files c.requires can stays c.loop-step.word
+    walked.has c.in_ok-next.ensures.read) (c.loop-step.invariant.read can has counted) c.in_ok-next.next
+    (read_then s (g.S.Space.state c.loop-step.space) c.args.dirs c.args.files c.requires can stays c.loop-step.word
+    walked.has c.in_ok-next.next c.in_ok-next.ensures.value) (λ other. c.if-next-eq0.true)
 
 pub returns-then-next-eq0-clause-reads : goal.returns-then-next-eq0-clause-reads
 returns-then-next-eq0-clause-reads g c =
@@ -119,6 +143,13 @@ loop-step-preserved g c = record {
       (read_then s (g.S.Space.state c.loop-step.space) c.args.dirs c.args.files c.requires can
       c.loop-step.invariant.reads.stays c.loop-step.word walked.has c.in_ok-next.next c.in_ok-next.ensures.value)
       c.if-next-entry.false c.if-next-eq0.false (omega (arith, counted, c.if-next-count.false))));
+  read = λ can has counted.
+      (let s = g.S.Space.state c.args.space.now in
+      let walked = c.loop-step.invariant.walked can has counted in
+      one_more_read s.cells c.args.dirs c.args.files c.args.list c.args.entry _ c.loop-step.word walked
+      (bytes_then s (g.S.Space.state c.loop-step.space) c.args.dirs c.args.files c.requires can
+      c.loop-step.invariant.reads.stays c.loop-step.word walked.has c.in_ok-next.ensures.read)
+      (c.loop-step.invariant.read can has counted));
 }
 
 pub returns-clause-broken : goal.returns-clause-broken

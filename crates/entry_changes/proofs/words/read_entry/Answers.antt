@@ -1,9 +1,9 @@
-use Rattle.std.proofs.Common.{◌≡◌, take, drop, ◌∙◌, length, arith}
+use Rattle.std.proofs.Common.{◌≡◌, take, drop, ◌∙◌, length, None, arith}
 use Rattle.std.proofs.lemmas.List.{places}
 use Rattle.entry_tables.specs.Kinds.{entry_size}
 use Rattle.entry_tables.specs.Tables.{table_in, entry_place}
 use Rattle.entry_tables.proofs.EntryLemmas.{parent_read, name_read, sibling_read, link_read}
-use Rattle.entry_changes.proofs.WordLemmas.{bytes_of_entry, bucket_read}
+use Rattle.entry_changes.proofs.WordLemmas.{bytes_of_entry, bucket_read, read_at}
 use Rattle.entry_changes.proofs.words.read_entry.Goals as goal
 
 pub returns-clause-words : goal.returns-clause-words
@@ -32,3 +32,8 @@ returns-clause-bytes g c = λ told has.
     let long : length c.entry_bytes.new.out ≡ entry_size c.args.kind = grind (arith, places) in
     bytes_of_entry (g.S.Space.state c.args.space.now).cells (entry_place c.args.kind c.args.info c.args.entry)
     (entry_size c.args.kind) c.entry_bytes.new.out long (c.in_ok-entry_bytes.ensures.bytes told has.below)
+
+pub returns-clause-read : goal.returns-clause-read
+returns-clause-read g c = λ fits.
+    read_at (g.S.Space.state c.args.space.now) _ _ _ _ None (c.in_ok-entry_bytes.ensures.read fits) (omega arith)
+    (grind (arith, places))
