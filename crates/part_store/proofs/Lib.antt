@@ -1,3 +1,4 @@
 pub mod PartLemmas
 pub mod AboveLemmas
 pub mod UnderLemmas
+pub mod EndLemmas
