@@ -131,7 +131,7 @@ module _ (difi other : Difi) (selector : ℕ) (is : other ≡ record difi { sele
   master_again : (table : List ℕ) → master_of table other ≡ master_of table difi
   master_again table = rw is refl
 
-cell_same : (found next : BlockState) (number later value another : ℕ) → found ≡ next → number ≡ later → value ≡ another
+pub cell_same : (found next : BlockState) (number later value another : ℕ) → found ≡ next → number ≡ later → value ≡ another
     → cell_in found number value ≡ cell_in next later another
 cell_same found next number later value another state part byte = rw (state, part, byte) refl
 

@@ -62,7 +62,7 @@ module _ {S : Type 0} (states : S → State) (keeps : Spot → S → S → Type 
   }
 
 -- the master hash of a table to which one was written back
-master_back : (start n m : ℕ) (table part : List ℕ) → start + n ≤ length table → m ≡ n → length part ≡ n
+pub master_back : (start n m : ℕ) (table part : List ℕ) → start + n ≤ length table → m ≡ n → length part ≡ n
     → take n (drop start (put_mid start m table part)) ≡ part
 master_back start n m table part inside is long =
     rw is (same_lists _ _ (search (rules, places)) (λ k d h. grind (arith, places)))

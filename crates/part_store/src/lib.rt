@@ -5,6 +5,7 @@ mod calls;
 mod over;
 mod part;
 mod puts;
+mod seal;
 mod view;
 
 pub use calls::lend;

@@ -12,7 +12,8 @@ ghost use Rattle.difi.specs.Places.{block_size};
 ghost use Rattle.ivfc_tree.specs.Levels.{HasBlock};
 ghost use Rattle.part_store.specs.FloorLaws.{shown_ground, shown_blocks, shown_alike};
 ghost use Rattle.part_store.specs.Parts.{CanViewPart, status_in, IsFound};
-ghost use Rattle.part_store.specs.Held.{shown, IsPartViewOf, PartKeeps, part_lands};
+ghost use Rattle.part_store.specs.Held.{shown, IsPartViewOf, PartKeeps, part_lands, SameNames};
+ghost use Rattle.part_store.specs.Seals.{IsSealedPart};
 ghost use Rattle.std.proofs.lemmas.Bool.{false≢true};
 ghost use Rattle.part_store.specs.ViewLaws.{shown_fits, part_shape, PartKeeps-same, PartKeeps-join, PartKeeps-cells, PartKeeps-lands};
 ghost use Rattle.part_store.specs.contracts.view.PartView.{the_row};
@@ -21,6 +22,7 @@ ghost use mir.Syntax.{named};
 use crate::calls::{find, status};
 use crate::part::Part;
 use crate::puts::{clear_in, clear_ready_in, put_in, ready_in};
+use crate::seal::seal_in;
 use difi::LevelPlace;
 use ivfc_tree::Status;
 use save_bytes::{Bad, Floor, Space};
@@ -91,6 +93,24 @@ impl<'a, S: Space> PartView<'a, S> {
         let part = &mut *self.part;
         let table = &mut *self.table;
         status(base, part, table, level, block)
+    }
+}
+
+impl<'a, S: Space> PartView<'a, S> {
+    /// Writes the hashes of all blocks that were put or cleared in this transaction into the levels above them and into the
+    /// master hash in the table, then which copies hold the contents, and then the selector that chooses these into the
+    /// table: the other one, which it answers. So the base and the table hold the cells as the view shows them, which
+    /// stay. The copies that were chosen keep their bytes. It is refused only where the disk below failed.
+    pub fn seal(&mut self) -> Result<u8, Bad>
+        requires { IsTrue (shown S.state self.old).shape.sound }
+        ensures names { SameNames self.old self.new }
+        ensures sealed { IsSealedPart S.state S.keeps S.lands self.old.base.now self.old.part.now self.old.table.now
+            self.new.base.now self.new.part.now self.new.table.now result }
+    {
+        let base = &mut *self.base;
+        let part = &mut *self.part;
+        let table = &mut *self.table;
+        seal_in(base, part, table)
     }
 }
 
