@@ -45,6 +45,7 @@ trees_again states keeps lands base part table base_new part_new mid next result
       stays = rw state trees.stays;
       same = trees.same;
       counts = trees.counts;
+      hold = trees.hold;
       writes = trees.writes;
       held = λ told. IfOk-map result
           (λ selector holds none. held_again (states base_new) part_new mid next selector len master state (holds none)) (trees.held told);

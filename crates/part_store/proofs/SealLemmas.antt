@@ -28,7 +28,7 @@ use Rattle.dpfs_tree.specs.Held.{shown_contents, SameContents, ContentsKeep, con
 use Rattle.dpfs_tree.specs.Seals.{IsSealed}
 use Rattle.ivfc_tree.specs.declared.state.IvfcState.{IvfcState}
 use Rattle.ivfc_tree.specs.declared.view.IvfcView.{IvfcView}
-use Rattle.ivfc_tree.specs.Marks.{is_marked}
+use Rattle.ivfc_tree.specs.Marks.{is_marked, AsManyMarks}
 use Rattle.ivfc_tree.specs.KnownLaws.{true-remembers}
 use Rattle.ivfc_tree.specs.Seals.{HashSites, MasterSites, DiffersAt, CountsOn, HasNoZeroDigest, AreHashed}
 use Rattle.ivfc_tree.specs.Origins.{CameFrom}
@@ -43,8 +43,8 @@ use Rattle.part_store.specs.Parts.{master_of, contents_of, part_state, CanViewPa
 use Rattle.part_store.specs.PartLaws.{hashes_there, can_view_part-true, true-can_view_part}
 use Rattle.part_store.specs.Spots.{SamePart}
 use Rattle.part_store.specs.SpotLaws.{can_view_part-same}
-use Rattle.part_store.specs.Under.{Under, under_state}
-use Rattle.part_store.specs.Ends.{chosen_cells, plain_cell, HoldsSealed, PartCameFrom}
+use Rattle.part_store.specs.Under.{Under, under_state, KeepsUnderOrigins}
+use Rattle.part_store.specs.Ends.{chosen_cells, plain_cell, HoldsSealed, KeepsPartOrigins}
 use Rattle.part_store.specs.Seals.{SealsUnder, RefusesHashes, SealsBoth, SealsContents, Touched, touched_state, TouchedKeeps, IsSealedEntry}
 use Rattle.part_store.specs.Seals.{touched_lands, SealsTrees}
 use Rattle.part_store.proofs.PartLemmas.{byte_value, part_is_hashed}
@@ -59,7 +59,7 @@ seals_down states keeps lands old new refusal seals = record {
   counts = seals.counts;
   stays = rw (seals.hold.same_part, seals.hold.same_difi) at seals.stays;
   tree = seals.tree;
-  came = λ told. seals.came told;
+  came = λ told was was_master came. rw seals.counts.marks (seals.came told was was_master came);
 }
 
 -- over a tree whose cells are the same
@@ -189,6 +189,7 @@ stays_sealed states keeps lands part_at difi state old new result sealed =
 module _ {S : Type 0} (states : S → State) (keeps : Spot → S → S → Type 0) (lands : S → ℕ → Spot → Type 0)
     (fits : (s : S) → IsTrue (states s).shape.sound → (states s).shape.size < 2 ^ 64)
     (plain_bytes : (s : S) → IsTrue (states s).shape.plain → IsTrue (states s).told → (x : ℕ) → IsByte ((states s).cells x))
+    (keeps_join : (spot : Spot) (s t u : S) → keeps spot s t → keeps spot t u → keeps spot s u)
     (keeps_shape : (s t : S) → keeps Hold s t → (states t).shape ≡ (states s).shape)
     (base : S) (part : Part) (table : List ℕ) (can : CanViewPart (states base).shape part (length table))
     (old new : DpfsView S) (ivfc : IvfcState) (later : List ℕ) (n : ℕ)
@@ -222,7 +223,7 @@ module _ {S : Type 0} (states : S → State) (keeps : Spot → S → S → Type 
       ∙ ap (λ (master : List ℕ). hashed_state (shown_contents states old) part.number master part.difi part.ivfc) (sym master_before)
 
   -- of what was sealed the table has the master hash
-  module _ (same : SameContents old new) (counts : CountsOn part.ivfc ivfc) (len : length later ≡ length before.master)
+  module _ (same : SameContents old new) (many : AsManyMarks part.ivfc ivfc) (len : length later ≡ length before.master)
       (shape : (states new.base.now).shape ≡ (states base).shape) where
     contents_after : shown_contents states new ≡ contents_of (states new.base.now) part_new
     contents_after = rw (same.same_place, same.same_difi, place, difi) refl
@@ -243,7 +244,7 @@ module _ {S : Type 0} (states : S → State) (keeps : Spot → S → S → Type 
       descriptor = refl;
       selector = same.selector ∙ ap (λ (d : DpfsState). d.selector) dpfs;
       copies = same.marks ∙ ap (λ (d : DpfsState). length d.touched.items) dpfs;
-      hashes = λ level. rw counts.marks refl;
+      hashes = many;
     }
 
     can_after : CanViewPart (states new.base.now).shape part_new (length table_new)
@@ -263,17 +264,17 @@ module _ {S : Type 0} (states : S → State) (keeps : Spot → S → S → Type 
     told_before told = subst (λ (s : State). IsTrue s.told) state_before told
 
     -- where the tree came from, seen below
-    came_after : (refusal : Option Bad) → (IsTrue (under_state (shown_contents states) part.number part.difi before).told
-        → (was : ℕ → Cell) (was_master : List ℕ)
-        → CameFrom part.difi (is_marked part.ivfc) was was_master (shown_contents states old).cells before.master
-        → UnlessDisk refusal (CameFrom part.difi (is_marked part.ivfc) was was_master (shown_contents states new).cells later))
-        → IsTrue (part_state (states base) part table).told → (was : ℕ → Cell) (was_master : List ℕ)
-        → PartCameFrom was was_master (states base) part table
-        → UnlessDisk refusal (PartCameFrom was was_master (states new.base.now) part_new table_new)
-    came_after refusal below told was was_master came =
+    pub came_after : (refusal : Option Bad)
+        → KeepsUnderOrigins (shown_contents states) part.number part.difi before after refusal → (last : S) → last ≡ new.base.now
+        → KeepsPartOrigins (states base) part table (states last) part_new table_new refusal
+    came_after refusal below last ends told was was_master came =
         UnlessDisk-map refusal
-        (λ h. rw (counts.marks, master_after, ← contents_after) h)
+        (λ h. rw (ends, master_after, ← contents_after) h)
         (below (told_before told) was was_master (rw (contents_before, master_before) came))
+
+  -- no mark of a hash tree changes where it is sealed
+  as_many : CountsOn part.ivfc ivfc → AsManyMarks part.ivfc ivfc
+  as_many counts level = rw counts.marks refl
 
   -- the hashes could not be sealed
   seals_refused : (result : Result ℕ Bad) → RefusesHashes states keeps lands part.number part.difi before after result
@@ -289,16 +290,17 @@ module _ {S : Type 0} (states : S → State) (keeps : Spot → S → S → Type 
       rw h.refused (record {
         selector = tt;
         plain = hashes.tree.writes.plain;
-        stays = rw (state_before, state_after same hashes.counts len shape) hashes.stays;
-        same = part_same same hashes.counts len shape;
+        stays = rw (state_before, state_after same (as_many hashes.counts) len shape) hashes.stays;
+        same = part_same same (as_many hashes.counts) len shape;
         counts = hashes.counts;
+        hold = rw base_now at hashes.tree.writes.hold.2;
         writes = inl (record {
           bad = h.bad;
           refused = refl;
           hashes = rw (base_now, dpfs) at writes;
         });
         held = λ told. tt;
-        came = came_after same hashes.counts len shape (Some h.bad) hashes.came;
+        came = came_after same (as_many hashes.counts) len shape (Some h.bad) hashes.came new.base.now refl;
       })
 
   -- they were, and then the copies
@@ -358,16 +360,12 @@ module _ {S : Type 0} (states : S → State) (keeps : Spot → S → S → Type 
         → IsTrue (shown_contents states h.between).told
     mid_told told = (and_parts _ _ (h.hashes.stays.space.told told)).0
 
-    both_came : IsTrue (under_state (shown_contents states) part.number part.difi before).told
-        → (was : ℕ → Cell) (was_master : List ℕ)
-        → CameFrom part.difi (is_marked part.ivfc) was was_master (shown_contents states old).cells before.master
-        → UnlessDisk (result_err result)
-        (CameFrom part.difi (is_marked part.ivfc) was was_master (shown_contents states new).cells later)
+    both_came : KeepsUnderOrigins (shown_contents states) part.number part.difi before after (result_err result)
     both_came told was was_master came =
         UnlessDisk-map (result_err result)
         (λ (same : SameCells (shown_contents states h.between) (shown_contents states new)).
         came_on (shown_contents states h.between).shape part.difi later mid_tree (shown_contents states h.between).cells
-        (shown_contents states new).cells same (is_marked part.ivfc) was was_master (h.hashes.came told was was_master came))
+        (shown_contents states new).cells same (is_marked ivfc) was was_master (h.hashes.came told was was_master came))
         (contents_stay.cells (mid_told told))
 
     -- what is held then of the base and the table
@@ -379,8 +377,8 @@ module _ {S : Type 0} (states : S → State) (keeps : Spot → S → S → Type 
         → HasNoZeroDigest (contents_of (states new.base.now) part_new).cells part.difi (is_marked part.ivfc)
         → HoldsSealed (states new.base.now) part_new table_new selector
     held_after selector told told_after chosen_bytes same none =
-        let can_new = can_after both_same h.hashes.counts both_len both_shape in
-        let behind = contents_after both_same h.hashes.counts both_len both_shape in
+        let can_new = can_after both_same (as_many h.hashes.counts) both_len both_shape in
+        let behind = contents_after both_same (as_many h.hashes.counts) both_len both_shape in
         let mid = shown_contents states h.between in
         let marked = is_marked part.ivfc in
         let no_zero : HasNoZeroDigest (shown_contents states new).cells part.difi marked = rw behind none in
@@ -393,14 +391,14 @@ module _ {S : Type 0} (states : S → State) (keeps : Spot → S → S → Type 
             small = fits new.base.now can_new.contents.sound;
             bytes = plain_bytes new.base.now can_new.contents.plain (and_parts _ _ told_after).0;
           };
-          told = subst (λ (s : State). IsTrue s.told) (sym (state_after both_same h.hashes.counts both_len both_shape)) told_after;
+          told = subst (λ (s : State). IsTrue s.told) (sym (state_after both_same (as_many h.hashes.counts) both_len both_shape)) told_after;
           chosen_bytes = λ x below. (
               let bytes = bytes_of (states new.base.now).cells in
               let place : chosen bytes part.at part.difi selector x ≡ chosen bytes h.between.part_at h.between.difi.now selector x =
               rw (mid_place, mid_difi) refl in
               place ∙ chosen_bytes x (rw mid_difi below) ∙ ap value_of (sym (same x (rw mid_difi below)))
               ∙ ap (λ (s : State). value_of (s.cells x)) behind);
-          hashed = rw (h.hashes.counts.marks, master_after both_same h.hashes.counts both_len both_shape, ← behind) hashed;
+          hashed = rw (h.hashes.counts.marks, master_after both_same (as_many h.hashes.counts) both_len both_shape, ← behind) hashed;
         }
 
     both_held : IsTrue (part_state (states base) part table).told → IfOk result (λ selector.
@@ -420,9 +418,10 @@ module _ {S : Type 0} (states : S → State) (keeps : Spot → S → S → Type 
         record {
           selector = rw mid_selector at h.sealed.selector;
           plain = h.sealed.writes.plain;
-          stays = rw (state_before, state_after both_same h.hashes.counts both_len both_shape) both_stay;
-          same = part_same both_same h.hashes.counts both_len both_shape;
+          stays = rw (state_before, state_after both_same (as_many h.hashes.counts) both_len both_shape) both_stay;
+          same = part_same both_same (as_many h.hashes.counts) both_len both_shape;
           counts = h.hashes.counts;
+          hold = keeps_join Hold base h.between.base.now new.base.now (rw base_now at h.hashes.tree.writes.hold.2) h.sealed.writes.hold;
           writes = inr (record {
             between = h.between.base.now;
             hashes = rw (base_now, dpfs, ← h.marks) at writes;
@@ -430,7 +429,7 @@ module _ {S : Type 0} (states : S → State) (keeps : Spot → S → S → Type 
             spares = rw (mid_place, mid_difi, mid_selector) at h.spares;
           });
           held = both_held;
-          came = came_after both_same h.hashes.counts both_len both_shape (result_err result) both_came;
+          came = came_after both_same (as_many h.hashes.counts) both_len both_shape (result_err result) both_came new.base.now refl;
         }
 
   pub seals_trees : (result : Result ℕ Bad) → SealsContents states keeps lands part.number part.difi before after result

@@ -1,8 +1,10 @@
 -- What becomes of a part where a transaction ends.
-use Rattle.std.specs.Prelude.{◌≡◌, ℕ, ◌+◌, ◌/◌, ◌^◌, ◌<◌, IsTrue, List, length}
+use Rattle.std.specs.Prelude.{◌≡◌, ℕ, ◌+◌, ◌/◌, ◌^◌, ◌<◌, IsTrue, List, length, Option}
+use Rattle.save_bytes.specs.declared.space.Bad.{Bad}
 use Rattle.save_bytes.specs.Cells.{Cell, Byte, IsByte}
 use Rattle.save_bytes.specs.CellNumbers.{value_of}
 use Rattle.save_bytes.specs.State.{State}
+use Rattle.save_bytes.specs.Refusals.{UnlessDisk}
 use Rattle.save_bytes.specs.Stays.{SameCells}
 use Rattle.difi.specs.Places.{block_size}
 use Rattle.difi.specs.Contents.{view_size}
@@ -77,6 +79,13 @@ TellsSettled selector old new = (base : State) (table : List ℕ) → HoldsSeale
 abbrev pub PartCameFrom : (ℕ → Cell) → List ℕ → State → Part → List ℕ → Type 0
 PartCameFrom was was_master base part table =
     CameFrom part.difi (is_marked part.ivfc) was was_master (contents_of base part).cells (master_of table part.difi)
+
+-- a call leaves it come from where it came from, unless it was refused for the disk's sake
+abbrev pub KeepsPartOrigins : State → Part → List ℕ → State → Part → List ℕ → Option Bad → Type 0
+KeepsPartOrigins base part table base_new part_new table_new refusal =
+    IsTrue (part_state base part table).told → (was : ℕ → Cell) (was_master : List ℕ)
+    → PartCameFrom was was_master base part table
+    → UnlessDisk refusal (PartCameFrom was was_master base_new part_new table_new)
 
 -- A part's changes came from contents and a table as they were. The chosen contents are those still, but for blocks of
 -- level four that were put or cleared: external ones are written in place.

@@ -2,11 +2,10 @@
 use Rattle.std.specs.Prelude.{◌≡◌, ◌≢◌, ◌⊎◌, ℕ, ◌+◌, ◌-◌, ◌<◌, IsTrue, List, length, slice_index, Option, None, Some, Result, Ok, Err, IfOk, OnErr}
 use Rattle.std.specs.Result.{result_err}
 use Rattle.save_bytes.specs.declared.space.Bad.{Bad}
-use Rattle.save_bytes.specs.Cells.{Cell}
 use Rattle.save_bytes.specs.State.{State}
-use Rattle.save_bytes.specs.Refusals.{UnlessDisk, NeverDamaged}
+use Rattle.save_bytes.specs.Refusals.{NeverDamaged}
 use Rattle.save_bytes.specs.Stays.{Stays}
-use Rattle.save_bytes.specs.Spots.{Spot}
+use Rattle.save_bytes.specs.Spots.{Spot, Hold}
 use Rattle.save_bytes.specs.Writes.{Writes}
 use Rattle.difi.specs.declared.descriptor.Difi.{Difi}
 use Rattle.difi.specs.Conditions.{reading}
@@ -19,12 +18,11 @@ use Rattle.dpfs_tree.specs.Seals.{IsSealed}
 use Rattle.dpfs_tree.specs.Spares.{Spares}
 use Rattle.ivfc_tree.specs.Marks.{is_marked}
 use Rattle.ivfc_tree.specs.Seals.{HashSites, MasterSites, CountsOn, HasNoZeroDigest, SealsTree}
-use Rattle.ivfc_tree.specs.Origins.{CameFrom}
 use Rattle.part_store.specs.declared.part.Part.{Part}
 use Rattle.part_store.specs.Parts.{contents_of, part_state}
 use Rattle.part_store.specs.Spots.{SamePart}
-use Rattle.part_store.specs.Under.{Under, under_state}
-use Rattle.part_store.specs.Ends.{plain_cell, PartCameFrom, HoldsSealed}
+use Rattle.part_store.specs.Under.{Under, under_state, KeepsUnderOrigins}
+use Rattle.part_store.specs.Ends.{plain_cell, HoldsSealed, KeepsPartOrigins}
 
 -- What a seal of the hashes leaves below the view: the digests of marked blocks in the contents and in the master hash, and
 -- where the tree came from.
@@ -33,9 +31,7 @@ pub record SealsUnder {A : Type 0} (states : A → State) (keeps : Spot → A �
   pub counts : CountsOn old.ivfc new.ivfc
   pub stays : Stays (under_state states number difi old) (under_state states number difi new) refusal
   pub tree : SealsTree states keeps lands difi (is_marked old.ivfc) old.contents old.master new.contents new.master refusal
-  pub came : IsTrue (under_state states number difi old).told → (was : ℕ → Cell) (was_master : List ℕ)
-      → CameFrom difi (is_marked old.ivfc) was was_master (states old.contents).cells old.master
-      → UnlessDisk refusal (CameFrom difi (is_marked old.ivfc) was was_master (states new.contents).cells new.master)
+  pub came : KeepsUnderOrigins states number difi old new refusal
 
 -- The hashes could not be sealed over the contents.
 pub record RefusesHashes {S : Type 0} (states : S → State) (keeps : Spot → S → S → Type 0) (lands : S → ℕ → Spot → Type 0)
@@ -134,13 +130,12 @@ pub record SealsTrees {A : Type 0} (states : A → State) (keeps : Spot → A �
   pub stays : Stays (part_state (states base) part table) (part_state (states base_new) part_new table_new) (result_err result)
   pub same : SamePart part part_new
   pub counts : CountsOn part.ivfc part_new.ivfc
+  pub hold : keeps Hold base base_new
   pub writes : SealsBase states keeps lands part part_new base base_new result
   pub held : IsTrue (part_state (states base) part table).told → IfOk result (λ selector.
       HasNoZeroDigest (contents_of (states base_new) part_new).cells part.difi (is_marked part.ivfc)
       → HoldsSealed (states base_new) part_new table_new selector)
-  pub came : IsTrue (part_state (states base) part table).told → (was : ℕ → Cell) (was_master : List ℕ)
-      → PartCameFrom was was_master (states base) part table
-      → UnlessDisk (result_err result) (PartCameFrom was was_master (states base_new) part_new table_new)
+  pub came : KeepsPartOrigins (states base) part table (states base_new) part_new table_new (result_err result)
 
 -- What a seal of a part answers and leaves. The base and the table alone give then the cells that the part had, where no
 -- marked block's digest is 32 zero bytes.

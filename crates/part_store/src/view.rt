@@ -1,18 +1,20 @@
 //! A partition's level four as a space.
 
-ghost use Rattle.std.specs.Prelude.{refl, ◌≡◌, ℕ, ◌≤◌, length, IsTrue, IfOk, []};
+ghost use Rattle.std.specs.Prelude.{refl, ◌≡◌, ℕ, ◌≤◌, length, replicate, IsTrue, IfOk, []};
 ghost use Rattle.std.specs.Borrow.{sem};
 ghost use Rattle.std.specs.Io.BufRead.{Rests};
 ghost use Rattle.std.specs.Result.{result_err};
-ghost use Rattle.save_bytes.specs.State.{IsInside};
+ghost use Rattle.save_bytes.specs.State.{IsInside, IsWritable, CanPut};
 ghost use Rattle.save_bytes.specs.Refusals.{NeverDamaged};
-ghost use Rattle.save_bytes.specs.Answers.{IsPiece};
+ghost use Rattle.save_bytes.specs.Answers.{IsPiece, IsReady, IsClearReady};
+ghost use Rattle.save_bytes.specs.Puts.{Puts};
+ghost use Rattle.save_bytes.specs.Spots.{MovesOnly};
 ghost use Rattle.save_bytes.specs.Reads.{Reads};
 ghost use Rattle.difi.specs.Places.{block_size};
 ghost use Rattle.ivfc_tree.specs.Levels.{HasBlock};
 ghost use Rattle.part_store.specs.FloorLaws.{shown_ground, shown_blocks, shown_alike};
 ghost use Rattle.part_store.specs.Parts.{CanViewPart, status_in, IsFound};
-ghost use Rattle.part_store.specs.Held.{shown, IsPartViewOf, PartKeeps, part_lands, SameNames};
+ghost use Rattle.part_store.specs.Held.{shown, IsPartViewOf, PartKeeps, part_lands, SameNames, KeepsViewOrigins};
 ghost use Rattle.part_store.specs.Seals.{IsSealedPart};
 ghost use Rattle.std.proofs.lemmas.Bool.{false≢true};
 ghost use Rattle.part_store.specs.ViewLaws.{shown_fits, part_shape, PartKeeps-same, PartKeeps-join, PartKeeps-cells, PartKeeps-lands};
@@ -155,7 +157,18 @@ impl<S: Space> Space for PartView<'_, S> {
         ready_in(base, part, table, at, n)
     }
 
-    fn put(&mut self, at: u64, bytes: &[u8]) -> Result<(), Bad> {
+    /// Beside what each space promises: contents and a master hash from which the part's tree came as the transaction
+    /// began are those from which it comes.
+    fn put(&mut self, at: u64, bytes: &[u8]) -> Result<(), Bad>
+        requires { IsWritable (shown S.state self.old).shape at (length bytes.now) }
+        ensures ready { CanPut (shown S.state self.old) at (length bytes.now)
+            → IsReady (shown S.state self.old) at (length bytes.now) (result_err result) }
+        ensures plain { IsTrue (shown S.state self.old).shape.plain → NeverDamaged (result_err result) }
+        ensures puts { Puts (shown S.state self.old) at bytes.now (shown S.state self.new) (result_err result) }
+        ensures moves { MovesOnly (PartKeeps S.keeps) (part_lands S.state S.lands) (shown S.state self.old) self.old at
+            (length bytes.now) self.new (result_err result) }
+        ensures came { KeepsViewOrigins S.state self.old self.new (result_err result) }
+    {
         let base = &mut *self.base;
         let part = &mut *self.part;
         let table = &mut *self.table;
@@ -184,7 +197,19 @@ impl<S: Space> Floor for PartView<'_, S> {
         clear_ready_in(base, part, table, at)
     }
 
-    fn clear(&mut self, at: u64) -> Result<(), Bad> {
+    /// Beside what each floor promises: contents and a master hash from which the part's tree came as the transaction
+    /// began are those from which it comes.
+    fn clear(&mut self, at: u64) -> Result<(), Bad>
+        requires { IsInside (shown S.state self.old).shape at 1 }
+        ensures ready { IsClearReady (shown S.state self.old) at (result_err result) }
+        ensures puts { let block = (shown S.state self.old).shape in
+            Puts (shown S.state self.old) (block.block_start at) (replicate (block.block_len at) 0) (shown S.state self.new)
+            (result_err result) }
+        ensures moves { let block = (shown S.state self.old).shape in
+            MovesOnly (PartKeeps S.keeps) (part_lands S.state S.lands) (shown S.state self.old) self.old
+            (block.block_start at) (block.block_len at) self.new (result_err result) }
+        ensures came { KeepsViewOrigins S.state self.old self.new (result_err result) }
+    {
         let base = &mut *self.base;
         let part = &mut *self.part;
         let table = &mut *self.table;
