@@ -13,4 +13,6 @@ pub use part::Part;
 pub use view::PartView;
 
 #[cfg(test)]
+mod seal_tests;
+#[cfg(test)]
 mod tests;
