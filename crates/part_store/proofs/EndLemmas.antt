@@ -1,5 +1,6 @@
 -- What a part tells once a transaction has ended.
-use Rattle.std.proofs.Common.{◌≡◌, ℕ, zero, suc, ◌+◌, ◌/◌, ◌<◌, Bool, true, false, IsTrue, List, length, refl, sym, ◌∙◌, ap, subst}
+use Rattle.std.proofs.Common.{◌≡◌, ℕ, zero, suc, ◌+◌, ◌/◌, ◌<◌, Bool, true, false, IsTrue, List, length, refl, sym}
+use Rattle.std.proofs.Common.{◌∙◌, ap, subst}
 use Rattle.std.proofs.lemmas.Bool.{and_parts, and_from}
 use Rattle.save_bytes.specs.Cells.{Cell, Byte, IsByte}
 use Rattle.save_bytes.specs.CellNumbers.{value_of}
@@ -26,18 +27,21 @@ use Rattle.part_store.specs.Parts.{master_of, contents_of, part_state}
 use Rattle.part_store.specs.PartLaws.{hashes_there, can_view_part-true, true-can_view_part}
 use Rattle.part_store.specs.Spots.{SamePart}
 use Rattle.part_store.specs.SpotLaws.{can_view_part-same}
-use Rattle.part_store.specs.Ends.{chosen_cells, plain_cell, LiesInBytes, HasNoChanges, TellsSettled, HoldsOrigin, TellsOrigin}
+use Rattle.part_store.specs.Ends.{chosen_cells, plain_cell, LiesInBytes, HasNoChanges, TellsSettled, HoldsOrigin}
+use Rattle.part_store.specs.Ends.{TellsOrigin}
 use Rattle.part_store.proofs.PartLemmas.{byte_value}
 
 -- the bytes of the contents are those that the selector chooses
 abbrev pub ShowsChosen : State → Part → ℕ → Type 0
-ShowsChosen base part selector = (x : ℕ) → bytes_of base.cells (place_of (bytes_of base.cells) part.at part.difi part.dpfs x)
+ShowsChosen base part selector = (x : ℕ) → bytes_of base.cells (place_of
+    (bytes_of base.cells) part.at part.difi part.dpfs x)
     ≡ chosen (bytes_of base.cells) part.at part.difi selector x
 
 pub contents_chosen : (base : State) (part : Part) (selector : ℕ) → ((x : ℕ) → IsByte (base.cells x))
     → ShowsChosen base part selector → (x : ℕ) → (contents_of base part).cells x ≡ chosen_cells base part selector x
 contents_chosen base part selector bytes shows x =
-    sym (byte_value (base.cells (place_of (bytes_of base.cells) part.at part.difi part.dpfs x)) (bytes _)) ∙ ap Byte (shows x)
+    sym (byte_value (base.cells (place_of (bytes_of base.cells) part.at part.difi part.dpfs x)) (bytes _)) ∙ ap Byte
+    (shows x)
 
 -- so the cells are those that the base and the table alone give
 pub plain_cells : (base : State) (part : Part) (table : List ℕ) (selector : ℕ) → LiesInBytes base part (length table)
@@ -65,7 +69,8 @@ no_changes part selector selects contents none =
     record {
       chosen = chosen_bytes;
       paths = λ cells master. state_is cells master part.difi (is_marked part.ivfc) none;
-      cells = λ base table lies. plain_cells base part table part.dpfs.selector lies none (chosen_bytes (bytes_of base.cells));
+      cells = λ base table lies. plain_cells base part table part.dpfs.selector lies none (chosen_bytes
+          (bytes_of base.cells));
     }
 
 -- a descriptor with another selector has the same trees
@@ -91,10 +96,19 @@ module _ (difi : Difi) (selector : ℕ) where
   unfolding marked_state
   state_turned cells master marked zero block = refl
   state_turned cells master marked (suc level) block =
-      rw (own_turned cells master (suc level) block, parent_turned level block, state_turned cells master marked level (parent_of difi level block)) refl
+      rw (
+        own_turned cells master (suc level) block,
+        parent_turned level block,
+        state_turned cells master marked level
+            (parent_of difi level block),
+      ) refl
 
   there_turned : (level block : ℕ) → HasBlock turned level block → HasBlock difi level block
-  there_turned level block there = record { in_tree = there.in_tree; in_level = rw (level_turned level) at there.in_level }
+  there_turned level block there = record {
+    in_tree = there.in_tree;
+    in_level = rw
+        (level_turned level) at there.in_level;
+  }
 
   remembers_turned : (cells : ℕ → Cell) (master : List ℕ) (state : IvfcState) → Remembers cells master difi state
       → Remembers cells master turned state
@@ -103,7 +117,8 @@ module _ (difi : Difi) (selector : ℕ) where
         rw (parent_turned upper block) (h.closed upper block some (there_turned (suc upper) block there) is);
     agrees = λ level block there.
         subst (λ (found : BlockState). Agrees (mark_at state level block) level block found)
-        (sym (state_turned cells master (is_marked state) level block)) (h.agrees level block (there_turned level block there));
+        (sym (state_turned cells master (is_marked state) level block)) (h.agrees level block
+        (there_turned level block there));
   }
 
   chosen_turned : (bytes : ℕ → ℕ) (part_at at x : ℕ) → chosen bytes part_at turned at x ≡ chosen bytes part_at difi at x
@@ -131,7 +146,8 @@ module _ (difi other : Difi) (selector : ℕ) (is : other ≡ record difi { sele
   master_again : (table : List ℕ) → master_of table other ≡ master_of table difi
   master_again table = rw is refl
 
-pub cell_same : (found next : BlockState) (number later value another : ℕ) → found ≡ next → number ≡ later → value ≡ another
+pub cell_same : (found next : BlockState) (number later value another : ℕ) → found ≡ next → number ≡ later
+    → value ≡ another
     → cell_in found number value ≡ cell_in next later another
 cell_same found next number later value another state part byte = rw (state, part, byte) refl
 
@@ -158,26 +174,32 @@ tells_settled old new selector number place descriptor shows settles base table 
     remembers_later contents master difi tree (record contents { cells = now.cells }) new.ivfc same ended.remembers in
     let known : remembers_test now.cells (master_of table new.difi) new.difi new.ivfc ≡ true =
     rw (master_again difi new.difi selector descriptor table)
-    (remembers-true now.cells master new.difi new.ivfc (remembers_again difi new.difi selector descriptor now.cells master new.ivfc remembers)) in
+    (remembers-true now.cells master new.difi new.ivfc (remembers_again difi new.difi selector descriptor now.cells
+    master new.ivfc remembers)) in
     record {
       told = and_from _ _ both.0 known;
       cells = λ x inside. (
           let block = x / block_size difi.ivfc4 in
           let there = block_of_there difi x inside in
           let marked = is_marked new.ivfc in
-          let state : marked_state now.cells (master_of table new.difi) new.difi marked 4 (x / block_size new.difi.ivfc4)
+          let state : marked_state now.cells (master_of table new.difi) new.difi marked 4
+          (x / block_size new.difi.ivfc4)
           ≡ block_state contents.cells master difi old.ivfc 4 block =
           state_again difi new.difi selector descriptor now.cells table marked x
-          ∙ state-same contents.shape difi master tree now.cells contents.cells same marked marked (λ level block. refl) 4 block there
+          ∙ state-same contents.shape difi master tree now.cells contents.cells same marked marked
+          (λ level block. refl) 4 block there
           ∙ ended.blocks 4 block there in
-          let value : value_of (now.cells ((level_of new.difi 4).at + x)) ≡ value_of (contents.cells ((level_of difi 4).at + x)) =
-          ap (λ (level : LevelPlace). value_of (now.cells (level.at + x))) (level_again difi new.difi selector descriptor 4)
+          let value : value_of (now.cells ((level_of new.difi 4).at + x)) ≡ value_of (contents.cells
+          ((level_of difi 4).at + x)) =
+          ap (λ (level : LevelPlace). value_of (now.cells (level.at + x)))
+          (level_again difi new.difi selector descriptor 4)
           ∙ ap value_of (same _ (place_inside contents.shape difi (length master) x tree inside)) in
           cell_same _ _ new.number old.number _ _ state number value);
     }
 
 -- where the origin is held, the part whose changes are dropped tells it
-module _ (old new : Part) (kept : SamePart old new) (shows : (base : State) → ShowsChosen base new old.dpfs.selector) where
+module _ (old new : Part) (kept : SamePart old new) (shows : (base : State)
+    → ShowsChosen base new old.dpfs.selector) where
   told_origin : RemembersOrigin old.ivfc new.ivfc → (was : ℕ → Cell) (base : State) (table was_table : List ℕ)
       → HoldsOrigin was base old table was_table → IsTrue (part_state base new was_table).told
   told_origin origin was base table was_table holds =
@@ -189,7 +211,8 @@ module _ (old new : Part) (kept : SamePart old new) (shows : (base : State) → 
       let both = and_parts _ _ holds.told in
       let same : (x : ℕ) → now.cells x ≡ chosen_cells base old old.dpfs.selector x = λ x.
       contents_chosen base new old.dpfs.selector lies.bytes (shows base) x ∙ rw (kept.place, kept.descriptor) refl in
-      let remembers = origin contents.shape was contents.cells now.cells (master_of was_table difi) (master_of table difi) difi
+      let remembers = origin contents.shape was contents.cells now.cells (master_of was_table difi)
+      (master_of table difi) difi
       tree (true-remembers contents.cells (master_of table difi) difi old.ivfc both.1) holds.came
       (λ x inside off. same x ∙ holds.back x inside off) in
       let known : remembers_test now.cells (master_of was_table new.difi) new.difi new.ivfc ≡ true =
@@ -216,7 +239,8 @@ module _ (old new : Part) (kept : SamePart old new) (shows : (base : State) → 
         let there = block_of_there difi x inside in
         let none_marked : ℕ → ℕ → Bool = λ level block. false in
         let state = state-same (contents_of base old).shape difi master tree (chosen_cells base old selector)
-        (chosen_cells was old selector) chosen none_marked none_marked (λ level block. refl) 4 (x / block_size difi.ivfc4) there in
+        (chosen_cells was old selector) chosen none_marked none_marked (λ level block. refl) 4
+        (x / block_size difi.ivfc4) there in
         let value = chosen _ (place_inside (contents_of base old).shape difi (length master) x tree inside) in
         plain_cells base new was_table selector (lies_still base (length was_table) lies) none (shows base) x
         (rw kept.descriptor inside)

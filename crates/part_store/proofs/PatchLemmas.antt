@@ -32,13 +32,15 @@ held_again base part table next selector len master state holds = record {
 
 -- so what a seal of the trees leaves is left with such a table
 pub trees_again : {A : Type 0} (states : A → State) (keeps : Spot → A → A → Type 0) (lands : A → ℕ → Spot → Type 0)
-    (base : A) (part : Part) (table : List ℕ) (base_new : A) (part_new : Part) (mid next : List ℕ) (result : Result ℕ Bad)
+    (base : A) (part : Part) (table : List ℕ) (base_new : A) (part_new : Part) (mid next : List ℕ)
+    (result : Result ℕ Bad)
     → length next ≡ length mid → master_of next part.difi ≡ master_of mid part.difi
     → SealsTrees states keeps lands base part table base_new part_new mid result
     → SealsTrees states keeps lands base part table base_new part_new next result
 trees_again states keeps lands base part table base_new part_new mid next result len same_master trees =
     let master : master_of next part_new.difi ≡ master_of mid part_new.difi = rw trees.same.descriptor same_master in
-    let state : part_state (states base_new) part_new next ≡ part_state (states base_new) part_new mid = rw (len, master) refl in
+    let state : part_state (states base_new) part_new next ≡ part_state (states base_new) part_new mid = rw
+    (len, master) refl in
     record {
       selector = trees.selector;
       plain = trees.plain;
@@ -48,7 +50,8 @@ trees_again states keeps lands base part table base_new part_new mid next result
       hold = trees.hold;
       writes = trees.writes;
       held = λ told. IfOk-map result
-          (λ selector holds none. held_again (states base_new) part_new mid next selector len master state (holds none)) (trees.held told);
+          (λ selector holds none. held_again (states base_new) part_new mid next selector len master state
+          (holds none)) (trees.held told);
       came = λ told was was_master came. rw master (trees.came told was was_master came);
     }
 
@@ -56,7 +59,8 @@ module _ (base : Shape) (part : Part) (table : List ℕ) (can : CanViewPart base
   -- the selector lies off the master hash
   off_master : (x : ℕ) → x ≡ selector_place part.difi → part.difi.place + part.difi.master.at ≤ x
       → x < part.difi.place + part.difi.master.at + part.difi.master.size → ⊥
-  off_master x is from below = can.apart 0x39 (omega arith) (omega arith) (omega (arith, is, from)) (omega (arith, is, below))
+  off_master x is from below = can.apart 0x39 (omega arith) (omega arith) (omega (arith, is, from)) (omega
+      (arith, is, below))
 
   pub master_patched : (mid : List ℕ) (selector : ℕ) → length mid ≡ length table
       → master_of (set mid (selector_place part.difi) selector) part.difi ≡ master_of mid part.difi
@@ -65,7 +69,12 @@ module _ (base : Shape) (part : Part) (table : List ℕ) (can : CanViewPart base
       (λ k d h. (let off = off_master (part.difi.place + part.difi.master.at + k) in
       let other : part.difi.place + part.difi.master.at + k ≢ selector_place part.difi =
       λ is. off is (omega arith) (grind (arith, places)) in
-      grind (arith, places, get_or-set_other mid (selector_place part.difi) (part.difi.place + part.difi.master.at + k) selector d other)))
+      grind (
+        arith,
+        places,
+        get_or-set_other mid (selector_place part.difi)
+            (part.difi.place + part.difi.master.at + k) selector d other,
+      )))
 
   -- and the entries of marked blocks lie in it
   entry_inside : (x : ℕ) → IsSealedEntry part x → (part.difi.place + part.difi.master.at ≤ x)
@@ -95,7 +104,8 @@ module _ (base : Shape) (part : Part) (table : List ℕ) (can : CanViewPart base
           selector = is_set;
           refused = tt;
           descriptor = λ size part_len h. (
-              let kept = keeps_parts table new size part_len difi (is_read table difi.place size part_len difi h).sound len
+              let kept = keeps_parts table new size part_len difi (is_read table difi.place size part_len difi
+              h).sound len
               (λ x other out. others x other (λ site. (let within = entry_inside x site in out within.0 within.1))) in
               reading-kept table new size part_len difi kept (rw is_set chosen) h
               ∙ ap (λ s. Ok (record difi { selector = s })) is_set);
@@ -114,7 +124,8 @@ module _ (base : Shape) (part : Part) (table : List ℕ) (can : CanViewPart base
 
 -- a part that was sealed, over a table whose selector was patched
 module _ {A : Type 0} (states : A → State) (keeps : Spot → A → A → Type 0) (lands : A → ℕ → Spot → Type 0)
-    (base : A) (part : Part) (table : List ℕ) (can : CanViewPart (states base).shape part (length table)) (base_new : A) (part_new : Part)
+    (base : A) (part : Part) (table : List ℕ) (can : CanViewPart (states base).shape part (length table))
+    (base_new : A) (part_new : Part)
     (mid next : List ℕ) (selector : ℕ) (changes : DiffersAt (IsSealedEntry part) table mid)
     (trees : SealsTrees states keeps lands base part table base_new part_new mid (Ok selector))
     (byte : next ≡ set mid (selector_place part_new.difi) selector) where
@@ -125,7 +136,8 @@ module _ {A : Type 0} (states : A → State) (keeps : Spot → A → A → Type 
   trees_patched =
       trees_again states keeps lands base part table base_new part_new mid next (Ok selector)
       (ap length patched ∙ length-set mid (selector_place part.difi) selector)
-      (ap (λ (t : List ℕ). master_of t part.difi) patched ∙ master_patched (states base).shape part table can mid selector changes.same_len)
+      (ap (λ (t : List ℕ). master_of t part.difi) patched ∙ master_patched
+      (states base).shape part table can mid selector changes.same_len)
       trees
 
   table_patched : selector < 2 → SealsTable part table next (Ok selector)
@@ -138,12 +150,15 @@ module _ {A : Type 0} (states : A → State) (keeps : Spot → A → A → Type 
       → plain_cell (states base_new) part selector next x ≡ (part_state (states base) part table).cells x
   cells_patched told none x inside =
       let same = trees.same in
-      let again : plain_cell (states base_new) part selector next x ≡ plain_cell (states base_new) part_new selector next x =
+      let again : plain_cell (states base_new) part selector next x ≡ plain_cell
+      (states base_new) part_new selector next x =
       rw (same.number, same.place, same.descriptor) refl in
-      again ∙ plain_sealed (states base_new) part_new next selector (trees_patched.held told none) x (rw same.descriptor inside)
+      again ∙ plain_sealed (states base_new) part_new next selector (trees_patched.held told none) x
+      (rw same.descriptor inside)
       ∙ trees_patched.stays.cells told x inside
 
-  pub sealed_patched : selector < 2 → IsSealedPart states keeps lands base part table base_new part_new next (Ok selector)
+  pub sealed_patched : selector < 2 → IsSealedPart states keeps lands base part table base_new part_new next
+      (Ok selector)
   sealed_patched chosen = record {
     trees = trees_patched;
     descriptor = table_patched chosen;

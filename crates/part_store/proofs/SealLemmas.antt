@@ -45,7 +45,8 @@ use Rattle.part_store.specs.Spots.{SamePart}
 use Rattle.part_store.specs.SpotLaws.{can_view_part-same}
 use Rattle.part_store.specs.Under.{Under, under_state, KeepsUnderOrigins}
 use Rattle.part_store.specs.Ends.{chosen_cells, plain_cell, HoldsSealed, KeepsPartOrigins}
-use Rattle.part_store.specs.Seals.{SealsUnder, RefusesHashes, SealsBoth, SealsContents, Touched, touched_state, TouchedKeeps, IsSealedEntry}
+use Rattle.part_store.specs.Seals.{SealsUnder, RefusesHashes, SealsBoth, SealsContents, Touched, touched_state}
+use Rattle.part_store.specs.Seals.{TouchedKeeps, IsSealedEntry}
 use Rattle.part_store.specs.Seals.{touched_lands, SealsTrees}
 use Rattle.part_store.proofs.PartLemmas.{byte_value, part_is_hashed}
 use Rattle.part_store.proofs.EndLemmas.{cell_same}
@@ -63,7 +64,8 @@ seals_down states keeps lands old new refusal seals = record {
 }
 
 -- over a tree whose cells are the same
-module _ (base : Shape) (difi : Difi) (master : List ℕ) (tree : HasTree base difi (length master)) (cells new : ℕ → Cell)
+module _ (base : Shape) (difi : Difi) (master : List ℕ) (tree : HasTree base difi (length master)) (cells new : ℕ
+    → Cell)
     (same : (x : ℕ) → x < base.size → new x ≡ cells x) (marked : ℕ → ℕ → Bool) where
   -- marked blocks are hashed, or have no zero digest, as they were
   zero_back : HasNoZeroDigest new difi marked → HasNoZeroDigest cells difi marked
@@ -72,7 +74,8 @@ module _ (base : Shape) (difi : Difi) (master : List ℕ) (tree : HasTree base d
 
   hashed_on : AreHashed cells master difi marked → AreHashed new master difi marked
   hashed_on hashed level block here =
-      let entry = entry_stays base difi (length master) tree cells new master master (λ x. ⊥) (λ x. ⊥) (λ x inside off. same x inside)
+      let entry = entry_stays base difi (length master) tree cells new master master (λ x. ⊥) (λ x. ⊥)
+      (λ x inside off. same x inside)
       (DiffersAt-same (λ x. ⊥) master) level block here.there (λ x entry no. no) (λ x entry no. no) in
       let bytes = block-same base difi tree.levels new cells same level block here.there.in_tree in
       let was = hashed level block here in
@@ -83,10 +86,12 @@ module _ (base : Shape) (difi : Difi) (master : List ℕ) (tree : HasTree base d
       → CameFrom difi marked was was_master new master
   came_on was was_master came = record {
     kept = λ level block there none good.
-        own-same base difi tree.levels new cells same master (suc level) block there.in_tree ∙ came.kept level block there none good;
+        own-same base difi tree.levels new cells same master (suc level) block there.in_tree
+        ∙ came.kept level block there none good;
     zeroed = λ level block there none above.
         ⊎_elim (λ good. inl good)
-        (λ blank. inr (own-same base difi tree.levels new cells same master (suc (suc level)) block there.in_tree ∙ blank))
+        (λ blank. inr (own-same base difi tree.levels new cells same master (suc (suc level)) block there.in_tree
+        ∙ blank))
         (came.zeroed level block there none above);
   }
 
@@ -106,9 +111,11 @@ plain_sealed base part table selector holds x inside =
     let same : (y : ℕ) → y < view_size difi → chosen_cells base part selector y ≡ contents.cells y =
     λ y below. ap Byte (holds.chosen_bytes y below) ∙ byte_value (contents.cells y) (holds.lies.bytes _) in
     let closed = (true-remembers contents.cells master difi part.ivfc (and_parts _ _ holds.told).1).closed in
-    let state = state-same contents.shape difi master tree (chosen_cells base part selector) contents.cells same none none
+    let state = state-same contents.shape difi master tree (chosen_cells base part selector) contents.cells same none
+    none
     (λ level block. refl) 4 block there
-    ∙ states_settle contents.shape difi (length master) tree marked closed contents.cells master none (λ level block. refl)
+    ∙ states_settle contents.shape difi (length master) tree marked closed contents.cells master none
+    (λ level block. refl)
     holds.hashed 4 block there in
     cell_same _ _ part.number part.number _ _ state refl
     (ap value_of (same _ (place_inside contents.shape difi (length master) x tree inside)))
@@ -163,20 +170,24 @@ if_done : (P : Type 0) (result : Result ℕ Bad) → UnlessDisk (result_err resu
 if_done P (Ok selector) h = h
 if_done P (Err bad) h = tt
 
-if_both : (P Q : ℕ → Type 0) (result : Result ℕ Bad) → IfOk result P → IfOk result Q → IfOk result (λ selector. P selector × Q selector)
+if_both : (P Q : ℕ → Type 0) (result : Result ℕ Bad) → IfOk result P → IfOk result Q → IfOk result
+    (λ selector. P selector × Q selector)
 if_both P Q (Ok selector) h k = (h, k)
 if_both P Q (Err bad) h k = tt
 
 -- the view of the contents stays where copies are sealed
-stays_sealed : {A : Type 0} (states : A → State) (keeps : Spot → A → A → Type 0) (lands : A → ℕ → Spot → Type 0) (part_at : ℕ)
+stays_sealed : {A : Type 0} (states : A → State) (keeps : Spot → A → A → Type 0) (lands : A → ℕ → Spot → Type 0)
+    (part_at : ℕ)
     (difi : Difi) (state : DpfsState) (old new : A) (result : Result ℕ Bad)
     → IsSealed states keeps lands part_at difi state old new result
-    → Stays (contents_state (states old) part_at difi state) (contents_state (states new) part_at difi state) (result_err result)
+    → Stays (contents_state (states old) part_at difi state) (contents_state (states new) part_at difi state)
+    (result_err result)
 stays_sealed states keeps lands part_at difi state old new result sealed =
     let space = sealed.writes.space in
     record {
       space = record {
-        shape = ap (λ (shape : Shape). (contents_state (record (states old) { shape = shape }) part_at difi state).shape) space.shape;
+        shape = ap (λ (shape : Shape). (contents_state (record (states old) { shape = shape }) part_at difi
+            state).shape) space.shape;
         faults = space.faults;
         cause = space.cause;
         told = space.told;
@@ -188,7 +199,8 @@ stays_sealed states keeps lands part_at difi state old new result sealed =
 -- a part over a base, whose hash tree was sealed over a view of its contents, with the master hash in its table
 module _ {S : Type 0} (states : S → State) (keeps : Spot → S → S → Type 0) (lands : S → ℕ → Spot → Type 0)
     (fits : (s : S) → IsTrue (states s).shape.sound → (states s).shape.size < 2 ^ 64)
-    (plain_bytes : (s : S) → IsTrue (states s).shape.plain → IsTrue (states s).told → (x : ℕ) → IsByte ((states s).cells x))
+    (plain_bytes : (s : S) → IsTrue (states s).shape.plain → IsTrue (states s).told → (x : ℕ) → IsByte
+    ((states s).cells x))
     (keeps_join : (spot : Spot) (s t u : S) → keeps spot s t → keeps spot t u → keeps spot s u)
     (keeps_shape : (s t : S) → keeps Hold s t → (states t).shape ≡ (states s).shape)
     (base : S) (part : Part) (table : List ℕ) (can : CanViewPart (states base).shape part (length table))
@@ -219,8 +231,10 @@ module _ {S : Type 0} (states : S → State) (keeps : Spot → S → S → Type 
   state_before : part_state (states base) part table ≡ under_state (shown_contents states) part.number part.difi before
   state_before =
       part_is_hashed (states base) part table can
-      ∙ ap (λ (s : State). hashed_state s part.number (master_of table part.difi) part.difi part.ivfc) (sym contents_before)
-      ∙ ap (λ (master : List ℕ). hashed_state (shown_contents states old) part.number master part.difi part.ivfc) (sym master_before)
+      ∙ ap (λ (s : State). hashed_state s part.number (master_of table part.difi) part.difi part.ivfc)
+      (sym contents_before)
+      ∙ ap (λ (master : List ℕ). hashed_state (shown_contents states old) part.number master part.difi part.ivfc)
+      (sym master_before)
 
   -- of what was sealed the table has the master hash
   module _ (same : SameContents old new) (many : AsManyMarks part.ivfc ivfc) (len : length later ≡ length before.master)
@@ -232,7 +246,8 @@ module _ {S : Type 0} (states : S → State) (keeps : Spot → S → S → Type 
     long = grind (arith, places)
 
     master_after : master_of table_new part.difi ≡ later
-    master_after = rw size (master_back start part.difi.master.size part.difi.master.size table later can.master refl long)
+    master_after = rw size (master_back start part.difi.master.size part.difi.master.size table later can.master refl
+        long)
 
     table_len : length table_new ≡ length table
     table_len = grind (arith, places)
@@ -250,14 +265,18 @@ module _ {S : Type 0} (states : S → State) (keeps : Spot → S → S → Type 
     can_after : CanViewPart (states new.base.now).shape part_new (length table_new)
     can_after =
         true-can_view_part (states new.base.now).shape part_new (length table_new)
-        (rw table_len (can_view_part-same (states base).shape (states new.base.now).shape part part_new (length table) shape part_same
+        (rw table_len (can_view_part-same (states base).shape (states new.base.now).shape part part_new
+        (length table) shape part_same
         ∙ can_view_part-true (states base).shape part (length table) can))
 
-    state_after : part_state (states new.base.now) part_new table_new ≡ under_state (shown_contents states) part.number part.difi after
+    state_after : part_state (states new.base.now) part_new table_new ≡ under_state
+        (shown_contents states) part.number part.difi after
     state_after =
         part_is_hashed (states new.base.now) part_new table_new can_after
-        ∙ ap (λ (s : State). hashed_state s part.number (master_of table_new part.difi) part.difi ivfc) (sym contents_after)
-        ∙ ap (λ (master : List ℕ). hashed_state (shown_contents states new) part.number master part.difi ivfc) master_after
+        ∙ ap (λ (s : State). hashed_state s part.number (master_of table_new part.difi) part.difi ivfc)
+        (sym contents_after)
+        ∙ ap (λ (master : List ℕ). hashed_state (shown_contents states new) part.number master part.difi ivfc)
+        master_after
 
     told_before : IsTrue (part_state (states base) part table).told
         → IsTrue (under_state (shown_contents states) part.number part.difi before).told
@@ -265,7 +284,8 @@ module _ {S : Type 0} (states : S → State) (keeps : Spot → S → S → Type 
 
     -- where the tree came from, seen below
     pub came_after : (refusal : Option Bad)
-        → KeepsUnderOrigins (shown_contents states) part.number part.difi before after refusal → (last : S) → last ≡ new.base.now
+        → KeepsUnderOrigins (shown_contents states) part.number part.difi before after refusal → (last : S)
+        → last ≡ new.base.now
         → KeepsPartOrigins (states base) part table (states last) part_new table_new refusal
     came_after refusal below last ends told was was_master came =
         UnlessDisk-map refusal
@@ -283,10 +303,13 @@ module _ {S : Type 0} (states : S → State) (keeps : Spot → S → S → Type 
       let hashes = h.hashes in
       let same = hashes.tree.writes.hold.0 in
       let len = hashes.tree.master_hash.same_len in
-      let shape = keeps_shape old.base.now new.base.now hashes.tree.writes.hold.2 ∙ ap (λ (s : S). (states s).shape) base_now in
+      let shape = keeps_shape old.base.now new.base.now hashes.tree.writes.hold.2 ∙ ap (λ (s : S).
+      (states s).shape) base_now in
       let sites = HashSites part.difi (is_marked part.ivfc) in
-      let writes : Writes (touched_state states part) (TouchedKeeps keeps) (touched_lands states lands part) sites (touched_of old)
-      (touched_of new) (Some h.bad) = writes_down states keeps lands part old new place difi sites (Some h.bad) hashes.tree.writes in
+      let writes : Writes (touched_state states part) (TouchedKeeps keeps) (touched_lands states lands part) sites
+      (touched_of old)
+      (touched_of new) (Some h.bad) = writes_down states keeps lands part old new place difi sites
+      (Some h.bad) hashes.tree.writes in
       rw h.refused (record {
         selector = tt;
         plain = hashes.tree.writes.plain;
@@ -346,7 +369,8 @@ module _ {S : Type 0} (states : S → State) (keeps : Spot → S → S → Type 
     contents_stay : Stays (shown_contents states h.between) (shown_contents states new) (result_err result)
     contents_stay =
         rw (h.holds.same_place, h.holds.same_difi, h.marks)
-        (stays_sealed states keeps lands h.between.part_at h.between.difi.now h.between.state.now h.between.base.now new.base.now
+        (stays_sealed states keeps lands h.between.part_at h.between.difi.now h.between.state.now h.between.base.now
+        new.base.now
         result h.sealed)
 
     both_stay : Stays (under_state (shown_contents states) part.number part.difi before)
@@ -371,7 +395,8 @@ module _ {S : Type 0} (states : S → State) (keeps : Spot → S → S → Type 
     -- what is held then of the base and the table
     held_after : (selector : ℕ) → IsTrue (under_state (shown_contents states) part.number part.difi before).told
         → IsTrue (under_state (shown_contents states) part.number part.difi after).told
-        → ((x : ℕ) → x < view_size h.between.difi.now → chosen (bytes_of (states new.base.now).cells) h.between.part_at h.between.difi.now selector x
+        → ((x : ℕ) → x < view_size h.between.difi.now → chosen (bytes_of
+        (states new.base.now).cells) h.between.part_at h.between.difi.now selector x
         ≡ value_of ((shown_contents states h.between).cells x))
         → SameCells (shown_contents states h.between) (shown_contents states new)
         → HasNoZeroDigest (contents_of (states new.base.now) part_new).cells part.difi (is_marked part.ivfc)
@@ -382,23 +407,32 @@ module _ {S : Type 0} (states : S → State) (keeps : Spot → S → S → Type 
         let mid = shown_contents states h.between in
         let marked = is_marked part.ivfc in
         let no_zero : HasNoZeroDigest (shown_contents states new).cells part.difi marked = rw behind none in
-        let hashed = hashed_on mid.shape part.difi later mid_tree mid.cells (shown_contents states new).cells same marked
+        let hashed = hashed_on mid.shape part.difi later mid_tree mid.cells
+        (shown_contents states new).cells same marked
         (h.hashes.tree.hashed (and_parts _ _ told).0
-        (zero_back mid.shape part.difi later mid_tree mid.cells (shown_contents states new).cells same marked no_zero)) in
+        (zero_back mid.shape part.difi later mid_tree mid.cells (shown_contents states new).cells same marked
+        no_zero)) in
         record {
           lies = record {
             view = can_new;
             small = fits new.base.now can_new.contents.sound;
             bytes = plain_bytes new.base.now can_new.contents.plain (and_parts _ _ told_after).0;
           };
-          told = subst (λ (s : State). IsTrue s.told) (sym (state_after both_same (as_many h.hashes.counts) both_len both_shape)) told_after;
+          told = subst (λ (s : State). IsTrue s.told) (sym (state_after both_same
+              (as_many h.hashes.counts) both_len both_shape)) told_after;
           chosen_bytes = λ x below. (
               let bytes = bytes_of (states new.base.now).cells in
-              let place : chosen bytes part.at part.difi selector x ≡ chosen bytes h.between.part_at h.between.difi.now selector x =
+              let place : chosen bytes part.at part.difi selector x ≡ chosen bytes h.between.part_at
+              h.between.difi.now selector x =
               rw (mid_place, mid_difi) refl in
               place ∙ chosen_bytes x (rw mid_difi below) ∙ ap value_of (sym (same x (rw mid_difi below)))
               ∙ ap (λ (s : State). value_of (s.cells x)) behind);
-          hashed = rw (h.hashes.counts.marks, master_after both_same (as_many h.hashes.counts) both_len both_shape, ← behind) hashed;
+          hashed = rw (
+            h.hashes.counts.marks,
+            master_after both_same (as_many h.hashes.counts) both_len both_shape,
+            ←
+                behind,
+          ) hashed;
         }
 
     both_held : IsTrue (part_state (states base) part table).told → IfOk result (λ selector.
@@ -408,20 +442,24 @@ module _ {S : Type 0} (states : S → State) (keeps : Spot → S → S → Type 
         let below = subst (λ (s : State). IsTrue s.told) state_before told in
         IfOk-map result (λ selector facts. held_after selector below facts.1.0 facts.0 facts.1.1)
         (if_both _ _ result (h.sealed.chosen_bytes (mid_told below))
-        (if_both _ _ result (if_done _ result (both_stay.space.told below)) (if_done _ result (contents_stay.cells (mid_told below)))))
+        (if_both _ _ result (if_done _ result (both_stay.space.told below)) (if_done _ result (contents_stay.cells
+        (mid_told below)))))
 
     seals_copies : SealsTrees states keeps lands base part table new.base.now part_new table_new result
     seals_copies =
         let sites = HashSites part.difi (is_marked part.ivfc) in
-        let writes : Writes (touched_state states part) (TouchedKeeps keeps) (touched_lands states lands part) sites (touched_of old)
-        (touched_of h.between) None = writes_down states keeps lands part old h.between place difi sites None h.hashes.tree.writes in
+        let writes : Writes (touched_state states part) (TouchedKeeps keeps) (touched_lands states lands part) sites
+        (touched_of old)
+        (touched_of h.between) None = writes_down states keeps lands part old h.between place difi sites None
+        h.hashes.tree.writes in
         record {
           selector = rw mid_selector at h.sealed.selector;
           plain = h.sealed.writes.plain;
           stays = rw (state_before, state_after both_same (as_many h.hashes.counts) both_len both_shape) both_stay;
           same = part_same both_same (as_many h.hashes.counts) both_len both_shape;
           counts = h.hashes.counts;
-          hold = keeps_join Hold base h.between.base.now new.base.now (rw base_now at h.hashes.tree.writes.hold.2) h.sealed.writes.hold;
+          hold = keeps_join Hold base h.between.base.now new.base.now (rw base_now at h.hashes.tree.writes.hold.2)
+              h.sealed.writes.hold;
           writes = inr (record {
             between = h.between.base.now;
             hashes = rw (base_now, dpfs, ← h.marks) at writes;
@@ -429,23 +467,29 @@ module _ {S : Type 0} (states : S → State) (keeps : Spot → S → S → Type 
             spares = rw (mid_place, mid_difi, mid_selector) at h.spares;
           });
           held = both_held;
-          came = came_after both_same (as_many h.hashes.counts) both_len both_shape (result_err result) both_came new.base.now refl;
+          came = came_after both_same (as_many h.hashes.counts) both_len both_shape
+              (result_err result) both_came new.base.now refl;
         }
 
   pub seals_trees : (result : Result ℕ Bad) → SealsContents states keeps lands part.number part.difi before after result
       → (last : S) → last ≡ new.base.now → SealsTrees states keeps lands base part table last part_new table_new result
   seals_trees result seals last ends =
-      rw ends (⊎_elim (λ (refused : RefusesHashes states keeps lands part.number part.difi before after result). seals_refused result refused)
-      (λ (both : SealsBoth states keeps lands part.number part.difi before after result). seals_copies result both) seals)
+      rw ends (⊎_elim (λ (refused : RefusesHashes states keeps lands part.number part.difi before after result).
+      seals_refused result refused)
+      (λ (both : SealsBoth states keeps lands part.number part.difi before after result). seals_copies result both)
+      seals)
 
   -- the table changed in the entries of marked blocks alone
-  changes_entries : CountsOn part.ivfc ivfc → DiffersAt (MasterSites part.difi (is_marked part.ivfc) 1) before.master later
+  changes_entries : CountsOn part.ivfc ivfc → DiffersAt (MasterSites part.difi
+      (is_marked part.ivfc) 1) before.master later
       → DiffersAt (IsSealedEntry part) table table_new
   changes_entries counts changes =
       let same = changes.same_len in
-      table_back start n n table later (rw size can.master) refl (grind (arith, places)) (MasterSites part.difi (is_marked part.ivfc) 1) changes
+      table_back start n n table later (rw size can.master) refl (grind (arith, places)) (MasterSites part.difi
+      (is_marked part.ivfc) 1) changes
 
-  pub seals_master : (result : Result ℕ Bad) → SealsContents states keeps lands part.number part.difi before after result
+  pub seals_master : (result : Result ℕ Bad) → SealsContents states keeps lands part.number part.difi before after
+      result
       → DiffersAt (IsSealedEntry part) table table_new
   seals_master result seals =
       ⊎_elim (λ (refused : RefusesHashes states keeps lands part.number part.difi before after result).

@@ -32,8 +32,8 @@ pub record EndsPart (selector : ℕ) (old new : Part) : Type 0 where
 abbrev pub chosen_cells : State → Part → ℕ → ℕ → Cell
 chosen_cells base part selector x = Byte (chosen (bytes_of base.cells) part.at part.difi selector x)
 
--- The cell of a byte of level four as a base and a table alone give it: the block's hash path is tried over the contents
--- that a selector chooses, up to the master hash.
+-- The cell of a byte of level four as a base and a table alone give it: the block's hash path is tried over the
+-- contents that a selector chooses, up to the master hash.
 abbrev pub plain_cell : State → Part → ℕ → List ℕ → ℕ → Cell
 plain_cell base part selector table x =
     let contents = chosen_cells base part selector in
@@ -57,8 +57,8 @@ pub record HasNoChanges (part : Part) : Type 0 where
       → x < part.difi.ivfc4.size
       → (part_state base part table).cells x ≡ plain_cell base part part.dpfs.selector table x
 
--- A base and a table hold what was sealed of a part: the selector chooses the bytes that the part has in its contents,
--- and each block that was put or cleared is hashed.
+-- A base and a table hold what was sealed of a part: the selector chooses the bytes that the part has in its
+-- contents, and each block that was put or cleared is hashed.
 pub record HoldsSealed (base : State) (part : Part) (table : List ℕ) (selector : ℕ) : Type 0 where
   pub lies : LiesInBytes base part (length table)
   pub told : IsTrue (part_state base part table).told
@@ -87,8 +87,8 @@ KeepsPartOrigins base part table base_new part_new table_new refusal =
     → PartCameFrom was was_master base part table
     → UnlessDisk refusal (PartCameFrom was was_master base_new part_new table_new)
 
--- A part's changes came from contents and a table as they were. The chosen contents are those still, but for blocks of
--- level four that were put or cleared: external ones are written in place.
+-- A part's changes came from contents and a table as they were. The chosen contents are those still, but for blocks
+-- of level four that were put or cleared: external ones are written in place.
 pub record HoldsOrigin (was : ℕ → Cell) (base : State) (part : Part) (table was_table : List ℕ) : Type 0 where
   pub lies : LiesInBytes base part (length table)
   pub told : IsTrue (part_state base part table).told
@@ -97,8 +97,8 @@ pub record HoldsOrigin (was : ℕ → Cell) (base : State) (part : Part) (table 
   pub back : IsBack (contents_of base part).shape part.difi (is_marked part.ivfc) was
       (chosen_cells base part part.dpfs.selector)
 
--- So the part tells its cells once they are dropped, of the base and of the table as it was. They are those that another
--- base gave with that table from which the same contents are chosen.
+-- So the part tells its cells once they are dropped, of the base and of the table as it was. They are those that
+-- another base gave with that table from which the same contents are chosen.
 pub record TellsOrigin (old new : Part) : Type 0 where
   pub told : (was : ℕ → Cell) (base : State) (table was_table : List ℕ) → HoldsOrigin was base old table was_table
       → IsTrue (part_state base new was_table).told

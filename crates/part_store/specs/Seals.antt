@@ -1,5 +1,6 @@
 -- What a seal of a part leaves: of its base, of its marks, and of its table.
-use Rattle.std.specs.Prelude.{◌≡◌, ◌≢◌, ◌⊎◌, ℕ, ◌+◌, ◌-◌, ◌<◌, IsTrue, List, length, slice_index, Option, None, Some, Result, Ok, Err, IfOk, OnErr}
+use Rattle.std.specs.Prelude.{◌≡◌, ◌≢◌, ◌⊎◌, ℕ, ◌+◌, ◌-◌, ◌<◌, IsTrue, List, length, slice_index, Option, None, Some}
+use Rattle.std.specs.Prelude.{Result, Ok, Err, IfOk, OnErr}
 use Rattle.std.specs.Result.{result_err}
 use Rattle.save_bytes.specs.declared.space.Bad.{Bad}
 use Rattle.save_bytes.specs.State.{State}
@@ -24,21 +25,24 @@ use Rattle.part_store.specs.Spots.{SamePart}
 use Rattle.part_store.specs.Under.{Under, under_state, KeepsUnderOrigins}
 use Rattle.part_store.specs.Ends.{plain_cell, HoldsSealed, KeepsPartOrigins}
 
--- What a seal of the hashes leaves below the view: the digests of marked blocks in the contents and in the master hash, and
--- where the tree came from.
+-- What a seal of the hashes leaves below the view: the digests of marked blocks in the contents and in the master
+-- hash, and where the tree came from.
 pub record SealsUnder {A : Type 0} (states : A → State) (keeps : Spot → A → A → Type 0) (lands : A → ℕ → Spot → Type 0)
     (number : ℕ) (difi : Difi) (old new : Under A) (refusal : Option Bad) : Type 0 where
   pub counts : CountsOn old.ivfc new.ivfc
   pub stays : Stays (under_state states number difi old) (under_state states number difi new) refusal
-  pub tree : SealsTree states keeps lands difi (is_marked old.ivfc) old.contents old.master new.contents new.master refusal
+  pub tree : SealsTree states keeps lands difi (is_marked old.ivfc) old.contents old.master new.contents new.master
+      refusal
   pub came : KeepsUnderOrigins states number difi old new refusal
 
 -- The hashes could not be sealed over the contents.
-pub record RefusesHashes {S : Type 0} (states : S → State) (keeps : Spot → S → S → Type 0) (lands : S → ℕ → Spot → Type 0)
+pub record RefusesHashes {S : Type 0} (states : S → State) (keeps : Spot → S → S → Type 0) (lands : S → ℕ → Spot
+    → Type 0)
     (number : ℕ) (difi : Difi) (old new : Under (DpfsView S)) (result : Result ℕ Bad) : Type 0 where
   pub bad : Bad
   pub refused : result ≡ Err bad
-  pub hashes : SealsUnder (shown_contents states) (ContentsKeep keeps) (contents_land states lands) number difi old new (Some bad)
+  pub hashes : SealsUnder (shown_contents states) (ContentsKeep keeps) (contents_land states lands) number difi old
+      new (Some bad)
 
 -- They were, and then the copies that hold the contents.
 pub record SealsBoth {S : Type 0} (states : S → State) (keeps : Spot → S → S → Type 0) (lands : S → ℕ → Spot → Type 0)
@@ -56,7 +60,8 @@ pub record SealsBoth {S : Type 0} (states : S → State) (keeps : Spot → S →
 abbrev pub SealsContents : {S : Type 0} → (S → State) → (Spot → S → S → Type 0) → (S → ℕ → Spot → Type 0) → ℕ → Difi
     → Under (DpfsView S) → Under (DpfsView S) → Result ℕ Bad → Type 0
 SealsContents states keeps lands number difi old new result =
-    RefusesHashes states keeps lands number difi old new result ⊎ SealsBoth states keeps lands number difi old new result
+    RefusesHashes states keeps lands number difi old new result ⊎ SealsBoth states keeps lands number difi old new
+    result
 
 -- what the view of a part's contents may change: the base, and which blocks are touched
 pub record Touched (A : Type 0) : Type 0 where
@@ -80,10 +85,12 @@ abbrev pub WritesHashes : {A : Type 0} → (A → State) → (Spot → A → A �
     → DpfsState → Option Bad → Type 0
 WritesHashes states keeps lands part old new dpfs refusal =
     Writes (touched_state states part) (TouchedKeeps keeps) (touched_lands states lands part)
-    (HashSites part.difi (is_marked part.ivfc)) (record { base = old; dpfs = part.dpfs }) (record { base = new; dpfs = dpfs }) refusal
+    (HashSites part.difi (is_marked part.ivfc)) (record { base = old; dpfs = part.dpfs })
+    (record { base = new; dpfs = dpfs }) refusal
 
 -- That was refused.
-pub record RefusesFirst {A : Type 0} (states : A → State) (keeps : Spot → A → A → Type 0) (lands : A → ℕ → Spot → Type 0)
+pub record RefusesFirst {A : Type 0} (states : A → State) (keeps : Spot → A → A → Type 0) (lands : A → ℕ → Spot
+    → Type 0)
     (part part_new : Part) (old new : A) (result : Result ℕ Bad) : Type 0 where
   pub bad : Bad
   pub refused : result ≡ Err bad
@@ -97,37 +104,44 @@ pub record SealsCopies {A : Type 0} (states : A → State) (keeps : Spot → A �
   pub sealed : IsSealed states keeps lands part.at part.difi part_new.dpfs between new result
   pub spares : Spares states part.at part.difi part.dpfs.selector between new (result_err result)
 
-abbrev pub SealsBase : {A : Type 0} → (A → State) → (Spot → A → A → Type 0) → (A → ℕ → Spot → Type 0) → Part → Part → A → A
+abbrev pub SealsBase : {A : Type 0} → (A → State) → (Spot → A → A → Type 0) → (A → ℕ → Spot → Type 0) → Part → Part
+    → A → A
     → Result ℕ Bad → Type 0
 SealsBase states keeps lands part part_new old new result =
-    RefusesFirst states keeps lands part part_new old new result ⊎ SealsCopies states keeps lands part part_new old new result
+    RefusesFirst states keeps lands part part_new old new result ⊎ SealsCopies states keeps lands part part_new old
+    new result
 
 -- a place of a table is one of the entry of a marked block of level 1 in the master hash
 abbrev pub IsSealedEntry : Part → ℕ → Type 0
-IsSealedEntry part x = (k : ℕ) × (x ≡ part.difi.place + part.difi.master.at + k) × MasterSites part.difi (is_marked part.ivfc) 1 k
+IsSealedEntry part x = (k : ℕ) × (x ≡ part.difi.place + part.difi.master.at + k) × MasterSites part.difi
+    (is_marked part.ivfc) 1 k
 
 -- that of the selector in the descriptor
 abbrev pub selector_place : Difi → ℕ
 selector_place difi = difi.place + 0x39
 
--- What a seal leaves of the table. It changes in the entries of marked blocks, and in the selector, which is the one that is
--- answered; where the seal is refused that stays. A descriptor that was read from the table is read again, with it.
+-- What a seal leaves of the table. It changes in the entries of marked blocks, and in the selector, which is the one
+-- that is answered; where the seal is refused that stays. A descriptor that was read from the table is read again,
+-- with it.
 pub record SealsTable (part : Part) (old new : List ℕ) (result : Result ℕ Bad) : Type 0 where
   pub same_len : length new ≡ length old
   pub others : (x : ℕ) → x ≢ selector_place part.difi → ¬ IsSealedEntry part x → slice_index new x ≡ slice_index old x
   pub selector : IfOk result (λ selector. slice_index new (selector_place part.difi) ≡ selector)
   pub refused : OnErr result (slice_index new (selector_place part.difi) ≡ slice_index old (selector_place part.difi))
-  pub descriptor : (size part_len : ℕ) → reading old part.difi.place size part_len ≡ Ok part.difi → IfOk result (λ selector.
+  pub descriptor : (size part_len : ℕ) → reading old part.difi.place size part_len ≡ Ok part.difi → IfOk result
+      (λ selector.
       reading new part.difi.place size part_len ≡ Ok (record part.difi { selector = selector }))
 
--- What a seal of the trees leaves. No cell changes, and no mark of the hash tree; more blocks may be touched. What the
--- base and the table hold then is what was sealed, where no marked block's digest is 32 zero bytes.
+-- What a seal of the trees leaves. No cell changes, and no mark of the hash tree; more blocks may be touched. What
+-- the base and the table hold then is what was sealed, where no marked block's digest is 32 zero bytes.
 pub record SealsTrees {A : Type 0} (states : A → State) (keeps : Spot → A → A → Type 0) (lands : A → ℕ → Spot → Type 0)
-    (base : A) (part : Part) (table : List ℕ) (base_new : A) (part_new : Part) (table_new : List ℕ) (result : Result ℕ Bad)
+    (base : A) (part : Part) (table : List ℕ) (base_new : A) (part_new : Part) (table_new : List ℕ)
+    (result : Result ℕ Bad)
     : Type 0 where
   pub selector : IfOk result (λ selector. selector ≡ 1 - part.dpfs.selector)
   pub plain : NeverDamaged (result_err result)
-  pub stays : Stays (part_state (states base) part table) (part_state (states base_new) part_new table_new) (result_err result)
+  pub stays : Stays (part_state (states base) part table) (part_state (states base_new) part_new table_new)
+      (result_err result)
   pub same : SamePart part part_new
   pub counts : CountsOn part.ivfc part_new.ivfc
   pub hold : keeps Hold base base_new
@@ -137,10 +151,12 @@ pub record SealsTrees {A : Type 0} (states : A → State) (keeps : Spot → A �
       → HoldsSealed (states base_new) part_new table_new selector)
   pub came : KeepsPartOrigins (states base) part table (states base_new) part_new table_new (result_err result)
 
--- What a seal of a part answers and leaves. The base and the table alone give then the cells that the part had, where no
--- marked block's digest is 32 zero bytes.
-pub record IsSealedPart {A : Type 0} (states : A → State) (keeps : Spot → A → A → Type 0) (lands : A → ℕ → Spot → Type 0)
-    (base : A) (part : Part) (table : List ℕ) (base_new : A) (part_new : Part) (table_new : List ℕ) (result : Result ℕ Bad)
+-- What a seal of a part answers and leaves. The base and the table alone give then the cells that the part had, where
+-- no marked block's digest is 32 zero bytes.
+pub record IsSealedPart {A : Type 0} (states : A → State) (keeps : Spot → A → A → Type 0) (lands : A → ℕ → Spot
+    → Type 0)
+    (base : A) (part : Part) (table : List ℕ) (base_new : A) (part_new : Part) (table_new : List ℕ)
+    (result : Result ℕ Bad)
     : Type 0 where
   pub trees : SealsTrees states keeps lands base part table base_new part_new table_new result
   pub descriptor : SealsTable part table table_new result

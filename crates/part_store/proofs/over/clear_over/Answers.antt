@@ -17,7 +17,8 @@ returns-clause-moves g c =
 pub returns-clause-came : goal.returns-clause-came
 returns-clause-came g c =
     let holds = c.new-view.ensures.holds in
-    let left = came_down g.S.Space.state c.new-view.result c.clear.new.self (result_err c.clear.result) c.clear.ensures.moves.hold.0.same_difi
+    let left = came_down g.S.Space.state c.new-view.result c.clear.new.self
+    (result_err c.clear.result) c.clear.ensures.moves.hold.0.same_difi
     c.clear.ensures.came in
     let there = rw (holds.base_now, holds.same_difi, holds.master_now, holds.state_now) at left in
     search rules

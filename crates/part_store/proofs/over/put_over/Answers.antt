@@ -15,7 +15,8 @@ returns-clause-moves g c =
 pub returns-clause-came : goal.returns-clause-came
 returns-clause-came g c =
     let holds = c.new-view.ensures.holds in
-    let left = came_down g.S.Space.state c.new-view.result c.put.new.self (result_err c.put.result) c.put.ensures.moves.hold.0.same_difi
+    let left = came_down g.S.Space.state c.new-view.result c.put.new.self
+    (result_err c.put.result) c.put.ensures.moves.hold.0.same_difi
     c.put.ensures.came in
     let there = rw (holds.base_now, holds.same_difi, holds.master_now, holds.state_now) at left in
     search rules

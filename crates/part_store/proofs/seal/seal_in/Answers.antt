@@ -13,6 +13,8 @@ returns-in-Err g c = record {
 pub returns : goal.returns
 returns g c =
     let space = g.S.Space in
-    sealed_patched space.state space.keeps space.lands c.args.base.now c.args.part.now c.args.table.now c.requires c.seal_trees.new.base
-    c.seal_trees.new.part c.seal_trees.new.table c.patch.new.table c.in-Ok.selector c.in-Ok.ensures.master c.in-Ok.ensures.trees
+    sealed_patched space.state space.keeps space.lands c.args.base.now c.args.part.now c.args.table.now c.requires
+    c.seal_trees.new.base
+    c.seal_trees.new.part c.seal_trees.new.table c.patch.new.table c.in-Ok.selector c.in-Ok.ensures.master
+    c.in-Ok.ensures.trees
     c.patch.ensures.byte (omega (arith, c.in-Ok.ensures.trees.selector))

@@ -10,4 +10,5 @@ returns-clause-unchanged c =
 
 pub returns-clause-tells : goal.returns-clause-tells
 returns-clause-tells c =
-    tells_settled _ _ _ refl refl refl (λ base x. c.settle.ensures.chosen (bytes_of base.cells) _ x _) c.settle-2.ensures.settles
+    tells_settled _ _ _ refl refl refl (λ base x. c.settle.ensures.chosen
+    (bytes_of base.cells) _ x _) c.settle-2.ensures.settles
