@@ -23,11 +23,7 @@ use Rattle.ivfc_tree.specs.Levels.{level_of, level4_of}
 use Rattle.ivfc_tree.specs.declared.state.IvfcState.{IvfcState}
 use Rattle.ivfc_tree.specs.View.{HasTree as HasHashes, IsVerified}
 use Rattle.ivfc_tree.specs.View.{view_state as hashed_state}
-use Rattle.dpfs_tree.specs.Picks.{chosen}
-use Rattle.dpfs_tree.specs.Marks.{place_of}
-use Rattle.ivfc_tree.specs.Marks.{is_marked, HasNoMarks, IsEmpty}
-use Rattle.ivfc_tree.proofs.PathLemmas.{state_is}
-use Rattle.part_store.specs.Ends.{HasNoChanges}
+use Rattle.ivfc_tree.specs.Marks.{is_marked, IsEmpty}
 use Rattle.ivfc_tree.specs.KnownLaws.{remembers-true}
 use Rattle.ivfc_tree.specs.ViewLaws.{place_inside}
 use Rattle.ivfc_tree.proofs.LevelLemmas.{level4_is}
@@ -55,7 +51,7 @@ four_small contents difi master_len at tree inside =
     subst (λ (level : LevelPlace). level.at + at < contents.size) (level4_is difi) (place_inside contents difi master_len at tree inside) in
     omega (arith, there, tree.levels.small)
 
-byte_value : (cell : Cell) → IsByte cell → Byte (value_of cell) ≡ cell
+pub byte_value : (cell : Cell) → IsByte cell → Byte (value_of cell) ≡ cell
 byte_value (Byte value) byte = refl
 byte_value (Blank part level block) byte = absurd byte
 byte_value (Spoilt part level block) byte = absurd byte
@@ -198,14 +194,3 @@ part_is_hashed base part table view =
       can_view_hashes-true (contents_of base part).shape part.difi (length (master_of table part.difi)) part.ivfc
           (hash_view base part table view),
     ) refl
-
--- a part in neither of whose trees a block is marked
-pub no_changes : (part : Part) (selector : ℕ) → part.dpfs.selector ≡ selector
-    → ((bytes : ℕ → ℕ) (part_at x : ℕ) (difi : Difi)
-    → bytes (place_of bytes part_at difi part.dpfs x) ≡ chosen bytes part_at difi selector x)
-    → HasNoMarks part.ivfc → HasNoChanges part
-no_changes part selector selects contents none = record {
-  chosen = λ bytes x. contents bytes part.at x part.difi
-      ∙ ap (λ (s : ℕ). chosen bytes part.at part.difi s x) (sym selects);
-  paths = λ cells master. state_is cells master part.difi (is_marked part.ivfc) none;
-}

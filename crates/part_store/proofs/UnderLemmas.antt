@@ -23,7 +23,8 @@ use borrow.Rule.Slice.PartMut.{put_mid}
 use Rattle.std.proofs.lemmas.List.{places, same_lists}
 use Rattle.ivfc_tree.specs.declared.view.IvfcView.{IvfcView}
 use Rattle.ivfc_tree.specs.Held.{shown, SameOwn, HashKeeps, hash_lands}
-use Rattle.part_store.specs.Under.{Under, under_state, UnderOwn, UnderKeeps, under_lands}
+use Rattle.ivfc_tree.specs.PutViews.{KeepsOrigins}
+use Rattle.part_store.specs.Under.{Under, under_state, UnderOwn, UnderKeeps, under_lands, KeepsUnderOrigins}
 
 -- what is below a view
 abbrev pub under_of : {S : Type 0} → IvfcView S → Under S
@@ -61,8 +62,14 @@ module _ {S : Type 0} (states : S → State) (keeps : Spot → S → S → Type 
     reach = rw moves.hold.0.same_difi at moves.reach;
   }
 
+-- where a view's tree came from is where that of what is below it came from
+pub came_down : {S : Type 0} (states : S → State) (old new : IvfcView S) (refusal : Option Bad) → new.difi ≡ old.difi
+    → KeepsOrigins states old new refusal
+    → KeepsUnderOrigins states old.part old.difi.now (under_of old) (under_of new) refusal
+came_down states old new refusal same came told was was_master here = rw same at came told was was_master here
+
 -- the master hash of a table to which one was written back
-master_back : (start n m : ℕ) (table part : List ℕ) → start + n ≤ length table → m ≡ n → length part ≡ n
+pub master_back : (start n m : ℕ) (table part : List ℕ) → start + n ≤ length table → m ≡ n → length part ≡ n
     → take n (drop start (put_mid start m table part)) ≡ part
 master_back start n m table part inside is long =
     rw is (same_lists _ _ (search (rules, places)) (λ k d h. grind (arith, places)))

@@ -1,6 +1,7 @@
 -- What a view of a partition holds, which spots a call on it leaves alone, and which a put may touch.
-use Rattle.std.specs.Prelude.{◌≡◌, ℕ, List, length}
+use Rattle.std.specs.Prelude.{◌≡◌, ℕ, List, length, Option}
 use Rattle.std.specs.Borrow.{MutBor}
+use Rattle.save_bytes.specs.declared.space.Bad.{Bad}
 use Rattle.save_bytes.specs.State.{State}
 use Rattle.save_bytes.specs.Spots.{Spot, Frame}
 use Rattle.dpfs_tree.specs.Picks.{bytes_of}
@@ -10,6 +11,7 @@ use Rattle.part_store.specs.declared.part.Part.{Part}
 use Rattle.part_store.specs.declared.view.PartView.{PartView}
 use Rattle.part_store.specs.Parts.{part_state}
 use Rattle.part_store.specs.Spots.{SamePart, KeepsMarks, PartSpot}
+use Rattle.part_store.specs.Ends.{KeepsPartOrigins}
 
 -- what a contract sees of a view over a base of which this is seen
 abbrev pub shown : {S : Type 0} → (S → State) → PartView S → State
@@ -64,3 +66,8 @@ pub record SameNames {S : Type 0} (old new : PartView S) : Type 0 where
 abbrev pub OfViews : {S : Type 0} → S → Part → List ℕ → S → Part → List ℕ → (PartView S → PartView S → Type 0) → Type 0
 OfViews {S} base part table base_new part_new table_new P = (s t : PartView S) → IsOver s base part table
     → IsOver t base_new part_new table_new → SameNames s t → P s t
+
+-- contents and a master hash from which a part's tree came in one view are those from which it comes in another
+abbrev pub KeepsViewOrigins : {S : Type 0} → (S → State) → PartView S → PartView S → Option Bad → Type 0
+KeepsViewOrigins states old new =
+    KeepsPartOrigins (states old.base.now) old.part.now old.table.now (states new.base.now) new.part.now new.table.now

@@ -8,3 +8,4 @@ pub mod Held
 pub mod ViewLaws
 pub mod FloorLaws
 pub mod Ends
+pub mod Seals

@@ -1,5 +1,8 @@
 -- What is below a part's cells, as a space: its contents, the master hash, and what is kept of its hash tree.
-use Rattle.std.specs.Prelude.{◌≡◌, ℕ, List, length}
+use Rattle.std.specs.Prelude.{◌≡◌, ℕ, IsTrue, List, length, Option}
+use Rattle.save_bytes.specs.declared.space.Bad.{Bad}
+use Rattle.save_bytes.specs.Cells.{Cell}
+use Rattle.save_bytes.specs.Refusals.{UnlessDisk}
 use Rattle.save_bytes.specs.State.{State}
 use Rattle.save_bytes.specs.Spots.{Spot, Mark, Frame}
 use Rattle.difi.specs.declared.descriptor.Difi.{Difi}
@@ -7,6 +10,7 @@ use Rattle.ivfc_tree.specs.declared.state.IvfcState.{IvfcState}
 use Rattle.ivfc_tree.specs.Levels.{IsLevel}
 use Rattle.ivfc_tree.specs.Marks.{is_marked, SameMarks, AsManyMarks}
 use Rattle.ivfc_tree.specs.Held.{HashLands}
+use Rattle.ivfc_tree.specs.Origins.{CameFrom}
 use Rattle.ivfc_tree.specs.View.{view_state}
 
 -- all that a view through the hash tree may change
@@ -33,3 +37,14 @@ UnderKeeps keeps spot old new = (length new.master ≡ length old.master) × AsM
 -- which spots a put may touch
 abbrev pub under_lands : {A : Type 0} → (A → ℕ → Spot → Type 0) → Difi → Under A → ℕ → Spot → Type 0
 under_lands lands difi under = HashLands (lands under.contents) difi
+
+-- the tree came from contents and a master hash
+abbrev pub UnderCameFrom : {A : Type 0} → (A → State) → Difi → (ℕ → Cell) → List ℕ → Under A → Type 0
+UnderCameFrom states difi was was_master under =
+    CameFrom difi (is_marked under.ivfc) was was_master (states under.contents).cells under.master
+
+-- a call leaves the tree come from where it came from, unless it was refused for the disk's sake
+abbrev pub KeepsUnderOrigins : {A : Type 0} → (A → State) → ℕ → Difi → Under A → Under A → Option Bad → Type 0
+KeepsUnderOrigins states number difi old new refusal =
+    IsTrue (under_state states number difi old).told → (was : ℕ → Cell) (was_master : List ℕ)
+    → UnderCameFrom states difi was was_master old → UnlessDisk refusal (UnderCameFrom states difi was was_master new)

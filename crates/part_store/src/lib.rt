@@ -5,11 +5,14 @@ mod calls;
 mod over;
 mod part;
 mod puts;
+mod seal;
 mod view;
 
 pub use calls::lend;
 pub use part::Part;
 pub use view::PartView;
 
+#[cfg(test)]
+mod seal_tests;
 #[cfg(test)]
 mod tests;

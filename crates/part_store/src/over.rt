@@ -8,7 +8,7 @@ ghost use Rattle.save_bytes.specs.Puts.{Puts};
 ghost use Rattle.save_bytes.specs.Reads.{Reads};
 ghost use Rattle.save_bytes.specs.Spots.{MovesOnly};
 ghost use Rattle.ivfc_tree.specs.View.{CanViewHashes};
-ghost use Rattle.part_store.specs.Under.{under_state, UnderKeeps, under_lands};
+ghost use Rattle.part_store.specs.Under.{under_state, UnderKeeps, under_lands, KeepsUnderOrigins};
 
 use difi::Difi;
 use ivfc_tree::{IvfcState, IvfcView};
@@ -56,6 +56,8 @@ pub(crate) fn put_over<S: Space>(
         (under_state S.state number difi.now (record { contents = contents.old; master = master.old; ivfc = state.old }))
         (record { contents = contents.old; master = master.old; ivfc = state.old }) at (length bytes.now)
         (record { contents = contents.new; master = master.new; ivfc = state.new }) (result_err result) }
+    ensures came { KeepsUnderOrigins S.state number difi.now (record { contents = contents.old; master = master.old; ivfc = state.old })
+        (record { contents = contents.new; master = master.new; ivfc = state.new }) (result_err result) }
 {
     let mut view = IvfcView::new(contents, number, difi, master, state);
     view.put(at, bytes)
@@ -101,6 +103,8 @@ pub(crate) fn clear_over<S: Space>(
     ensures moves { let old = under_state S.state number difi.now (record { contents = contents.old; master = master.old; ivfc = state.old }) in
         MovesOnly (UnderKeeps S.keeps) (under_lands S.lands difi.now) old
         (record { contents = contents.old; master = master.old; ivfc = state.old }) (old.shape.block_start at) (old.shape.block_len at)
+        (record { contents = contents.new; master = master.new; ivfc = state.new }) (result_err result) }
+    ensures came { KeepsUnderOrigins S.state number difi.now (record { contents = contents.old; master = master.old; ivfc = state.old })
         (record { contents = contents.new; master = master.new; ivfc = state.new }) (result_err result) }
 {
     let mut view = IvfcView::new(contents, number, difi, master, state);

@@ -27,7 +27,7 @@ pub struct Part {
 }
 
 impl Part {
-    ghost use Rattle.part_store.specs.Ends.{EndsPart, HasNoChanges};
+    ghost use Rattle.part_store.specs.Ends.{EndsPart, HasNoChanges, TellsSettled, TellsOrigin};
     ghost use Rattle.part_store.specs.Parts.{CanViewPart, HasNoMemory};
 
     /// The partition that begins at `part_at` in the image, with nothing changed.
@@ -71,6 +71,7 @@ impl Part {
         ensures unchanged { HasNoChanges self.new }
         ensures turned { TurnsMarks settled self.old.ivfc self.new.ivfc }
         ensures settles { SettlesHashed self.old.ivfc self.new.ivfc }
+        ensures tells { TellsSettled selector self.old self.new }
     {
         self.difi.selector = selector;
         self.dpfs.settle(selector);
@@ -88,6 +89,7 @@ impl Part {
         ensures unchanged { HasNoChanges self.new }
         ensures turned { TurnsMarks dropped self.old.ivfc self.new.ivfc }
         ensures remembers { RemembersOrigin self.old.ivfc self.new.ivfc }
+        ensures tells { TellsOrigin self.old self.new }
     {
         self.dpfs.drop_changes();
         self.ivfc.drop_changes();

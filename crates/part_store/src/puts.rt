@@ -9,6 +9,7 @@ ghost use Rattle.save_bytes.specs.Reads.{Reads};
 ghost use Rattle.save_bytes.specs.Spots.{MovesOnly};
 ghost use Rattle.part_store.specs.Parts.{CanViewPart, part_state};
 ghost use Rattle.part_store.specs.Held.{shown, PartKeeps, part_lands, OfViews};
+ghost use Rattle.part_store.specs.Ends.{KeepsPartOrigins};
 
 use crate::over::{clear_over, clear_ready_over, put_over, ready_over};
 use crate::part::Part;
@@ -57,6 +58,7 @@ pub(crate) fn put_in<S: Space>(
         Puts (shown S.state old) at bytes.now (shown S.state new) (result_err result)) }
     ensures moves { OfViews base.old part.old table.old base.new part.new table.new (λ old new.
         MovesOnly (PartKeeps S.keeps) (part_lands S.state S.lands) (shown S.state old) old at (length bytes.now) new (result_err result)) }
+    ensures came { KeepsPartOrigins (S.state base.old) part.old table.old (S.state base.new) part.new table.new (result_err result) }
 {
     let start = (part.difi.place + part.difi.master.at) as usize;
     let end = start + part.difi.master.size as usize;
@@ -110,6 +112,7 @@ pub(crate) fn clear_in<S: Space>(
     ensures moves { OfViews base.old part.old table.old base.new part.new table.new (λ old new. let block = (shown S.state old).shape in
         MovesOnly (PartKeeps S.keeps) (part_lands S.state S.lands) (shown S.state old) old (block.block_start at) (block.block_len at)
         new (result_err result)) }
+    ensures came { KeepsPartOrigins (S.state base.old) part.old table.old (S.state base.new) part.new table.new (result_err result) }
 {
     let start = (part.difi.place + part.difi.master.at) as usize;
     let end = start + part.difi.master.size as usize;

@@ -46,7 +46,7 @@ fn lone() -> Difi
 }
 
 /// The partition with nothing changed, under a number.
-fn open(alloc: Global, number: u8) -> Result<Part, AllocError>
+pub(crate) fn open(alloc: Global, number: u8) -> Result<Part, AllocError>
     ensures view { IfOk result (λ part. CanViewPart (memory_shape 110592 512) part 300) }
     ensures size { IfOk result (λ part. part.difi.ivfc4.size ≡ 34816) }
     ensures block1 { IfOk result (λ part. HasBlock part.difi 1 0) }
@@ -59,7 +59,7 @@ fn open(alloc: Global, number: u8) -> Result<Part, AllocError>
 }
 
 /// The table of an image.
-fn table_of(image: &[u8]) -> [u8; 300]
+pub(crate) fn table_of(image: &[u8]) -> [u8; 300]
     requires { length image.now ≡ 110592 }
 {
     let mut table = [0; 300];
@@ -166,20 +166,23 @@ fn four_settled(
     }
 }
 
-/// Puts the first four bytes of level four.
-fn put_first<S: Space>(
+/// Puts bytes at a place of level four.
+pub(crate) fn put_at<S: Space>(
     base: &mut S,
     part: &mut Part,
     table: &mut [u8],
-    bytes: &[u8; 4],
+    at: u64,
+    bytes: &[u8],
 ) -> Result<(), Bad>
     requires view { CanViewPart (S.state base.old).shape part.old (length table.old) }
-    requires inside { 4 ≤ part.old.difi.ivfc4.size }
+    requires inside { at + length bytes.now ≤ part.old.difi.ivfc4.size }
+    ensures shape { (S.state base.new).shape ≡ (S.state base.old).shape }
     ensures view { CanViewPart (S.state base.new).shape part.new (length table.new) }
     ensures descriptor { part.new.difi ≡ part.old.difi }
+    ensures table { length table.new ≡ length table.old }
 {
     let mut view = PartView::new(base, part, table);
-    view.put(0, bytes)
+    view.put(at, bytes)
 }
 
 /// As `four_at`, once four other bytes were put there and dropped again.
@@ -189,7 +192,7 @@ fn four_dropped(alloc: Global, image: &mut [u8]) -> Result<Result<[u8; 4], Bad>,
     let mut table = table_of(image);
     let mut part = open(alloc, 0)?;
     let mut space = MemSpace::new(image, 512);
-    match put_first(&mut space, &mut part, &mut table, b"DATA") {
+    match put_at(&mut space, &mut part, &mut table, 0, b"DATA") {
         Ok(()) => (),
         Err(bad) => return Ok(Err(bad)),
     }

@@ -1,18 +1,21 @@
 //! A partition's level four as a space.
 
-ghost use Rattle.std.specs.Prelude.{refl, ◌≡◌, ℕ, ◌≤◌, length, IsTrue, IfOk, []};
+ghost use Rattle.std.specs.Prelude.{refl, ◌≡◌, ℕ, ◌≤◌, length, replicate, IsTrue, IfOk, []};
 ghost use Rattle.std.specs.Borrow.{sem};
 ghost use Rattle.std.specs.Io.BufRead.{Rests};
 ghost use Rattle.std.specs.Result.{result_err};
-ghost use Rattle.save_bytes.specs.State.{IsInside};
+ghost use Rattle.save_bytes.specs.State.{IsInside, IsWritable, CanPut};
 ghost use Rattle.save_bytes.specs.Refusals.{NeverDamaged};
-ghost use Rattle.save_bytes.specs.Answers.{IsPiece};
+ghost use Rattle.save_bytes.specs.Answers.{IsPiece, IsReady, IsClearReady};
+ghost use Rattle.save_bytes.specs.Puts.{Puts};
+ghost use Rattle.save_bytes.specs.Spots.{MovesOnly};
 ghost use Rattle.save_bytes.specs.Reads.{Reads};
 ghost use Rattle.difi.specs.Places.{block_size};
 ghost use Rattle.ivfc_tree.specs.Levels.{HasBlock};
 ghost use Rattle.part_store.specs.FloorLaws.{shown_ground, shown_blocks, shown_alike};
 ghost use Rattle.part_store.specs.Parts.{CanViewPart, status_in, IsFound};
-ghost use Rattle.part_store.specs.Held.{shown, IsPartViewOf, PartKeeps, part_lands};
+ghost use Rattle.part_store.specs.Held.{shown, IsPartViewOf, PartKeeps, part_lands, SameNames, KeepsViewOrigins};
+ghost use Rattle.part_store.specs.Seals.{IsSealedPart};
 ghost use Rattle.std.proofs.lemmas.Bool.{false≢true};
 ghost use Rattle.part_store.specs.ViewLaws.{shown_fits, part_shape, PartKeeps-same, PartKeeps-join, PartKeeps-cells, PartKeeps-lands};
 ghost use Rattle.part_store.specs.contracts.view.PartView.{the_row};
@@ -21,6 +24,7 @@ ghost use mir.Syntax.{named};
 use crate::calls::{find, status};
 use crate::part::Part;
 use crate::puts::{clear_in, clear_ready_in, put_in, ready_in};
+use crate::seal::seal_in;
 use difi::LevelPlace;
 use ivfc_tree::Status;
 use save_bytes::{Bad, Floor, Space};
@@ -94,6 +98,24 @@ impl<'a, S: Space> PartView<'a, S> {
     }
 }
 
+impl<'a, S: Space> PartView<'a, S> {
+    /// Writes the hashes of all blocks that were put or cleared in this transaction into the levels above them and into the
+    /// master hash in the table, then which copies hold the contents, and then the selector that chooses these into the
+    /// table: the other one, which it answers. So the base and the table hold the cells as the view shows them, which
+    /// stay. The copies that were chosen keep their bytes. It is refused only where the disk below failed.
+    pub fn seal(&mut self) -> Result<u8, Bad>
+        requires { IsTrue (shown S.state self.old).shape.sound }
+        ensures names { SameNames self.old self.new }
+        ensures sealed { IsSealedPart S.state S.keeps S.lands self.old.base.now self.old.part.now self.old.table.now
+            self.new.base.now self.new.part.now self.new.table.now result }
+    {
+        let base = &mut *self.base;
+        let part = &mut *self.part;
+        let table = &mut *self.table;
+        seal_in(base, part, table)
+    }
+}
+
 // A view lends from its base what has a hash path, and writes to it below its marks.
 impl<S: Space> Space for PartView<'_, S> {
     ghost state = { shown S.state };
@@ -135,7 +157,18 @@ impl<S: Space> Space for PartView<'_, S> {
         ready_in(base, part, table, at, n)
     }
 
-    fn put(&mut self, at: u64, bytes: &[u8]) -> Result<(), Bad> {
+    /// Beside what each space promises: contents and a master hash from which the part's tree came as the transaction
+    /// began are those from which it comes.
+    fn put(&mut self, at: u64, bytes: &[u8]) -> Result<(), Bad>
+        requires { IsWritable (shown S.state self.old).shape at (length bytes.now) }
+        ensures ready { CanPut (shown S.state self.old) at (length bytes.now)
+            → IsReady (shown S.state self.old) at (length bytes.now) (result_err result) }
+        ensures plain { IsTrue (shown S.state self.old).shape.plain → NeverDamaged (result_err result) }
+        ensures puts { Puts (shown S.state self.old) at bytes.now (shown S.state self.new) (result_err result) }
+        ensures moves { MovesOnly (PartKeeps S.keeps) (part_lands S.state S.lands) (shown S.state self.old) self.old at
+            (length bytes.now) self.new (result_err result) }
+        ensures came { KeepsViewOrigins S.state self.old self.new (result_err result) }
+    {
         let base = &mut *self.base;
         let part = &mut *self.part;
         let table = &mut *self.table;
@@ -164,7 +197,19 @@ impl<S: Space> Floor for PartView<'_, S> {
         clear_ready_in(base, part, table, at)
     }
 
-    fn clear(&mut self, at: u64) -> Result<(), Bad> {
+    /// Beside what each floor promises: contents and a master hash from which the part's tree came as the transaction
+    /// began are those from which it comes.
+    fn clear(&mut self, at: u64) -> Result<(), Bad>
+        requires { IsInside (shown S.state self.old).shape at 1 }
+        ensures ready { IsClearReady (shown S.state self.old) at (result_err result) }
+        ensures puts { let block = (shown S.state self.old).shape in
+            Puts (shown S.state self.old) (block.block_start at) (replicate (block.block_len at) 0) (shown S.state self.new)
+            (result_err result) }
+        ensures moves { let block = (shown S.state self.old).shape in
+            MovesOnly (PartKeeps S.keeps) (part_lands S.state S.lands) (shown S.state self.old) self.old
+            (block.block_start at) (block.block_len at) self.new (result_err result) }
+        ensures came { KeepsViewOrigins S.state self.old self.new (result_err result) }
+    {
         let base = &mut *self.base;
         let part = &mut *self.part;
         let table = &mut *self.table;

@@ -4,6 +4,7 @@ use Rattle.part_store.specs.declared.part.Part.{Part}
 use Rattle.part_store.specs.Held.{shown}
 use Rattle.part_store.proofs.PartLemmas.{part_is_hashed}
 use Rattle.part_store.proofs.UnderLemmas.{part_puts, part_moves}
+use Rattle.part_store.proofs.SealLemmas.{came_after}
 use Rattle.part_store.proofs.puts.clear_in.Goals as goal
 
 pub returns-clause-ready : goal.returns-clause-ready
@@ -65,3 +66,20 @@ returns-clause-moves g c = λ s t over later names.
     (rw (over.base_now, over.part_now, over.table_now) c.requires.view) (block.block_start c.args.at)
     (block.block_len c.args.at) (result_err c.clear_over.result)
     (rw over.part_now c.clear_over.ensures.moves)
+
+pub returns-clause-came : goal.returns-clause-came
+returns-clause-came g c =
+    let space = g.S.Space in
+    let laws = g.met.S.Space in
+    let part = c.args.part.now in
+    let start = part.difi.place + part.difi.master.at in
+    let size : start + part.difi.master.size - start ≡ part.difi.master.size = omega arith in
+    let holds = c.new-contents.ensures.holds in
+    let over = c.clear_over in
+    let hold = over.ensures.moves.hold in
+    let shape = laws.keeps_shape c.new-contents.result.base.now over.new.contents.base.now hold.3.2 in
+    let end : _ ≡ over.new.contents.base.now = search rules in
+    came_after space.state space.keeps space.lands laws.size_fits laws.plain_bytes laws.keeps_join laws.keeps_shape c.args.base.now part
+    c.args.table.now c.requires.view c.new-contents.result over.new.contents over.new.state over.new.master _ holds.base_now
+    holds.same_place holds.same_difi holds.state_now size hold.3.0 hold.1 hold.0 (rw holds.base_now at shape)
+    (result_err over.result) over.ensures.came _ end

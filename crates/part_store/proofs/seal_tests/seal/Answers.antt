@@ -1,11 +1,11 @@
 use Rattle.std.proofs.Common.{IsTrue, sym, subst, rules}
 use Rattle.save_bytes.specs.State.{Shape}
 use Rattle.part_store.specs.PartLaws.{true-can_view_part}
-use Rattle.part_store.proofs.tests.put_first.Goals as goal
+use Rattle.part_store.proofs.seal_tests.seal.Goals as goal
 
 pub returns-clause-view : goal.returns-clause-view
 returns-clause-view g c =
-    let shape = c.put.ensures.puts.space.shape in
+    let shape = c.seal.ensures.sealed.trees.stays.space.shape in
     let sound = subst (λ (shape : Shape). IsTrue shape.sound) (sym shape) c.new-view.ensures.sound in
     let there = true-can_view_part _ _ _ sound in
     search rules
