@@ -1,0 +1,5 @@
+pub mod MarkLemmas
+pub mod StayLemmas
+pub mod CopyLemmas
+pub mod ReadLemmas
+pub mod HeadLemmas

@@ -2,7 +2,9 @@
 //! are read once, and each rule is tried on what was read.
 #![tactic(auto)]
 
+mod read;
 mod table;
 
 pub use entry_tables::{Counts, EntryFault, EntryKind, TableInfo};
+pub use read::read_tables;
 pub use table::{ReadEntry, ReadTable, ReadTables, RuleFault, TableFault};
