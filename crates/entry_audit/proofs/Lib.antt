@@ -3,3 +3,4 @@ pub mod StayLemmas
 pub mod CopyLemmas
 pub mod ReadLemmas
 pub mod HeadLemmas
+pub mod PlaceLemmas

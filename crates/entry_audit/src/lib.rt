@@ -2,9 +2,11 @@
 //! are read once, and each rule is tried on what was read.
 #![tactic(auto)]
 
+mod placed;
 mod read;
 mod table;
 
 pub use entry_tables::{Counts, EntryFault, EntryKind, TableInfo};
+pub use placed::place_fault;
 pub use read::read_tables;
 pub use table::{ReadEntry, ReadTable, ReadTables, RuleFault, TableFault};
