@@ -4,3 +4,4 @@ pub mod CopyLemmas
 pub mod ReadLemmas
 pub mod HeadLemmas
 pub mod PlaceLemmas
+pub mod NameLemmas
