@@ -12,3 +12,6 @@ pub use names::name_fault;
 pub use placed::place_fault;
 pub use read::read_tables;
 pub use table::{ReadEntry, ReadTable, ReadTables, RuleFault, TableFault};
+
+#[cfg(test)]
+mod read_tests;
