@@ -2,7 +2,16 @@
 //! are read once, and each rule is tried on what was read.
 #![tactic(auto)]
 
+mod names;
+mod placed;
+mod read;
 mod table;
 
 pub use entry_tables::{Counts, EntryFault, EntryKind, TableInfo};
+pub use names::name_fault;
+pub use placed::place_fault;
+pub use read::read_tables;
 pub use table::{ReadEntry, ReadTable, ReadTables, RuleFault, TableFault};
+
+#[cfg(test)]
+mod read_tests;
