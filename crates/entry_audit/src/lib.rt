@@ -2,7 +2,11 @@
 //! are read once, and each rule is tried on what was read.
 #![tactic(auto)]
 
+mod owned;
 mod table;
 
 pub use entry_tables::{Counts, EntryFault, EntryKind, TableInfo};
 pub use table::{ReadEntry, ReadTable, ReadTables, RuleFault, TableFault};
+
+#[cfg(test)]
+mod owned_tests;
