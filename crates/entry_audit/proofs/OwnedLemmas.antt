@@ -1,6 +1,7 @@
 -- Lists of entries, as far as they were followed.
 use Rattle.std.proofs.Common.{◌≡◌, ◌≢◌, ℕ, zero, suc, ◌+◌, ◌<◌, Bool, true, false, if◌then◌else◌}
-use Rattle.std.proofs.Common.{Option, Some, None, IfNone, List, [], ◌∷◌, ◌++◌, length, get_or, slice_index, inl, inr, refl, sym, ◌∙◌, ap, subst, arith}
+use Rattle.std.proofs.Common.{Option, Some, None, IfNone, List, [], ◌∷◌, ◌++◌, length, get_or, slice_index, inl, inr}
+use Rattle.std.proofs.Common.{refl, sym, ◌∙◌, ap, subst, arith}
 use Rattle.std.specs.List.{Contains, sum_by}
 use Rattle.std.proofs.Math.ListN.{set}
 use Rattle.std.proofs.lemmas.Bool.{cases_Bool, cases_eq, cases_lt}
@@ -32,7 +33,7 @@ unseen_less seen e below fresh =
     let was : one (get_or seen e false) ≡ 1 = ap one (not_seen (get_or seen e false) fresh) in
     omega (arith, was, sum_by-set one seen e true false below)
 
-none_within : (e : ℕ) → ¬ Contains {X = ℕ} [] e
+pub none_within : (e : ℕ) → ¬ Contains {X = ℕ} [] e
 none_within e (k, h, is) = omega (arith, h)
 
 pub followed_none : (links : List (Option Link)) (owner head : ℕ) (seen : List Bool)
@@ -115,7 +116,7 @@ one_owner : (link : Option Link) (owner other : ℕ) → MayStandIn owner link �
 one_owner None owner other may too = absurd may
 one_owner (Some link) owner other may too = sym may ∙ too
 
-must_may : (link : Option Link) (owner : ℕ) → MustStandIn owner link → MayStandIn owner link
+pub must_may : (link : Option Link) (owner : ℕ) → MustStandIn owner link → MayStandIn owner link
 must_may None owner must = must
 must_may (Some link) owner must = must.0
 
@@ -124,14 +125,6 @@ pub must_inside : (links : List (Option Link)) (owner e : ℕ) → MustStandIn o
 must_inside [] owner e must = absurd must
 must_inside (x ∷ xs) owner zero must = omega arith
 must_inside (x ∷ xs) owner (suc e) must = omega (arith, must_inside xs owner e must)
-
-pub all_none : (links : List (Option Link)) (heads : List ℕ) (seen : List Bool) → ((e : ℕ) → ¬ IsSeen seen e)
-    → AreFollowed links heads seen 0
-all_none links heads seen fresh = record {
-  ended = λ owner below. absurd (omega (arith, below));
-  marked = λ owner below. absurd (omega (arith, below));
-  only = λ e is. absurd (fresh e is);
-}
 
 module _ {links : List (Option Link)} {heads : List ℕ} {seen : List Bool} {n : ℕ}
     (h : AreFollowed links heads seen n) where

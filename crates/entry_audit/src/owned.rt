@@ -74,7 +74,7 @@ fn behind(links: &[Option<Link>], seen: &[bool], list: u32, entry: u32) -> Optio
 {
     match links.get(entry as usize) {
         Some(Some(link)) if link.owner == list && !seen[entry as usize] => Some(link.next),
-        _ => None,
+        Some(_) | None => None,
     }
 }
 

@@ -18,7 +18,7 @@ fn may(next: u32, owner: u32) -> Option<Link> {
     })
 }
 
-// Entries 1 and 3 belong to list 0, and 2 to list 1, in which 4 may stand too. What is no entry is 5, and 6 past the end.
+// Entries 1 and 3 belong to list 0, and 2 to list 1, in which 4 may stand too. 5 is no entry, and 6 is past the end.
 #[test]
 fn lists_that_are_not_as_they_should_be_are_named(rt: HostRuntime) {
     for (heads, nexts, found) in [
