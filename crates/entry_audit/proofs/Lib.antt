@@ -5,3 +5,5 @@ pub mod ReadLemmas
 pub mod HeadLemmas
 pub mod PlaceLemmas
 pub mod NameLemmas
+pub mod ListedLemmas
+pub mod OwnedLemmas

@@ -1,5 +1,5 @@
 -- Lists of allocation entries that were walked under a set of those that were met: where each is at fault.
-use Rattle.std.specs.Prelude.{◌≡◌, ◌≢◌, ℕ, ◌+◌, ◌*◌, ◌<◌, ◌≤◌, IsTrue, List, length, Option, Some, None, Result, Ok, Err, ⊤}
+use Rattle.std.specs.Prelude.{◌≡◌, ◌≢◌, ℕ, ◌+◌, ◌*◌, ◌<◌, ◌≤◌, IsTrue, List, length, All, Option, Some, None, Result, Ok, Err, ⊤}
 use Rattle.save_bytes.specs.declared.space.Bad.{Bad}
 use Rattle.save_bytes.specs.Cells.{Cell}
 use Rattle.save_bytes.specs.State.{State}
@@ -13,6 +13,8 @@ use Rattle.held_lists.specs.declared.set.EntrySet.{EntrySet}
 use Rattle.held_lists.specs.Walks.{IsListFault}
 use Rattle.tree_rules.specs.declared.information.TableAt.{TableAt}
 use Rattle.tree_rules.specs.declared.information.TableAt.TheVariants.{Plainly, InChain}
+use Rattle.tree_rules.specs.declared.information.Places.{Places}
+use Rattle.tree_rules.specs.Places.{blocks_in_chain}
 use Rattle.tree_rules.specs.Lists.{no_block}
 use Rattle.tree_rules.specs.Fails.{IsWrongFile}
 use Rattle.save_mount.specs.declared.lists.FileFault.{FileFault}
@@ -74,3 +76,8 @@ pub record HasFileCause (s : State) (info : ChainInfo) (start size : ℕ) (befor
   pub chain : FaultsOnly s info (IsFileFault (table_in s.cells info) info.count start before)
       (FileNeeds (table_in s.cells info) info.count start) (chain_of result)
   pub wrong : IsTrue s.told → IfWrong result (IsWrongFile (table_in s.cells info) info start size)
+
+-- these are data blocks, as many as both tables have in their chains
+pub record AreTableBlocks (p : Places) (blocks : List ℕ) : Type 0 where
+  pub inside : All (λ block. block < p.chain.count) blocks
+  pub count : length blocks ≡ blocks_in_chain p.dirs.table + blocks_in_chain p.files.table
