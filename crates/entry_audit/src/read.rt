@@ -1,7 +1,7 @@
 //! Reading both tables and their buckets, each used entry once.
 
-ghost use Rattle.std.specs.Prelude.{◌≡◌, ℕ, ◌+◌, ◌*◌, ◌/◌, ◌<◌, ◌≤◌, length, get_or, slice_index, false, IsTrue, IfOk};
-ghost use Rattle.std.specs.Prelude.{OnOk};
+ghost use Rattle.std.specs.Prelude.{◌≡◌, ℕ, ◌+◌, ◌*◌, ◌/◌, ◌<◌, ◌≤◌, length, take, drop, get_or, slice_index, false};
+ghost use Rattle.std.specs.Prelude.{IsTrue, IfOk, OnOk};
 ghost use Rattle.std.specs.Result.{result_err};
 ghost use Rattle.save_bytes.specs.Fields.{number_at};
 ghost use Rattle.save_bytes.specs.Cells.{IsByte};
@@ -122,9 +122,12 @@ fn freed_marks<S: Space>(
     Err(names_wrongly(kind, from))
 }
 
-// A directory's fields, in its bytes.
-fn dir_fields(bytes: &[u8; 40]) -> ReadEntry
-    ensures { HasBytes Dir bytes.now result }
+// The fields that come first in the bytes of an entry of either kind.
+fn first_fields(bytes: &[u8]) -> ReadEntry
+    requires { 40 ≤ length bytes.now }
+    ensures parent { result.parent ≡ number_at 4 bytes.now 0 }
+    ensures name { result.name.0 ≡ take 16 (drop 4 bytes.now) }
+    ensures sibling { result.sibling ≡ number_at 4 bytes.now 0x14 }
 {
     let mut name = [0; 16];
     name.copy_from_slice(&bytes[4..20]);
@@ -132,63 +135,36 @@ fn dir_fields(bytes: &[u8; 40]) -> ReadEntry
         parent: u32_at(bytes, 0),
         name: Name(name),
         sibling: u32_at(bytes, 0x14),
-        link: u32_at(bytes, 0x24),
-        first_dir: u32_at(bytes, 0x18),
-        first_file: u32_at(bytes, 0x1C),
+        link: 0,
+        first_dir: 0,
+        first_file: 0,
         start: 0,
         wide: 0,
     }
 }
 
-// A file's.
-fn file_fields(bytes: &[u8; 48]) -> ReadEntry
-    ensures { HasBytes File bytes.now result }
+// All fields, in an entry's bytes.
+fn all_fields(kind: EntryKind, bytes: &[u8]) -> ReadEntry
+    requires { length bytes.now ≡ entry_size kind }
+    ensures { HasBytes kind bytes.now result }
 {
-    let mut name = [0; 16];
-    name.copy_from_slice(&bytes[4..20]);
-    ReadEntry {
-        parent: u32_at(bytes, 0),
-        name: Name(name),
-        sibling: u32_at(bytes, 0x14),
-        link: u32_at(bytes, 0x2C),
-        first_dir: 0,
-        first_file: 0,
-        start: u32_at(bytes, 0x1C),
-        wide: u64_at(bytes, 0x20),
+    match kind {
+        EntryKind::Dir => ReadEntry {
+            link: u32_at(bytes, 0x24),
+            first_dir: u32_at(bytes, 0x18),
+            first_file: u32_at(bytes, 0x1C),
+            ..first_fields(bytes)
+        },
+        EntryKind::File => ReadEntry {
+            link: u32_at(bytes, 0x2C),
+            start: u32_at(bytes, 0x1C),
+            wide: u64_at(bytes, 0x20),
+            ..first_fields(bytes)
+        },
     }
 }
 
-// A directory, by one copy of its bytes.
-fn read_dir<S: Space>(space: &mut S, info: TableInfo, entry: u32) -> Result<ReadEntry, Bad>
-    requires { HasEntryTable (S.state space.old).shape Dir info }
-    ensures fields { TellsEntryTable (S.state space.old) Dir info → entry < most_in (S.state space.old).cells info
-        → IfOk result (IsCopied Dir info (S.state space.old).cells entry) }
-    ensures damaged { IsTrue (S.state space.old).told → IfDamaged (result_err result)
-        (BlamesBytes Dir info (entry_place Dir info entry + 0) (entry_size Dir) (S.state space.old).cells) }
-    ensures plain { IsTrue (S.state space.old).shape.plain → NeverDamaged (result_err result) }
-    ensures reads { Reads S.state S.keeps S.lands space.old space.new (result_err result) }
-{
-    let mut bytes = [0; 40];
-    entry_bytes(space, EntryKind::Dir, info, entry, 0, &mut bytes)?;
-    Ok(dir_fields(&bytes))
-}
-
-// A file.
-fn read_file<S: Space>(space: &mut S, info: TableInfo, entry: u32) -> Result<ReadEntry, Bad>
-    requires { HasEntryTable (S.state space.old).shape File info }
-    ensures fields { TellsEntryTable (S.state space.old) File info → entry < most_in (S.state space.old).cells info
-        → IfOk result (IsCopied File info (S.state space.old).cells entry) }
-    ensures damaged { IsTrue (S.state space.old).told → IfDamaged (result_err result)
-        (BlamesBytes File info (entry_place File info entry + 0) (entry_size File) (S.state space.old).cells) }
-    ensures plain { IsTrue (S.state space.old).shape.plain → NeverDamaged (result_err result) }
-    ensures reads { Reads S.state S.keeps S.lands space.old space.new (result_err result) }
-{
-    let mut bytes = [0; 48];
-    entry_bytes(space, EntryKind::File, info, entry, 0, &mut bytes)?;
-    Ok(file_fields(&bytes))
-}
-
-// An entry of either kind.
+// An entry, by one copy of its bytes.
 fn read_entry<S: Space>(
     space: &mut S,
     kind: EntryKind,
@@ -203,10 +179,10 @@ fn read_entry<S: Space>(
     ensures plain { IsTrue (S.state space.old).shape.plain → NeverDamaged (result_err result) }
     ensures reads { Reads S.state S.keeps S.lands space.old space.new (result_err result) }
 {
-    match kind {
-        EntryKind::Dir => read_dir(space, info, entry),
-        EntryKind::File => read_file(space, info, entry),
-    }
+    let mut most = [0; 48];
+    let bytes = &mut most[..kind.entry_size() as usize];
+    entry_bytes(space, kind, info, entry, 0, bytes)?;
+    Ok(all_fields(kind, bytes))
 }
 
 // Whether an entry is used, where the freed ones are marked.
