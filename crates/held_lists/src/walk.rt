@@ -1,6 +1,6 @@
 //! Walking a list of allocation entries under a set of those that were met.
 
-ghost use Rattle.std.specs.Prelude.{◌≡◌, ◌≢◌, ℕ, ◌+◌, ◌-◌, ◌^◌, ◌<◌, ◌≤◌, min, IsTrue, IfOk, OnOk, List, length, ◌++◌, ◌∷◌, [], map, take};
+ghost use Rattle.std.specs.Prelude.{◌≡◌, ◌≢◌, ℕ, ◌+◌, ◌-◌, ◌^◌, ◌<◌, ◌≤◌, min, IsTrue, IfOk, OnOk, All, List, length, ◌++◌, ◌∷◌, [], map, take};
 ghost use Rattle.std.specs.Result.{result_err};
 ghost use Rattle.std.specs.List.{range_with_len};
 ghost use Rattle.save_bytes.specs.Reads.{Reads};
@@ -131,7 +131,9 @@ pub enum HoldFault {
 // Adds `n` numbers, from `first` on.
 fn push_run(numbers: &mut Vec<u32>, first: u32, n: u32) -> Result<(), AllocError>
     requires { first + n < 2 ^ 32 }
-    ensures { OnOk result (numbers.new.items ≡ numbers.old.items ++ range_with_len first n) }
+    ensures added { OnOk result (numbers.new.items ≡ numbers.old.items ++ range_with_len first n) }
+    ensures below { (end : ℕ) → first + n ≤ end → All (λ number. number < end) numbers.old.items
+        → OnOk result (All (λ number. number < end) numbers.new.items) }
 {
     for number in first..first + n {
         numbers.push(number)?;
@@ -157,6 +159,8 @@ pub fn hold_blocks<S: Space>(
         × ((n ≡ length list) × (blocks.new.items ≡ blocks.old.items ++ map (λ entry. entry - 1) (take most list)))) }
     ensures small { IfOk result (λ n. n ≤ info.count) }
     ensures len { IfOk result (λ n. length blocks.new.items ≡ length blocks.old.items + min most n) }
+    ensures inside { All (λ block. block < info.count) blocks.old.items
+        → OnOk result (All (λ block. block < info.count) blocks.new.items) }
     ensures faults { let table = table_in (S.state base.old).cells info in
         FaultsOnly (S.state base.old) info (IsListFault table info.count Opens first held.old)
         (FailsAt table info.count Opens first) (chain_fault_of result) }

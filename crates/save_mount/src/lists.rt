@@ -1,6 +1,6 @@
 //! The lists of allocation entries, each walked once.
 
-ghost use Rattle.std.specs.Prelude.{◌≡◌, ◌≢◌, ◌⊎◌, ℕ, ◌+◌, ◌<◌, ◌≤◌, IsTrue, IfOk, List, [], length, ◌++◌};
+ghost use Rattle.std.specs.Prelude.{◌≡◌, ◌≢◌, ◌⊎◌, ℕ, ◌+◌, ◌<◌, ◌≤◌, IsTrue, IfOk, OnOk, All, List, [], length, ◌++◌};
 ghost use Rattle.std.specs.Result.{result_err};
 ghost use Rattle.save_bytes.specs.Reads.{Reads};
 ghost use Rattle.chain_nodes.specs.declared.node.Lead.TheVariants.{Opens};
@@ -10,7 +10,7 @@ ghost use Rattle.chain_nodes.specs.Faults.{FailsAt, IsFreeNeeded, refusal_of, Fa
 ghost use Rattle.held_lists.specs.Sets.{HasRoomFor};
 ghost use Rattle.held_lists.specs.Walks.{TakesAll, IsListFault, chain_fault_of};
 ghost use Rattle.tree_rules.specs.Lists.{IsTableList, IsFileList};
-ghost use Rattle.tree_rules.specs.Places.{table_blocks};
+ghost use Rattle.tree_rules.specs.Places.{blocks_in_chain, table_blocks};
 ghost use Rattle.save_mount.specs.Held.{
   IsFreeFault,
   TableLies,
@@ -77,6 +77,9 @@ pub fn hold_table<S: Space>(
         × (IsTableList (table_in (S.state base.old).cells info) info.count at.now list
         × (TakesAll held.old held.new list
         × (blocks.new.items ≡ blocks.old.items ++ table_blocks at.now list)))) }
+    ensures len { OnOk result (length blocks.new.items ≡ length blocks.old.items + blocks_in_chain at.now) }
+    ensures inside { All (λ block. block < info.count) blocks.old.items
+        → OnOk result (All (λ block. block < info.count) blocks.new.items) }
     ensures faults { let table = table_in (S.state base.old).cells info in
         FaultsOnly (S.state base.old) info (IsTableFault table info.count at.now held.old)
         (TableNeeds table info.count at.now) (chain_fault_of result) }

@@ -1,6 +1,6 @@
 //! The free list and the chains of the tables.
 
-ghost use Rattle.std.specs.Prelude.{◌≡◌, ◌⊎◌, ℕ, ◌≤◌, IsTrue, IfOk, IfErr, List, [], length, ◌++◌};
+ghost use Rattle.std.specs.Prelude.{◌≡◌, ◌⊎◌, ℕ, ◌≤◌, ◌+◌, ◌<◌, IsTrue, IfOk, IfErr, OnOk, All, List, [], length, ◌++◌};
 ghost use Rattle.save_bytes.specs.Reads.{Reads};
 ghost use Rattle.chain_nodes.specs.Table.{table_in, HasAllocationTable};
 ghost use Rattle.chain_nodes.specs.Chains.{IsFreeList};
@@ -8,8 +8,8 @@ ghost use Rattle.chain_nodes.specs.Faults.{IsFreeNeeded};
 ghost use Rattle.held_lists.specs.Sets.{HasRoomFor};
 ghost use Rattle.held_lists.specs.Walks.{TakesAll};
 ghost use Rattle.tree_rules.specs.Lists.{Holder, IsTableList};
-ghost use Rattle.tree_rules.specs.Places.{table_blocks};
-ghost use Rattle.save_mount.specs.Held.{TableLies, IsTableFault, TableNeeds};
+ghost use Rattle.tree_rules.specs.Places.{blocks_in_chain, table_blocks};
+ghost use Rattle.save_mount.specs.Held.{TableLies, IsTableFault, TableNeeds, AreTableBlocks};
 ghost use Rattle.save_mount.specs.Causes.{refusal_in, HasListCause};
 ghost use Rattle.save_mount.specs.Structure.{IsFreeHeld, FailsFree, HasStructure, FailsInStructure, NeedsStructure};
 
@@ -44,6 +44,7 @@ fn with_free<S: Space>(
     ensures cause { let table = table_in (S.state base.old).cells info in IsTrue (S.state base.old).told
         → IfErr result (HasListCause (S.state base.old).cells info
         (FailsFree table info.count) (IsFreeNeeded table info.count)) }
+    ensures no_blocks { IfOk result (λ found. found.blocks.items ≡ []) }
     ensures room { IfOk result (λ found. (entry : ℕ) → entry ≤ info.count → HasRoomFor found.held entry) }
     ensures reads { Reads S.state S.keeps S.lands base.old base.new (refusal_in result) }
 {
@@ -73,6 +74,9 @@ fn with_table<S: Space>(
         × (TakesAll found.old.held found.new.held list
         × (found.new.blocks.items ≡ found.old.blocks.items ++ table_blocks at.now list)))) }
     ensures free { found.new.free ≡ found.old.free }
+    ensures len { OnOk result (length found.new.blocks.items ≡ length found.old.blocks.items + blocks_in_chain at.now) }
+    ensures inside { All (λ block. block < info.count) found.old.blocks.items
+        → OnOk result (All (λ block. block < info.count) found.new.blocks.items) }
     ensures cause { let table = table_in (S.state base.old).cells info in IsTrue (S.state base.old).told
         → IfErr result (HasListCause (S.state base.old).cells info
         (IsTableFault table info.count at.now found.old.held) (TableNeeds table info.count at.now)) }
@@ -100,6 +104,7 @@ pub(crate) fn hold_structure<S: Space>(
     ensures cause { IsTrue (S.state base.old).told → IfErr result (HasListCause (S.state base.old).cells p.now.chain
         (FailsInStructure (S.state base.old).cells p.now)
         (NeedsStructure (table_in (S.state base.old).cells p.now.chain) p.now)) }
+    ensures blocks { IfOk result (λ found. AreTableBlocks p.now found.blocks.items) }
     ensures room { IfOk result (λ found. (entry : ℕ) → entry ≤ p.now.chain.count → HasRoomFor found.held entry) }
     ensures reads { Reads S.state S.keeps S.lands base.old base.new (refusal_in result) }
 {

@@ -15,6 +15,7 @@ loop-at-init g c = record {
   passed = omega arith;
   room = λ entry h. h;
   len = omega arith;
+  inside = λ old. old;
   walked = λ told. (
     [],
     (
@@ -42,19 +43,21 @@ loop-at-preserved g c =
       room = λ entry h. step.room entry (before.room entry h);
       len = omega (
         arith,
-        ap (λ (l : List ℕ). length l) c.in-Ok-push_run.ensures,
+        ap (λ (l : List ℕ). length l) c.in-Ok-push_run.ensures.added,
         length-append c.loop-at.blocks.items (range_with_len (c.in-Ok.node.first - 1) c.wanted-n.result),
         length-range_with_len (c.in-Ok.node.first - 1) c.wanted-n.result,
         c.wanted-n.ensures,
         step.passed,
         before.len,
       );
+      inside = λ old. c.in-Ok-push_run.ensures.below c.args.info.count
+          (omega (arith, c.wanted-n.ensures, step.some, step.inside, step.ordered, step.passed)) (before.inside old);
       walked = λ told. (
         (before.walked told).0 ++ c.in-Ok.node ∷ [],
         (
           walked_later c.requires.table before.reads.stays step.walked told Opens c.args.first c.args.held.now
               (before.walked told).0 (before.walked told).1.0,
-          c.in-Ok-push_run.ensures ∙ blocks_more c.args.most c.loop-at.at.passed (before.walked told).0 c.in-Ok.node
+          c.in-Ok-push_run.ensures.added ∙ blocks_more c.args.most c.loop-at.at.passed (before.walked told).0 c.in-Ok.node
               c.loop-at.blocks.items c.args.blocks.now.items c.wanted-n.result step.some
               (before.walked told).1.0.passed (before.walked told).1.1 (omega (arith, c.wanted-n.ensures, step.passed)),
         ),

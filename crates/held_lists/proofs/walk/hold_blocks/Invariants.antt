@@ -1,4 +1,5 @@
-use Rattle.std.proofs.Common.{◌≡◌, ℕ, ◌+◌, ◌-◌, ◌≤◌, IsTrue, None, List, length, min, map, take, ◌++◌}
+use Rattle.std.specs.List.{All}
+use Rattle.std.proofs.Common.{◌<◌, ◌≡◌, ℕ, ◌+◌, ◌-◌, ◌≤◌, IsTrue, None, List, length, min, map, take, ◌++◌}
 use Rattle.save_bytes.specs.Reads.{Reads}
 use Rattle.chain_nodes.specs.declared.node.Node.{Node}
 use Rattle.chain_nodes.specs.declared.node.Lead.TheVariants.{Opens}
@@ -14,6 +15,7 @@ invariant-loop-at g l = record {
   passed : l.at.passed ≤ l.info.count;
   room : (entry : ℕ) → HasRoomFor l.initial.held entry → HasRoomFor l.held entry;
   len : length l.blocks.items ≡ length l.initial.blocks.items + min l.most l.at.passed;
+  inside : All (λ block. block < l.info.count) l.initial.blocks.items → All (λ block. block < l.info.count) l.blocks.items;
   walked : IsTrue (g.S.Space.state l.initial.base).told → (nodes : List Node)
       × (IsWalkedBy (table_in (g.S.Space.state l.initial.base).cells l.info) l.info.count Opens l.first
       l.initial.held nodes l.at l.held

@@ -47,3 +47,22 @@ returns-in-Plainly-clause-held g c told =
     × (c.args.blocks.now.items ≡ c.args.blocks.now.items ++ table_blocks at list))))
     (sym c.in-Plainly.is)
     ([], (refl, (takes_none c.args.held.now, sym (append-nil c.args.blocks.now.items))))
+
+pub returns-else-len-most-clause-held : goal.returns-else-len-most-clause-held
+returns-else-len-most-clause-held g c told =
+    let walked = c.in-Ok.ensures.held told in
+    subst (λ (at : TableAt). (list : List ℕ)
+    × (IsTableList (table_in (g.S.Space.state c.args.base.now).cells c.args.info) c.args.info.count at list
+    × (TakesAll c.args.held.now c.hold_blocks.new.held list
+    × (c.hold_blocks.new.blocks.items ≡ c.args.blocks.now.items ++ table_blocks at list))))
+    (sym c.in-InChain.is) (
+      walked.0,
+      (
+        (
+          chain_list (table_in (g.S.Space.state c.args.base.now).cells c.args.info) c.args.info.count
+              (c.in-InChain.first + 1) c.args.held.now c.hold_blocks.new.held walked.0 (omega arith) walked.1,
+          omega (arith, walked.2.0, c.if-len-most.false),
+        ),
+        (walked.1.takes, walked.2.1),
+      ),
+    )
