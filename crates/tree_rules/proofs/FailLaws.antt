@@ -116,10 +116,9 @@ module _ (kind : TreeKind) (table : ℕ → ℕ → Cell) (p : Places) (few : p.
       let own = links holder r.is_holder in
       let rest = front_of table p.chain.count few (lead_of holder) r.nodes own.linked.nodes r.next 0 r.named
       (omega arith)
-      r.linked own.linked.linked (r.starts ∙ sym own.linked.starts) (inl refl) in
-      (
-          entries_of rest.rest,
-          sym own.linked.entries ∙ ap entries_of rest.whole ∙ entries_of-append r.nodes rest.rest,
+      r.linked own.linked.linked (r.starts ∙ sym own.linked.starts) (inl refl) in (
+        entries_of rest.rest,
+        sym own.linked.entries ∙ ap entries_of rest.whole ∙ entries_of-append r.nodes rest.rest,
       )
 
   reached_within : (holder : Holder) (entry : ℕ) → IsReachedBy kind table p t holder entry → Contains
