@@ -57,14 +57,23 @@ few_between (suc n) list once =
     let next : n + 1 ≡ suc n = omega arith in
     subst (λ (m : ℕ). count_between 1 m list ≤ m) next all
 
--- so a chain has no more blocks than the table
+-- so nodes in which no entry stands twice have no more of them than the table
+pub nodes_few : (table : ℕ → ℕ → Cell) (count : ℕ) (lead : Lead) (nodes : List Node) (next : ℕ)
+    → AreNodes table count lead nodes next → IsDistinct nat_eq (entries_of nodes) → length (entries_of nodes) ≤ count
+nodes_few table count lead nodes next linked once =
+    omega (
+      arith,
+      count_between-all table count lead nodes next linked,
+      few_between count (entries_of nodes) (distinct_once (entries_of nodes) once),
+    )
+
+-- and a chain has no more blocks
 pub chain_few : (table : ℕ → ℕ → Cell) (count : ℕ) (lead : Lead) (first : ℕ) (list : List ℕ)
     → IsLinkedBy table count lead first list → IsDistinct nat_eq list → length list ≤ count
 chain_few table count lead first list linked once =
-    let all : count_between 1 count list ≡ length list =
-    subst (λ (l : List ℕ). count_between 1 count l ≡ length l) linked.entries
-    (count_between-all table count lead linked.nodes 0 linked.linked) in
-    omega (arith, all, few_between count list (distinct_once list once))
+    subst (λ (l : List ℕ). length l ≤ count) linked.entries
+    (nodes_few table count lead linked.nodes 0 linked.linked
+    (subst (λ (l : List ℕ). IsDistinct nat_eq l) (sym linked.entries) once))
 
 module _ (table : ℕ → ℕ → Cell) (count : ℕ) (few : count < 2 ^ 31) where
   module _ (lead : Lead) (node : Node) (next : ℕ) (inside : next ≤ count) (h : IsNode table count lead node next) where

@@ -42,7 +42,7 @@ fn has_second(kind: TreeKind, split: Option<u64>) -> bool
 }
 
 /// Where the first part ends, of a store of so many bytes.
-fn front_len(split: Option<u64>, size: u64) -> u64
+pub fn front_len(split: Option<u64>, size: u64) -> u64
     ensures { result ≡ front_len split size }
 {
     split.unwrap_or(size)

@@ -4,7 +4,7 @@
 mod faults;
 mod reading;
 
-pub use faults::{place_fault, places_of, table_fault};
+pub use faults::{front_len, place_fault, places_of, table_fault};
 pub use reading::{read_header, read_information};
 
 #[cfg(test)]

@@ -12,6 +12,8 @@ use Rattle.chain_nodes.specs.Table.{table_in}
 use Rattle.chain_nodes.specs.Chains.{entries_of, IsLinkedBy}
 use Rattle.chain_nodes.specs.Faults.{IsBroken}
 use Rattle.chain_nodes.proofs.ListLemmas.{entries_of-append}
+use Rattle.chain_nodes.proofs.CountLemmas.{distinct_once}
+use Rattle.chain_nodes.proofs.DistinctLemmas.{distinct_left}
 use Rattle.chain_nodes.proofs.FrontLemmas.{front_of}
 use Rattle.chain_nodes.proofs.ExactLemmas.{no_break, no_free_break, chain_few}
 use Rattle.entry_tables.specs.declared.table.EntryKind.{EntryKind}
@@ -32,9 +34,9 @@ use Rattle.tree_rules.specs.Lists.{IsListOf}
 use Rattle.tree_rules.specs.Lists.IsFileList.{HasNone, HasSome}
 use Rattle.tree_rules.specs.Trees.{table_chains, IsConsistentTree}
 use Rattle.tree_rules.specs.Fails.{lead_of, first_of, file_first, table_first, IsHolder, IsListBroken, IsReachedBy}
-use Rattle.tree_rules.specs.Fails.{IsShortTable, IsWrongFile, TreeFailsAt, BreaksAt}
+use Rattle.tree_rules.specs.Fails.{IsTwiceIn, IsShortTable, IsWrongFile, TreeFailsAt, BreaksAt}
 use Rattle.tree_rules.specs.Fails.IsWrongFile.{NoneButBytes, PastTheBlocks, TooShort}
-use Rattle.tree_rules.specs.Fails.TreeFailsAt.{OfList, OfTwo, OfShort, OfTables, OfWrongFile}
+use Rattle.tree_rules.specs.Fails.TreeFailsAt.{OfList, OfTwo, OfTwice, OfShort, OfTables, OfWrongFile}
 use Rattle.tree_rules.specs.Fails.BreaksAt.{BeforeTables, InTables}
 use Rattle.tree_rules.proofs.ListLaws.{one_table_list, one_chain}
 use Rattle.tree_rules.proofs.OneTree.{few_entries, tables_same}
@@ -107,17 +109,31 @@ module _ (kind : TreeKind) (table : ℕ → ℕ → Cell) (p : Places) (few : p.
   list_whole (OfTable entries) there entry = unbroken Opens _ _ (links (OfTable entries) there) entry
   list_whole (OfFile e) there entry = unbroken Opens _ _ (links (OfFile e) there) entry
 
-  -- what is reached is in the list
-  reached_within : (holder : Holder) (entry : ℕ) → IsReachedBy kind table p t holder entry → Contains
-      (lists holder) entry
-  reached_within holder entry r =
+  -- what is reached is in the list, of which these nodes are the front
+  reached_front : (holder : Holder) (entry : ℕ) → (r : IsReachedBy kind table p t holder entry)
+      → (rest : List ℕ) × (lists holder ≡ entries_of r.nodes ++ rest)
+  reached_front holder entry r =
       let own = links holder r.is_holder in
       let rest = front_of table p.chain.count few (lead_of holder) r.nodes own.linked.nodes r.next 0 r.named
       (omega arith)
-      r.linked own.linked.linked (r.starts ∙ sym own.linked.starts) (inl refl) in
-      let whole : lists holder ≡ entries_of r.nodes ++ entries_of rest.rest =
-      sym own.linked.entries ∙ ap entries_of rest.whole ∙ entries_of-append r.nodes rest.rest in
-      rw whole (Contains-append_left (entries_of r.nodes) (entries_of rest.rest) entry r.within)
+      r.linked own.linked.linked (r.starts ∙ sym own.linked.starts) (inl refl) in (
+        entries_of rest.rest,
+        sym own.linked.entries ∙ ap entries_of rest.whole ∙ entries_of-append r.nodes rest.rest,
+      )
+
+  reached_within : (holder : Holder) (entry : ℕ) → IsReachedBy kind table p t holder entry → Contains
+      (lists holder) entry
+  reached_within holder entry r =
+      let front = reached_front holder entry r in
+      rw front.1 (Contains-append_left (entries_of r.nodes) front.0 entry r.within)
+
+  -- and no entry is twice in them
+  twice_not : (holder : Holder) (entry : ℕ) → ¬ IsTwiceIn kind table p t holder entry
+  twice_not holder entry two =
+      let front = reached_front holder entry two.reached in
+      let once = distinct_left (entries_of two.reached.nodes) front.0
+      (subst (λ (l : List ℕ). IsDistinct nat_eq l) front.1 (links holder two.reached.is_holder).once) in
+      omega (arith, two.twice, distinct_once (entries_of two.reached.nodes) once entry)
 
   short_not : (entries : EntryKind) (entry : ℕ) → ¬ IsShortTable table p entries entry
   short_not entries entry short =
@@ -134,6 +150,7 @@ module _ (kind : TreeKind) (table : ℕ → ℕ → Cell) (p : Places) (few : p.
     nothing_fails number entry (OfList holder there is broken) = list_whole holder there entry broken
     nothing_fails number entry (OfTwo one other different is here there) =
         different (apart one other entry (reached_within one entry here) (reached_within other entry there))
+    nothing_fails number entry (OfTwice holder is two) = twice_not holder entry two
     nothing_fails number entry (OfShort entries is short) = short_not entries entry short
     nothing_fails number entry (OfTables fails) = nowhere_fails t number entry orderly fails
     nothing_fails number entry (OfWrongFile is_save is used wrong) =

@@ -131,7 +131,7 @@ module _ (kind : TreeKind) (size : ℕ) (split : Option ℕ) (cells new : ℕ �
     low,
     count_is,
     chain_is,
-    layout.chain_inside,
+    layout.places.chain_inside,
     h.inside,
   )
 
@@ -140,18 +140,18 @@ module _ (kind : TreeKind) (size : ℕ) (split : Option ℕ) (cells new : ℕ �
   end_inside false = h.inside
 
   wide : 1 ≤ p.chain.block
-  wide = rw (block_is, layout.block) (pow_pos layout.log)
+  wide = rw (block_is, layout.places.block) (pow_pos layout.places.log)
 
   region_there : p.chain.region_at + p.chain.count * p.chain.block ≤ size
-  region_there = rw (count_is, block_is) (omega (arith, layout.region_inside, end_inside (has_second kind split)))
+  region_there = rw (count_is, block_is) (omega (arith, layout.places.region_inside, end_inside (has_second kind split)))
 
   laid_there : (y : ℕ) → laid_place (tables_extra p (table_chains lists)) size y < size
   laid_there = laid_below size p (table_chains lists) (λ table. entries (OfTable table))
-      (omega (arith, count_is, layout.count.least)) wide region_there
+      (omega (arith, count_is, layout.places.count.least)) wide region_there
 
   inside : (x : ℕ) → IsStructure size info p lists t x → x < size
-  inside x (InHeader below) = omega (arith, below, layout.behind_header, layout.information_inside, h.inside)
-  inside x (InInformation within) = omega (arith, within.before, layout.information_inside, h.inside)
+  inside x (InHeader below) = omega (arith, below, layout.places.behind_header, layout.places.information_inside, h.inside)
+  inside x (InInformation within) = omega (arith, within.before, layout.places.information_inside, h.inside)
   inside x (InFirstEntry within) = entry_inside 0 x (omega arith) within
   inside x (InList holder entry listed within) =
       entry_inside entry x

@@ -17,9 +17,12 @@ use Rattle.tree_rules.specs.declared.information.TableAt.{TableAt}
 use Rattle.tree_rules.specs.declared.information.TableAt.TheVariants.{Plainly, InChain}
 use Rattle.tree_rules.specs.declared.information.Places.{Places}
 use Rattle.tree_rules.specs.Places.{places_of}
+use Rattle.std.proofs.Common.{List, [], ◌∷◌}
+use Rattle.container_header.specs.Conditions.{first_failing}
 use Rattle.tree_rules.specs.Layout.{of_either, is_outside, is_block_size, passes_end, is_misplaced, is_too_long}
 use Rattle.tree_rules.specs.Layout.{is_bad_most, place_faults, table_faults, layout_fault}
-use Rattle.tree_rules.specs.Sound.{LiesBetween, IsTablePlace, HasTableRoom, least_most, largest_most, HasLayout}
+use Rattle.tree_rules.specs.Sound.{LiesBetween, IsTablePlace, HasTableRoom, least_most, largest_most, HasPlaces}
+use Rattle.tree_rules.specs.Sound.{HasLayout}
 use Rattle.tree_rules.specs.Places.{table_lies}
 use Rattle.tree_rules.specs.Information.{fields_on}
 
@@ -100,21 +103,30 @@ most_to : (kind : EntryKind) (most : ℕ) → LiesBetween (least_most kind) (lar
 most_to Dir most h = between_to 2 8194 most h
 most_to File most h = between_to 1 8193 most h
 
-module _ (kind : TreeKind) (split : Option ℕ) (size : ℕ) (info : Information) (t : Tables) where
-  pub layout_from : layout_fault kind split size info t ≡ None
-      → HasLayout kind split size info (places_of kind split info) t
-  unfolding place_faults table_faults
-  layout_from none =
+not_false : (b : Bool) → not b ≡ false → b ≡ true
+not_false true e = refl
+not_false false e = cc
+
+-- no test of two lists fails
+none_front : (n : ℕ) (xs ys : List Bool) → first_failing n (xs ++ ys) ≡ None → first_failing n xs ≡ None
+none_front n [] ys none = refl
+none_front n (true ∷ xs) ys none = none
+none_front n (false ∷ xs) ys none = none_front (n + 1) xs ys none
+
+module _ (kind : TreeKind) (split : Option ℕ) (size : ℕ) (info : Information) where
+  pub places_from : first_failing 1 (place_faults kind split size info) ≡ None
+      → HasPlaces kind split size info (places_of kind split info)
+  unfolding place_faults
+  places_from none =
       let front = front_len split size in
       let p = places_of kind split info in
-      let h = none_from 1 (place_faults kind split size info ++ table_faults kind split size info t) none in
+      let h = none_from 1 (place_faults kind split size info) none in
       let one = or_parts _ _ h.0 in
       let power = power_from info.block (not_false _ h.1.0) in
       let five = h.1.1.1.1.0 in
       let inside = or_parts _ _ five in
       let chain = or_parts _ _ inside.1 in
       let region = or_parts _ _ chain.1 in
-      let rest = h.1.1.1.1.1 in
       record {
         behind_header = ltb-false _ _ one.0;
         information_inside = ltb-false _ _ one.1;
@@ -131,6 +143,20 @@ module _ (kind : TreeKind) (split : Option ℕ) (size : ℕ) (info : Information
         region_inside = ltb-false _ _ region.0;
         tables_placed = λ table. place_from front info.count table (table_lies p table)
             (either_from (λ table. is_misplaced front info.count table (table_lies p table)) region.1 table);
+      }
+
+module _ (kind : TreeKind) (split : Option ℕ) (size : ℕ) (info : Information) (t : Tables) where
+  pub layout_from : layout_fault kind split size info t ≡ None
+      → HasLayout kind split size info (places_of kind split info) t
+  unfolding place_faults table_faults
+  layout_from none =
+      let front = front_len split size in
+      let p = places_of kind split info in
+      let h = none_from 1 (place_faults kind split size info ++ table_faults kind split size info t) none in
+      let rest = h.1.1.1.1.1 in
+      record {
+        places = places_from kind split size info
+            (none_front 1 (place_faults kind split size info) (table_faults kind split size info t) none);
         most = λ table. most_from table _ (either_from (λ table. is_bad_most table (t.table table).most) rest.0 table);
         room = λ table. room_from front info.block table (t.table table) (table_lies p table)
             (either_from (λ table. is_too_long front info.block table (t.table table) (table_lies p table)) rest.1.0
@@ -138,32 +164,29 @@ module _ (kind : TreeKind) (split : Option ℕ) (size : ℕ) (info : Information
         counts = λ table. between_from _ _ _ (either_from
             (λ table. is_outside (least_freed table) (t.table table).most (t.table table).count) rest.1.1.0 table);
         taken_apart = rest.1.1.1.0;
-      } where
-        not_false : (b : Bool) → not b ≡ false → b ≡ true
-        not_false true e = refl
-        not_false false e = cc
+      }
 
   pub layout_to : HasLayout kind split size info (places_of kind split info) t
       → layout_fault kind split size info t ≡ None
   unfolding place_faults table_faults
   layout_to h =
       none_to 1 (place_faults kind split size info ++ table_faults kind split size info t) (
-        or_from _ _ (le-ltb _ _ h.behind_header) (le-ltb _ _ h.information_inside),
+        or_from _ _ (le-ltb _ _ h.places.behind_header) (le-ltb _ _ h.places.information_inside),
         (
-          ap not (power_to info.block h.log h.log_between h.block),
+          ap not (power_to info.block h.places.log h.places.log_between h.places.block),
           (
             either_to (λ table. is_outside 1 32768 ((fields_on info table).buckets))
-                (λ table. between_to 1 32768 _ (h.buckets table)),
+                (λ table. between_to 1 32768 _ (h.places.buckets table)),
             (
-              between_to 1 131072 _ h.count,
+              between_to 1 131072 _ h.places.count,
               (
                 or_from _ _
                     (either_to (λ table. passes_end front ((fields_on info table).buckets_at)
                     (4 * (fields_on info table).buckets))
-                    (λ table. le-ltb _ _ (h.buckets_inside table)))
-                    (or_from _ _ (le-ltb _ _ h.chain_inside) (or_from _ _ (le-ltb _ _ h.region_inside)
+                    (λ table. le-ltb _ _ (h.places.buckets_inside table)))
+                    (or_from _ _ (le-ltb _ _ h.places.chain_inside) (or_from _ _ (le-ltb _ _ h.places.region_inside)
                     (either_to (λ table. is_misplaced front info.count table (table_lies p table))
-                    (λ table. place_to front info.count table (table_lies p table) (h.tables_placed table))))),
+                    (λ table. place_to front info.count table (table_lies p table) (h.places.tables_placed table))))),
                 (
                   either_to (λ table. is_bad_most table (t.table table).most) (λ table. most_to table _ (h.most table)),
                   (

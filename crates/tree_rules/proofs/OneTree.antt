@@ -43,7 +43,7 @@ module _ (kind : TreeKind) (size : ℕ) (split : Option ℕ) (cells : ℕ → Ce
   unfolding places_of
   few_entries lists h =
       let layout = layout_from kind split size info (tree_tables size p (table_chains lists) cells) h.layout in
-      omega (arith, layout.count.most)
+      omega (arith, layout.places.count.most)
 
   pub one_list : (lists others : Holder → List ℕ) → IsConsistentTree kind size split cells lists
       → IsConsistentTree kind size split cells others → (holder : Holder) → lists holder ≡ others holder

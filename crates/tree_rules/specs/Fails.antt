@@ -7,7 +7,7 @@ use Rattle.chain_nodes.specs.declared.node.Node.{Node}
 use Rattle.chain_nodes.specs.declared.node.Lead.{Lead}
 use Rattle.chain_nodes.specs.declared.node.Lead.TheVariants.{Opens, OpensFree}
 use Rattle.chain_nodes.specs.Table.{table_in, word_v, index_of}
-use Rattle.chain_nodes.specs.Chains.{start_of, AreNodes, entries_of, IsChain}
+use Rattle.chain_nodes.specs.Chains.{start_of, AreNodes, entries_of, occurrences, IsChain}
 use Rattle.chain_nodes.specs.Faults.{IsBroken, IsFreeBroken}
 use Rattle.entry_tables.specs.declared.table.EntryKind.{EntryKind}
 use Rattle.entry_tables.specs.declared.table.EntryKind.TheVariants.{File}
@@ -74,6 +74,12 @@ pub record IsReachedBy (kind : TreeKind) (table : ℕ → ℕ → Cell) (p : Pla
   pub starts : start_of nodes next ≡ first_of kind table p t holder
   pub within : Contains (entries_of nodes) entry
 
+-- some nodes of a holder's list are as they should be, and an entry is twice in them
+pub record IsTwiceIn (kind : TreeKind) (table : ℕ → ℕ → Cell) (p : Places) (t : Tables) (holder : Holder)
+    (entry : ℕ) : Type 0 where
+  pub reached : IsReachedBy kind table p t holder entry
+  pub twice : 2 ≤ occurrences entry (entries_of reached.nodes)
+
 -- a table's chain has too few blocks
 pub record IsShortTable (table : ℕ → ℕ → Cell) (p : Places) (entries : EntryKind) (entry : ℕ) : Type 0 where
   pub blocks : ℕ
@@ -98,6 +104,8 @@ pub data TreeFailsAt (kind : TreeKind) (table : ℕ → ℕ → Cell) (p : Place
       → IsListBroken kind table p t holder entry → TreeFailsAt kind table p t number entry
   OfTwo : (one other : Holder) → one ≢ other → number ≡ allocation_number → IsReachedBy kind table p t one entry
       → IsReachedBy kind table p t other entry → TreeFailsAt kind table p t number entry
+  OfTwice : (holder : Holder) → number ≡ allocation_number → IsTwiceIn kind table p t holder entry
+      → TreeFailsAt kind table p t number entry
   OfShort : (entries : EntryKind) → number ≡ allocation_number → IsShortTable table p entries entry
       → TreeFailsAt kind table p t number entry
   OfTables : RuleFailsAt t number entry → TreeFailsAt kind table p t number entry

@@ -39,9 +39,8 @@ abbrev pub largest_most : EntryKind → ℕ
 largest_most Dir = 8194
 largest_most File = 8193
 
--- no condition fails
-pub record HasLayout (kind : TreeKind) (split : Option ℕ) (size : ℕ) (info : Information) (p : Places)
-    (t : Tables) : Type 0 where
+-- no condition fails that needs no table: where the information and all that it names begin
+pub record HasPlaces (kind : TreeKind) (split : Option ℕ) (size : ℕ) (info : Information) (p : Places) : Type 0 where
   pub behind_header : header_len ≤ info.at
   pub information_inside : info.at + information_len ≤ front_len split size
   pub log : ℕ
@@ -55,6 +54,11 @@ pub record HasLayout (kind : TreeKind) (split : Option ℕ) (size : ℕ) (info :
   pub region_inside : p.chain.region_at + info.count * info.block
       ≤ (if has_second kind split then size else front_len split size)
   pub tables_placed : (table : EntryKind) → IsTablePlace (front_len split size) info.count table (table_lies p table)
+
+-- and no other: the tables have room, and nothing overlaps
+pub record HasLayout (kind : TreeKind) (split : Option ℕ) (size : ℕ) (info : Information) (p : Places)
+    (t : Tables) : Type 0 where
+  pub places : HasPlaces kind split size info p
   pub most : (table : EntryKind) → LiesBetween (least_most table) (largest_most table) (t.table table).most
   pub room : (table : EntryKind) → HasTableRoom (front_len split size) info.block table (t.table table)
       (table_lies p table)

@@ -1,0 +1,4 @@
+pub mod SetLemmas
+pub mod TakeLemmas
+pub mod WalkLemmas
+pub mod RunLemmas

@@ -1,0 +1,5 @@
+pub mod HeldLemmas
+pub mod HolderLemmas
+pub mod PlaceLemmas
+pub mod CauseLemmas
+pub mod StructureLemmas

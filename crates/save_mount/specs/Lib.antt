@@ -1,0 +1,4 @@
+pub mod Held
+pub mod Holders
+pub mod Causes
+pub mod Structure

@@ -1,0 +1,10 @@
+//! Mounting a filesystem: each of its rules is checked, and what is found is kept.
+#![tactic(auto)]
+
+mod fault;
+mod lists;
+mod places;
+mod structure;
+
+pub use fault::MountFault;
+pub use lists::{FileFault, hold_file, hold_free, hold_table};
