@@ -136,6 +136,7 @@ impl<'a, S: Space> IvfcView<'a, S> {
             (shown S.state self.new) (result_err result) }
         ensures came { IsClearable ((shown S.state self.old).cells at)
             → KeepsOrigins S.state self.old self.new (result_err result) }
+        ensures master { self.new.master.now ≡ self.old.master.now }
         ensures moves { let block = (shown S.state self.old).shape in
             MovesOnly (HashKeeps S.keeps) (hash_lands S.lands) (shown S.state self.old) self.old
             (block.block_start at) (block.block_len at) self.new (result_err result) }
@@ -180,6 +181,7 @@ impl<'a, S: Space> IvfcView<'a, S> {
             → Puts (shown S.state self.old) at bytes.now (shown S.state self.new) (result_err result) }
         ensures came { AreUnspoilt (shown S.state self.old) at (length bytes.now)
             → KeepsOrigins S.state self.old self.new (result_err result) }
+        ensures master { self.new.master.now ≡ self.old.master.now }
         ensures moves { MovesOnly (HashKeeps S.keeps) (hash_lands S.lands) (shown S.state self.old)
             self.old at (length bytes.now)
             self.new (result_err result) }
@@ -292,7 +294,7 @@ impl<S: Space> Space for IvfcView<'_, S> {
     }
 
     /// Beside what each space promises: a tree that the view's came from as the transaction began is one that it comes
-    /// from.
+    /// from, and the master hash stays until the seal.
     fn put(&mut self, at: u64, bytes: &[u8]) -> Result<(), Bad>
         requires { IsWritable (shown S.state self.old).shape at (length bytes.now) }
         ensures ready { CanPut (shown S.state self.old) at (length bytes.now)
@@ -303,6 +305,7 @@ impl<S: Space> Space for IvfcView<'_, S> {
             self.old at (length bytes.now)
             self.new (result_err result) }
         ensures came { KeepsOrigins S.state self.old self.new (result_err result) }
+        ensures master { self.new.master.now ≡ self.old.master.now }
     {
         match self.ready(at, bytes.len() as u64) {
             Ok(()) => self.put_ready(at, bytes),
@@ -343,7 +346,7 @@ impl<S: Space> Floor for IvfcView<'_, S> {
     }
 
     /// Beside what each floor promises: a tree that the view's came from as the transaction began is one that it comes
-    /// from.
+    /// from, and the master hash stays until the seal.
     fn clear(&mut self, at: u64) -> Result<(), Bad>
         requires { IsInside (shown S.state self.old).shape at 1 }
         ensures ready { IsClearReady (shown S.state self.old) at (result_err result) }
@@ -355,6 +358,7 @@ impl<S: Space> Floor for IvfcView<'_, S> {
             (block.block_start at) (block.block_len at)
             self.new (result_err result) }
         ensures came { KeepsOrigins S.state self.old self.new (result_err result) }
+        ensures master { self.new.master.now ≡ self.old.master.now }
     {
         match self.clear_ready(at) {
             Ok(()) => self.clear_block(at),

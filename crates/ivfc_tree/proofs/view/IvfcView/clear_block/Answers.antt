@@ -79,5 +79,6 @@ returns g c =
           (block * size) (replicate n 0)
           (λ told. did.clears told (clear_path cells view.master.now difi view.state.now block view.part _
           (true-remembers cells view.master.now difi view.state.now (and_parts _ _ told).1).closed there clearable));
+      master = refl;
       moves = put_moves space.state space.keeps space.lands view _ refusal hold refl (block * size) n marks writes tree;
     }

@@ -51,6 +51,7 @@ returns g c =
           (λ told. did.puts told (no_spoilt (space.state view.base.now) view.part view.master.now view.difi.now
           view.state.now
           c.args.at (length bytes) unspoilt));
+      master = refl;
       moves = put_moves space.state space.keeps space.lands view _ refusal hold refl c.args.at (length bytes)
           did.marks did.writes tree;
     }
