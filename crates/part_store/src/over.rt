@@ -58,6 +58,7 @@ pub(crate) fn put_over<S: Space>(
         (record { contents = contents.new; master = master.new; ivfc = state.new }) (result_err result) }
     ensures came { KeepsUnderOrigins S.state number difi.now (record { contents = contents.old; master = master.old; ivfc = state.old })
         (record { contents = contents.new; master = master.new; ivfc = state.new }) (result_err result) }
+    ensures master { master.new ≡ master.old }
 {
     let mut view = IvfcView::new(contents, number, difi, master, state);
     view.put(at, bytes)
@@ -106,6 +107,7 @@ pub(crate) fn clear_over<S: Space>(
         (record { contents = contents.new; master = master.new; ivfc = state.new }) (result_err result) }
     ensures came { KeepsUnderOrigins S.state number difi.now (record { contents = contents.old; master = master.old; ivfc = state.old })
         (record { contents = contents.new; master = master.new; ivfc = state.new }) (result_err result) }
+    ensures master { master.new ≡ master.old }
 {
     let mut view = IvfcView::new(contents, number, difi, master, state);
     view.clear(at)

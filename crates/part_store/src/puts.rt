@@ -59,6 +59,7 @@ pub(crate) fn put_in<S: Space>(
     ensures moves { OfViews base.old part.old table.old base.new part.new table.new (λ old new.
         MovesOnly (PartKeeps S.keeps) (part_lands S.state S.lands) (shown S.state old) old at (length bytes.now) new (result_err result)) }
     ensures came { KeepsPartOrigins (S.state base.old) part.old table.old (S.state base.new) part.new table.new (result_err result) }
+    ensures table { table.new ≡ table.old }
 {
     let start = (part.difi.place + part.difi.master.at) as usize;
     let end = start + part.difi.master.size as usize;
@@ -113,6 +114,7 @@ pub(crate) fn clear_in<S: Space>(
         MovesOnly (PartKeeps S.keeps) (part_lands S.state S.lands) (shown S.state old) old (block.block_start at) (block.block_len at)
         new (result_err result)) }
     ensures came { KeepsPartOrigins (S.state base.old) part.old table.old (S.state base.new) part.new table.new (result_err result) }
+    ensures table { table.new ≡ table.old }
 {
     let start = (part.difi.place + part.difi.master.at) as usize;
     let end = start + part.difi.master.size as usize;

@@ -158,7 +158,7 @@ impl<S: Space> Space for PartView<'_, S> {
     }
 
     /// Beside what each space promises: contents and a master hash from which the part's tree came as the transaction
-    /// began are those from which it comes.
+    /// began are those from which it comes, and the table stays until the seal.
     fn put(&mut self, at: u64, bytes: &[u8]) -> Result<(), Bad>
         requires { IsWritable (shown S.state self.old).shape at (length bytes.now) }
         ensures ready { CanPut (shown S.state self.old) at (length bytes.now)
@@ -168,6 +168,7 @@ impl<S: Space> Space for PartView<'_, S> {
         ensures moves { MovesOnly (PartKeeps S.keeps) (part_lands S.state S.lands) (shown S.state self.old) self.old at
             (length bytes.now) self.new (result_err result) }
         ensures came { KeepsViewOrigins S.state self.old self.new (result_err result) }
+        ensures table { self.new.table.now ≡ self.old.table.now }
     {
         let base = &mut *self.base;
         let part = &mut *self.part;
@@ -198,7 +199,7 @@ impl<S: Space> Floor for PartView<'_, S> {
     }
 
     /// Beside what each floor promises: contents and a master hash from which the part's tree came as the transaction
-    /// began are those from which it comes.
+    /// began are those from which it comes, and the table stays until the seal.
     fn clear(&mut self, at: u64) -> Result<(), Bad>
         requires { IsInside (shown S.state self.old).shape at 1 }
         ensures ready { IsClearReady (shown S.state self.old) at (result_err result) }
@@ -209,6 +210,7 @@ impl<S: Space> Floor for PartView<'_, S> {
             MovesOnly (PartKeeps S.keeps) (part_lands S.state S.lands) (shown S.state self.old) self.old
             (block.block_start at) (block.block_len at) self.new (result_err result) }
         ensures came { KeepsViewOrigins S.state self.old self.new (result_err result) }
+        ensures table { self.new.table.now ≡ self.old.table.now }
     {
         let base = &mut *self.base;
         let part = &mut *self.part;

@@ -3,6 +3,7 @@ use Rattle.std.specs.Result.{result_err}
 use Rattle.part_store.specs.declared.part.Part.{Part}
 use Rattle.part_store.proofs.PartLemmas.{part_is_hashed}
 use Rattle.part_store.proofs.UnderLemmas.{part_puts, part_moves}
+use Rattle.part_store.proofs.AboveLemmas.{same_table}
 use Rattle.part_store.proofs.SealLemmas.{came_after}
 use Rattle.part_store.proofs.puts.put_in.Goals as goal
 
@@ -70,3 +71,10 @@ returns-clause-came g c =
     c.args.table.now c.requires.view c.new-contents.result over.new.contents over.new.state over.new.master _ holds.base_now
     holds.same_place holds.same_difi holds.state_now size hold.3.0 hold.1 hold.0 (rw holds.base_now at shape)
     (result_err over.result) over.ensures.came _ end
+
+pub returns-clause-table : goal.returns-clause-table
+returns-clause-table g c =
+    let part = c.args.part.now in
+    let start = part.difi.place + part.difi.master.at in
+    let size : start + part.difi.master.size - start ≡ part.difi.master.size = omega arith in
+    same_table start part.difi.master.size _ c.args.table.now c.put_over.new.master c.requires.view.master size (rw size at c.put_over.ensures.master)
