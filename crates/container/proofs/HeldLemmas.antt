@@ -1,5 +1,5 @@
 -- A store over its image and disk.
-use Rattle.std.proofs.Common.{◌≡◌, ◌^◌, ◌+◌, ◌<◌, List, length, Option, Some, None, Ok, Err, IsTrue, ℕ, refl, sym}
+use Rattle.std.proofs.Common.{◌≡◌, ◌^◌, ◌+◌, ◌<◌, List, Option, Some, None, Ok, Err, IsTrue, ℕ, refl, sym}
 use Rattle.std.proofs.Common.{◌∙◌, ap, subst, arith}
 use Rattle.std.specs.Borrow.{Bor}
 use Rattle.save_bytes.specs.declared.space.Bad.{Bad}
@@ -25,16 +25,17 @@ use Rattle.dpfs_tree.specs.Picks.{bytes_of}
 use Rattle.part_store.specs.declared.part.Part.{Part}
 use Rattle.part_store.specs.Parts.{IsFound}
 use Rattle.part_store.specs.Spots.{SamePart, KeepsMarks, PartSpot}
-use Rattle.part_store.specs.SpotLaws.{KeepsMarks-part, KeepsMarks-spot, KeepsMarks-join, SamePart-join, PartSpot-join}
+use Rattle.part_store.specs.SpotLaws.{KeepsMarks-part, KeepsMarks-spot}
 use Rattle.part_store.proofs.PartLemmas.{found_piece}
 use Rattle.container.specs.declared.open.Container.{Container}
 use Rattle.container.specs.declared.store.Store.{Store}
 use Rattle.container.specs.Parts.{SameSecond}
 use Rattle.container.specs.Stores.{state_of}
-use Rattle.container.specs.StoreHeld.{store_of, shown, SameStore, IsKept, ReadsImage, ContainerSpot, StoreKeeps}
+use Rattle.container.specs.StoreHeld.{store_of, shown, SameStore, IsKept, ReadsImage, ContainerSpot}
+use Rattle.container.specs.StoreHeld.{StoreKeeps}
 use Rattle.container.specs.StoreHeld.{store_lands}
-use Rattle.container.proofs.StoreLemmas.{sound_base, told_below, store_fits, store_stays, store_lands_before}
-use Rattle.container.proofs.StoreLemmas.{parts_land}
+use Rattle.container.specs.StoreLaws.{sound_base, told_below, store_fits, store_stays, store_lands_before}
+use Rattle.container.specs.StoreLaws.{parts_land}
 
 module _ (disk : disks.State) (image : ImageState) (first : Part) (second : Option Part) (table : List ℕ)
     (sound : IsTrue (state_of (image_state disk image) first second table).shape.sound) where
@@ -125,11 +126,13 @@ module _ {D : Type 0} (states : D → disks.State) (s t : Store D) (refusal : Op
       record {
         same_container = same_container;
         same_disk = same_disk;
-        header = kept.header;
-        first = KeepsMarks-part s.container.now.parts.first t.container.now.parts.first parts.first;
-        second = second_map KeepsMarks SamePart KeepsMarks-part s.container.now.parts.second
-            t.container.now.parts.second parts.second;
-        table_len = ap length kept.table;
+        container = record {
+          header = kept.header;
+          first = KeepsMarks-part s.container.now.parts.first t.container.now.parts.first parts.first;
+          second = second_map KeepsMarks SamePart KeepsMarks-part s.container.now.parts.second
+              t.container.now.parts.second parts.second;
+          table = kept.table;
+        };
       }
 
   same_spot : (spot : Spot) → ContainerSpot spot s.container.now t.container.now
@@ -150,8 +153,8 @@ module _ {D : Type 0} (states : D → disks.State) (s t : Store D) (refusal : Op
       let later = t.container.now.parts in
       let base = image_state (states s.disk.now) container.image in
       let new = image_state (states t.disk.now) t.container.now.image in
-      store_lands_before base new container.table.items refusal
-      (image_size_fits (states s.disk.now) container.image) reads.stays cells
+      store_lands_before base new container.table.items
+      (image_size_fits (states s.disk.now) container.image) cells
       (ImageLands container.image.grain) (ImageLands t.container.now.image.grain)
       (λ x below spot. subst (λ (grain : ℕ). ImageLands grain x spot) reads.frame.0.grain) parts.first parts.second
       sound x below spot
@@ -183,68 +186,6 @@ view_reads states lands s t refusal reads = record {
   sectors = λ number. (reads.sectors number).1;
   spots = λ told spot. (reads.spots told spot).1;
 }
-
--- one call on a store behind another
-module _ {D : Type 0} (states : D → disks.State) where
-  SameSecond-join : (P : Part → Part → Type 0) → ((a b c : Part) → P a b → P b c → P a c) → (x y z : Option Part)
-      → SameSecond P x y → SameSecond P y z → SameSecond P x z
-  SameSecond-join P join None None None h k = tt
-  SameSecond-join P join (Some a) (Some b) (Some c) h k = join a b c h k
-  SameSecond-join P join None None (Some c) h k = k
-  SameSecond-join P join None (Some b) z h k = absurd h
-  SameSecond-join P join (Some a) None z h k = absurd h
-  SameSecond-join P join (Some a) (Some b) None h k = k
-
-  SameStore-join : (s t u : Store D) → SameStore s t → SameStore t u → SameStore s u
-  SameStore-join s t u h k =
-      let one = s.container.now.parts in
-      let two = t.container.now.parts in
-      let three = u.container.now.parts in
-      record {
-        same_container = k.same_container ∙ h.same_container;
-        same_disk = k.same_disk ∙ h.same_disk;
-        header = k.header ∙ h.header;
-        first = SamePart-join one.first two.first three.first h.first k.first;
-        second = SameSecond-join SamePart SamePart-join one.second two.second three.second h.second k.second;
-        table_len = k.table_len ∙ h.table_len;
-      }
-
-  spot_join : (spot : Spot) (s t u : Store D) → SameStore s t → ContainerSpot spot s.container.now t.container.now
-      → ContainerSpot spot t.container.now u.container.now
-      → ContainerSpot spot s.container.now u.container.now
-  spot_join (Mark part level block) s t u same h k = (
-    PartSpot-join (Mark part level block) s.container.now.parts.first t.container.now.parts.first u.container.now.parts.first same.first h.0 k.0,
-    second_join (Mark part level block) s.container.now.parts.second t.container.now.parts.second u.container.now.parts.second same.second h.1 k.1,
-  ) where
-    second_join : (spot : Spot) (x y z : Option Part) → SameSecond SamePart x y → SameSecond (PartSpot spot) x y
-        → SameSecond (PartSpot spot) y z → SameSecond (PartSpot spot) x z
-    second_join spot None None None same h k = tt
-    second_join spot (Some a) (Some b) (Some c) same h k = PartSpot-join spot a b c same h k
-    second_join spot None None (Some c) same h k = k
-    second_join spot None (Some b) z same h k = absurd h
-    second_join spot (Some a) None z same h k = absurd h
-    second_join spot (Some a) (Some b) None same h k = k
-  spot_join Frame s t u same h k =
-      let one = s.container.now.parts in
-      let two = t.container.now.parts in
-      let three = u.container.now.parts in
-      record {
-        header = k.header ∙ h.header;
-        parts = record {
-          first = KeepsMarks-join one.first two.first three.first h.parts.first k.parts.first;
-          second = SameSecond-join KeepsMarks KeepsMarks-join one.second two.second three.second h.parts.second
-              k.parts.second;
-        };
-        table = k.table ∙ h.table;
-      }
-  spot_join spot s t u same h k = tt
-
-  pub StoreKeeps-join : (spot : Spot) (s t u : Store D) → StoreKeeps states spot s t → StoreKeeps states spot t u → StoreKeeps states spot s u
-  StoreKeeps-join spot s t u h k = (
-    SameStore-join s t u h.0 k.0,
-    spot_join spot s t u h.0 h.1 k.1,
-    Leaves-join (states s.disk.now) (states t.disk.now) (states u.disk.now) s.container.now.image t.container.now.image u.container.now.image spot h.2 k.2,
-  )
 
 -- what a call on a store left of its image, where the container and the disk are known behind it
 pub leaves_as : {D : Type 0} (states : D → disks.State) (spot : Spot) (s t : Store D) (m n : Container) (d e : D) → m ≡ s.container.now → d ≡ s.disk.now

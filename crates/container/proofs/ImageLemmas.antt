@@ -1,7 +1,8 @@
 -- The cells of an open image.
-use Rattle.std.proofs.Common.{◌≡◌, ◌≢◌, ℕ, ◌+◌, ◌-◌, ◌/◌, ◌^◌, ◌<◌, ◌≤◌, true, false, IsTrue, List, length, Option}
-use Rattle.std.proofs.Common.{Some, None, IfSome, slice_index, refl, sym, ◌∙◌, ap, subst, arith, ⊎_elim}
+use Rattle.std.proofs.Common.{◌≡◌, ◌≢◌, ℕ, ◌+◌, ◌-◌, ◌/◌, ◌^◌, ◌<◌, ◌≤◌, true, false, not, IsTrue, List, length}
+use Rattle.std.proofs.Common.{Option, Some, None, IfSome, slice_index, refl, sym, ◌∙◌, ap, subst, arith, ⊎_elim}
 use Rattle.std.proofs.lemmas.Bool.{cases_lt, cases_eq, lt-ltb, le-ltb, and_from, eq-eqb, ne_eqb}
+use Rattle.save_bytes.specs.Extents.{overlap}
 use Rattle.save_bytes.specs.Cells.{Cell, Byte}
 use Rattle.save_bytes.specs.Stays.{Stays}
 use Rattle.save_bytes.specs.State.{State}
@@ -30,10 +31,11 @@ use Rattle.page_image.proofs.DiskLemmas.{true-disk_of}
 use Rattle.container.specs.Openings.{active_table, partition_of}
 use Rattle.container.specs.declared.parts.Parts.{Parts}
 use Rattle.container.specs.Parts.{IsPartOf, IsUntouched, IsPartRead, AreRead, part_at, part_count}
-use Rattle.container.specs.Stores.{state_of}
+use Rattle.container.specs.Stores.{taken_of, state_of}
+use Rattle.container.proofs.TakenLemmas.{taken_inside, taken_apart}
 use Rattle.container.specs.ImageCells.{contents_in, path_in, cell_at, IsHeld, AreImageCells}
 use Rattle.container.proofs.PartLemmas.{sound_descriptors}
-use Rattle.container.proofs.StoreLemmas.{four_fits}
+use Rattle.container.specs.StoreLaws.{four_fits}
 
 -- the partition of each part of a sound header lies in the image
 pub partition_there : (header : Header) (image_len number : ℕ) → IsSoundHeader header image_len → number < header.parts
@@ -73,6 +75,15 @@ module _ (disk : disks.State) (image : ImageState) (header : Header) (table : Li
         made = is.hashes;
       }
 
+  -- and no byte is taken by both
+  apart_there : (first part : Part) → 2 ≡ header.parts → IsPartOf header 0 first → IsPartOf header 1 part
+      → not (overlap (taken_of first) (taken_of part)) ≡ true
+  apart_there first part count one other =
+      let apart = sound.partitions_apart (sym count) in
+      ap not (taken_apart first part header.part_a header.part_b one.place other.place
+      (taken_inside first header.part_a.size one.sound.levels) (taken_inside part header.part_b.size other.sound.levels)
+      apart)
+
   -- the store of a whole container is sound
   pub store_sound : (first : Part) (second : Option Part) → part_count second ≡ header.parts → IsPartOf header 0 first
       → IfSome second (IsPartOf header 1) → IsTrue (state_of (image_state disk image) first second table).shape.sound
@@ -80,7 +91,7 @@ module _ (disk : disks.State) (image : ImageState) (header : Header) (table : Li
   store_sound first (Some part) count one other =
       let view = part_view 0 first (omega (arith, count)) one in
       let next = part_view 1 part (omega (arith, count)) other in
-      and_from _ _ (rw (one.number_is, other.number_is) refl)
+      and_from _ _ (and_from _ _ (rw (one.number_is, other.number_is) refl) (apart_there first part count one other))
       (and_from _ _ (can_view_part-true (image_state disk image).shape first (length table) view)
       (and_from _ _ (can_view_part-true (image_state disk image).shape part (length table) next)
       (lt-ltb _ _

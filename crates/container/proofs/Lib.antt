@@ -1,7 +1,15 @@
 pub mod ReadLemmas
 pub mod FaultLemmas
 pub mod PartLemmas
-pub mod StoreLemmas
+pub mod TakenLemmas
+pub mod EmbedLemmas
+pub mod StandsLemmas
+pub mod OverLemmas
+pub mod LiftLemmas
+pub mod FirstLemmas
+pub mod SecondLemmas
+pub mod CallLemmas
+pub mod AcrossLemmas
 pub mod ImageLemmas
 pub mod HeldLemmas
 pub mod OpensLemmas

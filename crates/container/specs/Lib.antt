@@ -6,4 +6,6 @@ pub mod Levels
 pub mod Containers
 pub mod Stores
 pub mod StoreHeld
+pub mod Overs
+pub mod StoreLaws
 pub mod ImageCells

@@ -1,5 +1,5 @@
 -- What a store holds, which spots a call on it leaves alone, and which a put may touch.
-use Rattle.std.specs.Prelude.{◌≡◌, ℕ, IsTrue, length, Option}
+use Rattle.std.specs.Prelude.{◌≡◌, ℕ, IsTrue, Option}
 use Rattle.std.specs.Borrow.{MutBor}
 use Rattle.save_bytes.specs.declared.space.Bad.{Bad}
 use Rattle.save_bytes.specs.State.{State}
@@ -43,14 +43,18 @@ pub record ReadsImage (disk : disks.State) (image : ImageState) (disk_new : disk
   pub sectors : (number : ℕ) → Leaves (Sector number) disk image disk_new image_new
   pub spots : IsTrue (image_state disk image).told → (spot : Spot) → Leaves spot disk image disk_new image_new
 
--- the same references, header, parts and length of the table; marks, the table's bytes, the image and the disk may have changed
+-- the same header, parts and table; marks, what is remembered and the image may have changed
+pub record SameContainer (old new : Container) : Type 0 where
+  pub header : new.header ≡ old.header
+  pub first : SamePart old.parts.first new.parts.first
+  pub second : SameSecond SamePart old.parts.second new.parts.second
+  pub table : new.table.items ≡ old.table.items
+
+-- the same references, and all of the container but marks, what is remembered, and the image
 pub record SameStore {D : Type 0} (old new : Store D) : Type 0 where
   pub same_container : new.container.ghost_name ≡ old.container.ghost_name
   pub same_disk : new.disk.ghost_name ≡ old.disk.ghost_name
-  pub header : new.container.now.header ≡ old.container.now.header
-  pub first : SamePart old.container.now.parts.first new.container.now.parts.first
-  pub second : SameSecond SamePart old.container.now.parts.second new.container.now.parts.second
-  pub table_len : length new.container.now.table.items ≡ length old.container.now.table.items
+  pub container : SameContainer old.container.now new.container.now
 
 -- a block's mark was left alone in the part that has it, or all but the image; other spots are the image's
 abbrev pub ContainerSpot : Spot → Container → Container → Type 0

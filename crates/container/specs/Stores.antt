@@ -1,12 +1,16 @@
 -- The store of an open image: part 0's level four, followed by part 1's.
-use Rattle.std.specs.Prelude.{◌≡◌, ℕ, ◌+◌, ◌-◌, ◌^◌, Bool, ◌&&◌, false, not, ◌==◌, nat_lt, List, Option, Some}
-use Rattle.std.specs.Prelude.{None, if◌then◌else◌}
+use Rattle.std.specs.Prelude.{◌≡◌, ℕ, ◌+◌, ◌-◌, ◌*◌, ◌^◌, max, Bool, ◌&&◌, false, not, ◌==◌, nat_lt, List, Option}
+use Rattle.std.specs.Prelude.{Some, None, if◌then◌else◌}
 use Rattle.std.specs.Bool.{MatchBool}
+use Rattle.save_bytes.specs.declared.extent.Extent.{Extent}
+use Rattle.save_bytes.specs.Extents.{overlap}
 use Rattle.save_bytes.specs.State.{State}
 use Rattle.save_bytes.specs.declared.space.Bad.{Bad}
 use Rattle.save_bytes.specs.Spots.{Spot}
 use Rattle.save_bytes.specs.Stays.{Stays}
 use Rattle.save_bytes.specs.Reads.{Reads}
+use Rattle.difi.specs.declared.places.LevelPlace.{LevelPlace}
+use Rattle.difi.specs.declared.descriptor.Difi.{Difi}
 use Rattle.part_store.specs.declared.part.Part.{Part}
 use Rattle.part_store.specs.Parts.{part_state}
 use Rattle.part_store.specs.Spots.{PartLands}
@@ -32,10 +36,29 @@ joined distinct one other = record {
   faults = one.faults;
 }
 
+-- where both copies of a level end in its partition, and where external level four does, if there is one
+abbrev pub copies_end : LevelPlace → ℕ
+copies_end level = level.at + 2 * level.size
+
+abbrev pub external_end : Difi → ℕ
+external_end difi = if difi.external then difi.external_at + difi.ivfc4.size else 0
+
+-- from a partition's beginning to the end of what its descriptor places in it
+abbrev pub taken_of : Part → Extent
+taken_of part = record {
+  at = part.at;
+  size = max (max (copies_end part.difi.dpfs1) (copies_end part.difi.dpfs2))
+      (max (copies_end part.difi.dpfs3) (external_end part.difi));
+}
+
+-- two parts have different numbers, and no byte is taken by both
+abbrev pub are_two : Part → Part → Bool
+are_two one other = not (one.number == other.number) && not (overlap (taken_of one) (taken_of other))
+
 abbrev pub state_of : State → Part → Option Part → List ℕ → State
 state_of base first None table = part_state base first table
 state_of base first (Some second) table =
-    joined (not (first.number == second.number)) (part_state base first table) (part_state base second table)
+    joined (are_two first second) (part_state base first table) (part_state base second table)
 
 -- what a contract sees of a store of these parts over an image of which this is seen
 abbrev pub store_state : State → Parts → List ℕ → State

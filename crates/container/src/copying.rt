@@ -10,7 +10,7 @@ ghost use Rattle.save_bytes.specs.Answers.{IsRead};
 ghost use Rattle.container.specs.StoreHeld.{shown, StoreKeeps, store_lands};
 
 use crate::store::Store;
-use save_bytes::Bad;
+use save_bytes::{Bad, Space};
 use save_disk::Disk;
 
 impl<'a, D: Disk> Store<'a, D> {

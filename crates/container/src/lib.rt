@@ -7,11 +7,13 @@ mod fault;
 mod front;
 mod laws;
 mod open;
+mod over;
 mod parts;
 mod reading;
 mod store;
 mod table;
 mod within;
+mod writing;
 
 pub use fault::OpenFault;
 pub use laws::{opens_exactly_where_no_fault_is_found, what_was_only_read_stays_open};
@@ -26,3 +28,5 @@ mod opens_tests;
 mod store_tests;
 #[cfg(test)]
 mod tests;
+#[cfg(test)]
+mod write_tests;

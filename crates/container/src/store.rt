@@ -1,12 +1,9 @@
 //! The cells of an open image's parts.
 
-ghost use Rattle.std.specs.Prelude.{◌≡◌, ℕ, ◌/◌, ◌<◌, ◌≤◌, Bool, true, List, [], IsTrue, IfOk, IfSome};
-ghost use Rattle.std.specs.Borrow.{sem};
-ghost use Rattle.std.specs.Io.BufRead.{Rests};
+ghost use Rattle.std.specs.Prelude.{◌≡◌, ℕ, ◌/◌, ◌*◌, ◌-◌, ◌<◌, ◌≤◌, min, Bool, true, List, IsTrue, IfOk, IfSome};
 ghost use Rattle.std.specs.Result.{result_err};
 ghost use Rattle.save_bytes.specs.State.{IsInside};
 ghost use Rattle.save_bytes.specs.Refusals.{NeverDamaged};
-ghost use Rattle.save_bytes.specs.Answers.{IsPiece};
 ghost use Rattle.save_bytes.specs.Stays.{Stays};
 ghost use Rattle.save_bytes.specs.Reads.{Reads};
 ghost use Rattle.ivfc_tree.specs.Levels.{HasBlock};
@@ -17,13 +14,16 @@ ghost use Rattle.container.specs.Parts.{part_count, part_at};
 ghost use Rattle.container.specs.StoreHeld.{shown, store_of, IsStoreOf, IsKept, ReadsImage, StoreKeeps, store_lands};
 ghost use Rattle.container.specs.ImageCells.{IsHeld, AreImageCells, AreImageStatuses};
 ghost use Rattle.container.specs.Containers.{IsOpenOf, IsWholeContainer};
-ghost use Rattle.container.specs.contracts.store.Store.{the_row};
-ghost use mir.Syntax.{named};
+ghost use Rattle.difi.specs.Places.{block_size};
+ghost use Rattle.container.specs.StoreLaws.{shown_fits, shown_plain, shown_alone, shown_ground, shown_blocks, shown_alike};
+ghost use Rattle.container.specs.StoreLaws.{StoreKeeps-same, StoreKeeps-join, StoreKeeps-shape, StoreKeeps-cells, StoreKeeps-lands};
 
 use crate::open::Container;
 use crate::within::{find, tell};
+use crate::writing::{clear_in, clear_ready_in, put_all, ready_all};
+use difi::LevelPlace;
 use ivfc_tree::Status;
-use save_bytes::Bad;
+use save_bytes::{Bad, Floor, Space};
 use save_disk::Disk;
 
 /// The level fours of an image's parts, one after the other, each byte lent only where it has a hash path.
@@ -127,18 +127,6 @@ fn tell_status<D: Disk>(
 }
 
 impl<'a, D: Disk> Store<'a, D> {
-    /// How many cells there are. It never changes.
-    pub fn len(&self) -> u64
-        ensures { IsTrue (shown D.state self.now).shape.sound → result ≡ (shown D.state self.now).shape.size }
-    {
-        let parts = &self.container.parts;
-        let first = parts.first.difi().ivfc4.size;
-        match &parts.second {
-            Some(second) => first.saturating_add(second.difi().ivfc4.size),
-            None => first,
-        }
-    }
-
     // Where bytes lie in the image, where they have a hash path. The page of the first of them is held then.
     fn locate(&mut self, at: u64, most: usize) -> Result<(u64, usize), Bad>
         requires inside { IsInside (shown D.state self.old).shape at 1 }
@@ -150,23 +138,6 @@ impl<'a, D: Disk> Store<'a, D> {
         let container = &mut *self.container;
         let disk = &mut *self.disk;
         locate_in(container, disk, at, most)
-    }
-
-    /// Lends 1 to `most` bytes from `at` on, as they are held of the image, where they have a hash path. `Damaged`
-    /// comes exactly where the byte at `at` has none, and names the topmost block that fails.
-    pub fn piece(&mut self, at: u64, most: usize) -> Result<&[u8], Bad>
-        requires inside { IsInside (shown D.state self.old).shape at 1 }
-        requires some { 1 ≤ most }
-        ensures piece { IsPiece (shown D.state self.old) at most result }
-        ensures* after { sem 𝓛 (Rests (the_row (record { mir = named 0; lft = [] }) D.row) self.entry (λ new.
-            Reads (shown D.state) (StoreKeeps D.state) (store_lands D.state) self.old new (result_err result))) }
-    {
-        let (place, most) = match self.locate(at, most) {
-            Ok(run) => run,
-            Err(bad) => return Err(bad),
-        };
-        let container = &*self.container;
-        Ok(container.image.held(place, most))
     }
 
     /// Whether the path of a block of one of the four hash levels of a part holds. It is refused only where the disk
@@ -185,4 +156,106 @@ impl<'a, D: Disk> Store<'a, D> {
         let disk = &mut *self.disk;
         tell_status(container, disk, part, level, block)
     }
+}
+
+// A store lends from its image what has a hash path, and writes to it below the marks of its parts.
+impl<D: Disk> Space for Store<'_, D> {
+    ghost state = { shown D.state };
+
+    ghost keeps = { StoreKeeps D.state };
+
+    ghost lands = { store_lands D.state };
+
+    ghost size_fits = { λ s sound. shown_fits D.state s sound };
+
+    ghost plain_bytes = { λ s plain told x. absurd (shown_plain D.state s plain) };
+
+    ghost no_twins = { λ s single. shown_alone D.state s };
+
+    ghost keeps_same = { StoreKeeps-same D.state };
+
+    ghost keeps_join = { StoreKeeps-join D.state };
+
+    ghost keeps_hold = { λ s t h. (h.0, tt, (h.2.0, tt)) };
+
+    ghost keeps_shape = { StoreKeeps-shape D.state };
+
+    ghost keeps_cells = { λ s t sound single told still kept. StoreKeeps-cells D.state s t sound kept };
+
+    ghost keeps_lands = { λ s t sound single told still kept. StoreKeeps-lands D.state s t sound kept };
+
+    fn len(&self) -> u64 {
+        let parts = &self.container.parts;
+        let first = parts.first.difi().ivfc4.size;
+        match &parts.second {
+            Some(second) => first.saturating_add(second.difi().ivfc4.size),
+            None => first,
+        }
+    }
+
+    fn piece(&mut self, at: u64, most: usize) -> Result<&[u8], Bad> {
+        let (place, most) = match self.locate(at, most) {
+            Ok(run) => run,
+            Err(bad) => return Err(bad),
+        };
+        let container = &*self.container;
+        Ok(container.image.held(place, most))
+    }
+
+    fn ready(&mut self, at: u64, n: u64) -> Result<(), Bad> {
+        let container = &mut *self.container;
+        let disk = &mut *self.disk;
+        ready_all(container, disk, at, n)
+    }
+
+    fn put(&mut self, at: u64, bytes: &[u8]) -> Result<(), Bad> {
+        let container = &mut *self.container;
+        let disk = &mut *self.disk;
+        put_all(container, disk, at, bytes)
+    }
+}
+
+// Damage spreads in the blocks of the parts' level fours.
+impl<D: Disk> Floor for Store<'_, D> {
+    ghost ground = { shown_ground D.state };
+
+    ghost blocks = { λ s sound. shown_blocks D.state s };
+
+    ghost alike = { λ s told. shown_alike D.state s };
+
+    fn block_of(&self, at: u64) -> (u64, u64) {
+        let parts = &self.container.parts;
+        let split = parts.first.difi().ivfc4.size;
+        match &parts.second {
+            Some(second) if at >= split => {
+                let (start, len) = block_in(&second.difi().ivfc4, at - split);
+                (split + start, len)
+            }
+            _ => block_in(&parts.first.difi().ivfc4, at),
+        }
+    }
+
+    fn clear_ready(&mut self, at: u64) -> Result<(), Bad> {
+        let container = &mut *self.container;
+        let disk = &mut *self.disk;
+        clear_ready_in(container, disk, at)
+    }
+
+    fn clear(&mut self, at: u64) -> Result<(), Bad> {
+        let container = &mut *self.container;
+        let disk = &mut *self.disk;
+        clear_in(container, disk, at)
+    }
+}
+
+// Where the block of a byte of a level begins, and how long it is; the last may be shorter.
+fn block_in(level: &LevelPlace, at: u64) -> (u64, u64)
+    requires log { level.now.log ≤ 16 }
+    requires inside { at < level.now.size }
+    ensures start { result.0 ≡ at / block_size level.now * block_size level.now }
+    ensures len { result.1 ≡ min (block_size level.now) (level.now.size - at / block_size level.now * block_size level.now) }
+{
+    let size = 1 << level.log;
+    let start = at / size * size;
+    (start, size.min(level.size - start))
 }

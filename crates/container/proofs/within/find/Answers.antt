@@ -1,5 +1,7 @@
+use Rattle.std.proofs.Common.{◌-◌, sym, arith}
 use Rattle.std.specs.Result.{result_err}
-use Rattle.container.proofs.StoreLemmas.{first_view, second_view, first_left, second_left}
+use Rattle.container.proofs.CallLemmas.{size_of, found_second}
+use Rattle.container.specs.StoreLaws.{first_view, second_view, first_left, second_left}
 use Rattle.container.proofs.within.find.Goals as goal
 
 pub find_in-requires-clause-view : goal.find_in-requires-clause-view
@@ -29,3 +31,11 @@ returns-clause-left g c =
     (result_err c.find_in-in-Some.result) c.args.parts.now c.in-Some.second later.part c.in-Some.is
     c.requires.inside.sound
     c.find_in-in-Some.ensures.left
+
+pub returns-clause-found : goal.returns-clause-found
+returns-clause-found g c =
+    let first = c.args.parts.now.first in
+    let split = size_of c.difi.result.now first.difi c.difi.ensures in
+    found_second (g.S.Space.state c.args.image.now) (g.S.Space.state c.find_in-in-Some.new.image) first c.in-Some.second
+    c.args.parts.now.second c.args.table.now c.args.at (c.args.at - first.difi.ivfc4.size) c.args.most
+    c.find_in-in-Some.result c.in-Some.is (omega (arith, split)) (rw (sym split) c.find_in-in-Some.ensures.found)

@@ -1,5 +1,5 @@
 use Rattle.std.specs.Result.{result_err}
-use Rattle.container.proofs.StoreLemmas.{first_view, second_view, first_left, second_left}
+use Rattle.container.specs.StoreLaws.{first_view, second_view, first_left, second_left}
 use Rattle.container.proofs.within.tell.Goals as goal
 
 pub tell_in-requires-clause-view : goal.tell_in-requires-clause-view

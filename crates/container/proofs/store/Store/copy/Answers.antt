@@ -3,7 +3,8 @@ use Rattle.std.proofs.lemmas.List.{places}
 use Rattle.save_bytes.proofs.CellLemmas.{copy_more}
 use Rattle.save_bytes.proofs.CallLemmas.{Reads-join}
 use Rattle.container.specs.StoreHeld.{shown, StoreKeeps, store_lands}
-use Rattle.container.proofs.HeldLemmas.{length_fits, StoreKeeps-join}
+use Rattle.container.specs.StoreLaws.{StoreKeeps-join}
+use Rattle.container.proofs.HeldLemmas.{length_fits}
 use Rattle.container.proofs.store.Store.copy.Goals as goal
 
 pub overflow_add-at : goal.overflow_add-at

@@ -1,9 +1,9 @@
 use Rattle.std.proofs.Common.{refl, IsTrue}
 use Rattle.page_image.specs.Images.{image_state}
 use Rattle.container.specs.StoreHeld.{shown}
-use Rattle.container.proofs.StoreLemmas.{told_below}
+use Rattle.container.specs.StoreLaws.{told_below}
 use Rattle.container.proofs.HeldLemmas.{held_piece}
-use Rattle.container.proofs.store.Store.piece.Goals as goal
+use Rattle.container.proofs.store.StoreSpace.piece.Goals as goal
 
 pub returns : goal.returns
 returns g c =
