@@ -3,3 +3,4 @@ pub mod HolderLemmas
 pub mod PlaceLemmas
 pub mod CauseLemmas
 pub mod StructureLemmas
+pub mod FileLemmas

@@ -2,3 +2,4 @@ pub mod Held
 pub mod Holders
 pub mod Causes
 pub mod Structure
+pub mod Files

@@ -2,6 +2,7 @@
 #![tactic(auto)]
 
 mod fault;
+mod files;
 mod lists;
 mod places;
 mod structure;
