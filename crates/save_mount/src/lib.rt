@@ -9,3 +9,6 @@ mod structure;
 
 pub use fault::MountFault;
 pub use lists::{FileFault, hold_file, hold_free, hold_table};
+
+#[cfg(test)]
+mod files_tests;
