@@ -4,3 +4,4 @@ pub mod PlaceLemmas
 pub mod CauseLemmas
 pub mod StructureLemmas
 pub mod BeginLemmas
+pub mod FileLemmas

@@ -3,3 +3,4 @@ pub mod Holders
 pub mod Causes
 pub mod Structure
 pub mod Mounts
+pub mod Files

@@ -3,6 +3,7 @@
 
 mod beginning;
 mod fault;
+mod files;
 mod lists;
 mod places;
 mod structure;
@@ -11,3 +12,6 @@ pub use beginning::{Begun, begin};
 pub use fault::MountFault;
 pub use lists::{FileFault, hold_file, hold_free, hold_table};
 pub use structure::Structure;
+
+#[cfg(test)]
+mod files_tests;
