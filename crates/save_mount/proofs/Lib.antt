@@ -5,3 +5,5 @@ pub mod CauseLemmas
 pub mod StructureLemmas
 pub mod BeginLemmas
 pub mod FileLemmas
+pub mod CountLemmas
+pub mod AuditLemmas

@@ -4,3 +4,4 @@ pub mod Causes
 pub mod Structure
 pub mod Mounts
 pub mod Files
+pub mod Audited

@@ -61,7 +61,7 @@ fn hold_entry<S: Space>(
 ///
 /// `Broken` names an allocation entry at which a chain is broken, or that stands in it twice or in another list too; or
 /// a file whose first data block and size don't agree.
-pub(crate) fn hold_files<S: Space>(
+pub fn hold_files<S: Space>(
     base: &mut S,
     p: &Places,
     files: &[Option<ReadEntry>],
