@@ -1,5 +1,5 @@
 -- What faults of lists come to.
-use Rattle.std.proofs.Common.{◌≡◌, ℕ, IsTrue, Some, None, Option, refl, subst}
+use Rattle.std.proofs.Common.{◌≡◌, ℕ, IsTrue, Some, None, refl, subst}
 use Rattle.save_bytes.specs.declared.space.Bad.TheVariants as bad
 use Rattle.save_bytes.specs.Cells.{Cell}
 use Rattle.save_bytes.specs.State.{State}
@@ -7,7 +7,7 @@ use Rattle.save_bytes.specs.Stays.{Stays}
 use Rattle.chain_nodes.specs.declared.info.ChainInfo.{ChainInfo}
 use Rattle.chain_nodes.specs.declared.fault.ChainFault.{ChainFault}
 use Rattle.chain_nodes.specs.declared.fault.ChainFault.TheVariants as chain
-use Rattle.chain_nodes.specs.Table.{table_in, HasAllocationTable, HasFault}
+use Rattle.chain_nodes.specs.Table.{HasAllocationTable, HasFault}
 use Rattle.chain_nodes.specs.Faults.{refusal_of, FaultsOnly}
 use Rattle.chain_nodes.proofs.TableLemmas.{table_stays}
 use Rattle.save_mount.specs.declared.fault.MountFault.{MountFault}

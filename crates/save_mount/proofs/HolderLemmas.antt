@@ -1,13 +1,11 @@
 -- One list more, and where it is at fault.
-use Rattle.std.proofs.Common.{◌≡◌, ◌⊎◌, ℕ, zero, suc, ◌+◌, ◌<◌, ◌≤◌, Bool, true, false, List, [], ◌∷◌, length, refl, sym}
+use Rattle.std.proofs.Common.{◌≡◌, ◌⊎◌, ℕ, suc, ◌+◌, ◌≤◌, Bool, true, false, List, [], ◌∷◌, refl, sym}
 use Rattle.std.proofs.Common.{◌∙◌, ap, subst, arith, ⊎_elim, inl, inr, cond, eqb}
 use Rattle.std.proofs.lemmas.Bool.{eqb-true, eq-eqb, ne_eqb, cases_eq, true≢false, false≢true}
 use Rattle.std.proofs.lemmas.List.Sums.{sum_by-cons}
 use Rattle.std.specs.List.{Contains}
 use Rattle.save_bytes.specs.Cells.{Cell}
 use Rattle.chain_nodes.specs.declared.node.Node.{Node}
-use Rattle.chain_nodes.specs.declared.node.Lead.{Lead}
-use Rattle.chain_nodes.specs.declared.node.Lead.TheVariants.{Opens, OpensFree}
 use Rattle.chain_nodes.specs.Table.{HasWords}
 use Rattle.chain_nodes.specs.Chains.{entries_of, occurrences, IsLinkedBy}
 use Rattle.chain_nodes.specs.Faults.{FailsAt, IsBroken}

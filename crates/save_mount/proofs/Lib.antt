@@ -3,3 +3,7 @@ pub mod HolderLemmas
 pub mod PlaceLemmas
 pub mod CauseLemmas
 pub mod StructureLemmas
+pub mod BeginLemmas
+pub mod FileLemmas
+pub mod CountLemmas
+pub mod AuditLemmas

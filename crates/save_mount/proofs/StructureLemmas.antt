@@ -1,10 +1,9 @@
 -- The free list and the chains of the tables, as lists of their holders.
-use Rattle.std.proofs.Common.{◌≡◌, ℕ, ◌+◌, ◌<◌, false, List, [], ◌++◌, refl, sym, ◌∙◌, ap, subst}
-use Rattle.std.specs.Bool.{⊤}
+use Rattle.std.proofs.Common.{◌≡◌, ℕ, false, List, [], ◌++◌, refl, sym, ◌∙◌, ap, subst}
 use Rattle.save_bytes.specs.Cells.{Cell}
 use Rattle.chain_nodes.specs.declared.node.Lead.TheVariants.{Opens}
 use Rattle.chain_nodes.specs.Table.{table_in}
-use Rattle.chain_nodes.specs.Chains.{IsLinkedBy, IsFreeList}
+use Rattle.chain_nodes.specs.Chains.{IsLinkedBy}
 use Rattle.chain_nodes.specs.Faults.IsFreeBroken.{AtRoot as RootBroken}
 use Rattle.entry_tables.specs.declared.table.EntryKind.{EntryKind}
 use Rattle.entry_tables.specs.declared.table.EntryKind.TheVariants.{Dir, File}
@@ -17,8 +16,8 @@ use Rattle.tree_rules.specs.declared.information.TableAt.{TableAt}
 use Rattle.tree_rules.specs.declared.information.TableAt.TheVariants.{Plainly, InChain}
 use Rattle.tree_rules.specs.declared.information.Places.{Places}
 use Rattle.tree_rules.specs.Places.{table_lies, table_blocks}
-use Rattle.tree_rules.specs.Lists.{Holder, Free, OfTable, OfFile, IsTableList}
-use Rattle.tree_rules.specs.Fails.{table_first, allocation_number, TreeFailsAt}
+use Rattle.tree_rules.specs.Lists.{Holder, Free, OfTable, IsTableList}
+use Rattle.tree_rules.specs.Fails.{table_first}
 use Rattle.tree_rules.specs.Fails.TreeFailsAt.{OfList, OfShort}
 use Rattle.save_mount.specs.declared.structure.Structure.{Structure}
 use Rattle.save_mount.specs.Held.{IsFreeFault, IsTableFault}

@@ -1,5 +1,5 @@
 -- Lists of allocation entries that were walked under a set of those that were met: where each is at fault.
-use Rattle.std.specs.Prelude.{◌≡◌, ◌≢◌, ℕ, ◌+◌, ◌*◌, ◌<◌, ◌≤◌, IsTrue, List, length, All, Option, Some, None, Result, Ok, Err, ⊤}
+use Rattle.std.specs.Prelude.{◌≡◌, ℕ, ◌+◌, ◌<◌, IsTrue, List, length, All, Option, Some, None, Result, Ok, Err, ⊤}
 use Rattle.save_bytes.specs.declared.space.Bad.{Bad}
 use Rattle.save_bytes.specs.Cells.{Cell}
 use Rattle.save_bytes.specs.State.{State}
@@ -15,7 +15,6 @@ use Rattle.tree_rules.specs.declared.information.TableAt.{TableAt}
 use Rattle.tree_rules.specs.declared.information.TableAt.TheVariants.{Plainly, InChain}
 use Rattle.tree_rules.specs.declared.information.Places.{Places}
 use Rattle.tree_rules.specs.Places.{blocks_in_chain}
-use Rattle.tree_rules.specs.Lists.{no_block}
 use Rattle.tree_rules.specs.Fails.{IsWrongFile}
 use Rattle.save_mount.specs.declared.lists.FileFault.{FileFault}
 use Rattle.save_mount.specs.declared.lists.FileFault.TheVariants.{Chain, Wrong}

@@ -2,3 +2,6 @@ pub mod Held
 pub mod Holders
 pub mod Causes
 pub mod Structure
+pub mod Mounts
+pub mod Files
+pub mod Audited

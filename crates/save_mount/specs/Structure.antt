@@ -1,5 +1,5 @@
 -- The free list and the chains of the tables, as they were walked.
-use Rattle.std.specs.Prelude.{◌≡◌, ℕ, ◌≤◌, false, List, [], length, ◌++◌}
+use Rattle.std.specs.Prelude.{◌≡◌, ℕ, false, List, [], length, ◌++◌}
 use Rattle.save_bytes.specs.Cells.{Cell}
 use Rattle.chain_nodes.specs.Table.{table_in}
 use Rattle.chain_nodes.specs.Chains.{IsFreeList}

@@ -1,10 +1,20 @@
 //! Mounting a filesystem: each of its rules is checked, and what is found is kept.
 #![tactic(auto)]
 
+mod beginning;
 mod fault;
+mod files;
 mod lists;
 mod places;
 mod structure;
+mod tables;
 
+pub use beginning::{Begun, begin};
 pub use fault::MountFault;
+pub use files::hold_files;
 pub use lists::{FileFault, hold_file, hold_free, hold_table};
+pub use structure::Structure;
+pub use tables::{Audited, audit_laid, table_infos};
+
+#[cfg(test)]
+mod files_tests;

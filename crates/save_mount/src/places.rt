@@ -1,10 +1,11 @@
 //! Where a filesystem lies in its store.
 
-ghost use Rattle.std.specs.Prelude.{◌≡◌, ℕ, ◌+◌, ◌≤◌, ◌||◌, nat_lt, false, IsTrue, IfOk, IfErr, IfSome};
+ghost use Rattle.std.specs.Prelude.{◌≡◌, ℕ, ◌+◌, ◌≤◌, ◌||◌, nat_lt, false, IsTrue, IfOk, IfErr, IfSome, None};
 ghost use Rattle.std.specs.Result.{result_err};
 ghost use Rattle.save_bytes.specs.Reads.{Reads};
 ghost use Rattle.tree_rules.specs.Information.{header_len, information_len, front_len};
-ghost use Rattle.tree_rules.specs.Layout.{passes_end};
+ghost use Rattle.container_header.specs.Conditions.{first_failing};
+ghost use Rattle.tree_rules.specs.Layout.{passes_end, place_faults};
 ghost use Rattle.tree_layout.specs.Headers.{HasHeader};
 ghost use Rattle.save_mount.specs.Causes.{refusal_in, HasHeaderCause, IsPlaced, HasPlaceCause};
 
@@ -49,6 +50,8 @@ pub(crate) fn read_places<S: Space>(
     requires inside { IfSome split (λ n. n ≤ (S.state store.old).shape.size) }
     ensures placed { IsTrue (S.state store.old).told → IfOk result
         (IsPlaced kind (S.state store.old).shape.size split (S.state store.old).cells) }
+    ensures faultless { IfOk result (λ info.
+        first_failing 1 (place_faults kind split (S.state store.old).shape.size info) ≡ None) }
     ensures cause { IsTrue (S.state store.old).told → IfErr result
         (HasPlaceCause kind (S.state store.old).shape.size split (S.state store.old).cells) }
     ensures reads { Reads S.state S.keeps S.lands store.old store.new (refusal_in result) }

@@ -23,13 +23,13 @@ use tree_rules::{Places, TableAt};
 
 /// What the lists of a filesystem hold, those of files left out.
 #[derive(Debug, Drop)]
-pub(crate) struct Structure {
+pub struct Structure {
     /// The entries of all lists.
-    pub(crate) held: EntrySet,
+    pub held: EntrySet,
     /// The data blocks of both tables, the directories' first.
-    pub(crate) blocks: Vec<u32>,
+    pub blocks: Vec<u32>,
     /// How many blocks are free.
-    pub(crate) free: u32,
+    pub free: u32,
 }
 
 // The free list.

@@ -1,15 +1,12 @@
-use Rattle.std.proofs.Common.{◌≡◌, refl, sym, ap, ◌∙◌, ℕ, ◌+◌, ◌<◌, Some, None, Option, IsTrue, true, nat_lt, ◌||◌, subst, arith}
-use Rattle.std.proofs.Common.{inl, inr, ◌≤◌}
+use Rattle.std.proofs.Common.{◌≡◌, sym, ap, ◌∙◌, ℕ, ◌+◌, true, nat_lt, ◌||◌, subst, arith}
+use Rattle.std.proofs.Common.{inr, ◌≤◌}
 use Rattle.save_bytes.proofs.CallLemmas.{reads_then}
-use Rattle.save_bytes.specs.Cells.{Cell, IsByte}
-use Rattle.save_bytes.specs.CellNumbers.{number_in}
 use Rattle.container_header.specs.Conditions.{first_failing}
 use Rattle.tree_layout.specs.Headers.{HasHeader}
-use Rattle.tree_rules.specs.Information.{header_len, information_len, front_len, information_at, information_in}
+use Rattle.tree_rules.specs.Information.{header_len, information_len, front_len, information_in}
 use Rattle.tree_rules.specs.declared.information.Information.{Information}
 use Rattle.tree_rules.specs.Layout.{passes_end, place_faults}
 use Rattle.save_mount.proofs.PlaceLemmas.{information_place, misplaced, place_fails, information_later, bytes_later, front_small}
-use Rattle.save_mount.proofs.PlaceLemmas.{fault_later}
 use Rattle.save_mount.proofs.places.read_places.Goals as goal
 
 pub returns-then-is_misplaced-clause-cause : goal.returns-then-is_misplaced-clause-cause

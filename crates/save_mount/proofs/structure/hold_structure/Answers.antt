@@ -1,4 +1,4 @@
-use Rattle.std.proofs.Common.{◌≡◌, refl, sym, subst, ℕ, ◌∙◌, Some, None, ap, List}
+use Rattle.std.proofs.Common.{refl}
 use Rattle.save_bytes.proofs.CallLemmas.{reads_then}
 use Rattle.entry_tables.specs.declared.table.EntryKind.TheVariants.{Dir, File}
 use Rattle.tree_rules.specs.Lists.{Free, OfTable, IsTableList}

@@ -1,6 +1,6 @@
-use Rattle.std.proofs.Common.{◌≡◌, refl, sym, subst, ℕ, ◌∙◌, Some}
+use Rattle.std.proofs.Common.{sym, subst}
 use Rattle.chain_nodes.specs.Table.{table_in}
-use Rattle.chain_nodes.specs.Faults.{IsFreeNeeded, FaultsOnly}
+use Rattle.chain_nodes.specs.Faults.{IsFreeNeeded}
 use Rattle.save_mount.specs.declared.fault.MountFault.{MountFault}
 use Rattle.save_mount.specs.Causes.{list_fault, HasListCause}
 use Rattle.save_mount.specs.Structure.{FailsFree}
