@@ -11,4 +11,6 @@ pub use view::Entries;
 #[cfg(test)]
 mod add_tests;
 #[cfg(test)]
+mod map_tests;
+#[cfg(test)]
 mod tests;
