@@ -8,8 +8,13 @@ The root is its only directory, and all data blocks but those of its own two tab
 filesystem does not need was never written: its entry in the hash tree is zeros. With --filled each free block has
 pseudo-random bytes, and every block is written.
 
-Usage: checks/make_image.py KIND BLOCKS DIRECTORIES FILES OUT [--filled]
-KIND is single or dual, a DISA of one or two partitions, or vsxe, a DIFF. BLOCKS of 512 bytes are free.
+With --tree, for a single, there are a directory /a, which is directory 2, and a file /a/x, which is file 1 and has the
+three bytes xyz in the first data block behind the tables. With --holes, for a single, there is a file /u, which is file
+1 and has 1,000 bytes in two data blocks that were never written: those numbered 18 and 19 behind the tables.
+
+Usage: checks/make_image.py KIND BLOCKS DIRECTORIES FILES OUT [--filled | --tree | --holes]
+KIND is single or dual, a DISA of one or two partitions, or vsxe, a DIFF. BLOCKS of 512 bytes are free, but for those of
+a file.
 """
 import hashlib
 import struct
@@ -58,6 +63,14 @@ def put_level(data: bytearray, at: int, place: tuple, log: int) -> None:
     put_u32(data, at + 16, log)
 
 
+def bucket(parent: int, name: bytes, buckets: int) -> int:
+    """The bucket of a parent and a name."""
+    hashed = parent ^ 0x091A_2B3C
+    for word in struct.unpack('<4I', name.ljust(16, b'\0')):
+        hashed = (hashed >> 1 | (hashed & 1) << 31) ^ word
+    return hashed % buckets
+
+
 def noise(size: int) -> bytes:
     """The same pseudo-random bytes at each call."""
     return hashlib.shake_128(b'noise').digest(size)
@@ -103,10 +116,7 @@ class Filesystem:
         self.put_information(level)
         self.put_allocation(level)
         # The root's entry is zeros, and it stands in the bucket of parent 0 and of a name of 16 zero bytes.
-        hashed = 0x091A_2B3C
-        for _ in range(4):
-            hashed = hashed >> 1 | (hashed & 1) << 31
-        put_u32(level, self.buckets + 4 * (hashed % self.directory_buckets), 1)
+        put_u32(level, self.buckets + 4 * bucket(0, b'', self.directory_buckets), 1)
         put_u32(level, self.directory_table, 2, self.most_directories)
         put_u32(level, self.file_table, 1, self.most_files)
         return level
@@ -140,9 +150,46 @@ class Filesystem:
         put_u32(level, self.allocation + 4, first_free)
         self.put_node(level, first_free, self.blocks, 0)
 
-    def put_node(self, level: bytearray, first: int, last: int, flag: int) -> None:
-        """A node of these entries, alone in its list."""
-        put_u32(level, self.allocation + 8 * first, flag, FLAG if first < last else 0)
+    def put_tree(self, level: bytearray) -> None:
+        """The directory /a and the file /a/x. The tables have the data blocks before the file's."""
+        block = self.directory_blocks + self.file_blocks
+        put_u32(level, self.directory_table, 3)
+        root, entry = self.directory_table + 0x28, self.directory_table + 2 * 0x28
+        put_u32(level, root + 0x18, 2)
+        put_u32(level, entry, 1)
+        level[entry + 4:entry + 5] = b'a'
+        put_u32(level, entry + 0x1C, 1)
+        put_u32(level, self.buckets + 4 * bucket(1, b'a', self.directory_buckets), 2)
+        self.put_file(level, 2, b'x', block, 3)
+        at = self.region + SECTOR * block
+        level[at:at + 3] = b'xyz'
+        put_u32(level, self.allocation + 4, block + 2)
+        self.put_node(level, block + 1, block + 1, FLAG)
+        self.put_node(level, block + 2, self.blocks, 0)
+
+    def put_holes(self, level: bytearray) -> None:
+        """The file /u over two data blocks, and a free node before them and one behind."""
+        free = self.directory_blocks + self.file_blocks + 1
+        first, behind = free + 18, free + 20
+        put_u32(level, self.directory_table + 0x28 + 0x1C, 1)
+        self.put_file(level, 1, b'u', first - 1, 1000)
+        self.put_node(level, first, behind - 1, FLAG)
+        self.put_node(level, free, first - 1, 0, after=behind)
+        self.put_node(level, behind, self.blocks, 0, before=free)
+
+    def put_file(self, level: bytearray, parent: int, name: bytes, block: int, size: int) -> None:
+        """File 1, which is the only one."""
+        entry = self.file_table + 0x30
+        put_u32(level, self.file_table, 2)
+        put_u32(level, entry, parent)
+        level[entry + 4:entry + 4 + len(name)] = name
+        put_u32(level, entry + 0x1C, block)
+        put_u64(level, entry + 0x20, size)
+        put_u32(level, self.other_buckets + 4 * bucket(parent, name, self.file_buckets), 1)
+
+    def put_node(self, level: bytearray, first: int, last: int, flag: int, before: int = 0, after: int = 0) -> None:
+        """A node of these entries, and the first entries of its neighbours in the list."""
+        put_u32(level, self.allocation + 8 * first, flag | before, (FLAG if first < last else 0) | after)
         if first < last:
             for entry in (first + 1, last):
                 put_u32(level, self.allocation + 8 * entry, FLAG | first, last)
@@ -250,10 +297,16 @@ class Image:
             end = at + partition.size
         self.length = end
 
-    def contents(self, is_filled: bool = False) -> bytearray:
+    def contents(self, is_filled: bool = False, held: str = '') -> bytearray:
+        """The image; held is --tree or --holes, where it holds a file."""
         if self.length > LONGEST:
             raise ValueError(f'the image would have {self.length:,} bytes, and {LONGEST:,} are the most')
         level_fours = [(self.filesystem.contents(self.length), self.filesystem.written)]
+        if held == '--tree':
+            self.filesystem.put_tree(level_fours[0][0])
+            level_fours[0] = (level_fours[0][0], self.filesystem.written + SECTOR)
+        elif held == '--holes':
+            self.filesystem.put_holes(level_fours[0][0])
         if self.kind == 'dual':
             level_fours.append((bytearray(self.partitions[1].levels[4][1]), 0))
         if is_filled:
@@ -312,11 +365,18 @@ class Image:
 
 
 def main() -> None:
-    words = [word for word in sys.argv[1:] if word != '--filled']
+    words = [word for word in sys.argv[1:] if not word.startswith('--')]
+    added = [word for word in sys.argv[1:] if word.startswith('--')]
     if len(words) != 5 or words[0] not in KINDS or not all(word.isdigit() for word in words[1:4]):
         sys.exit(__doc__)
+    if added not in ([], ['--filled']) and (words[0] != 'single' or added not in (['--tree'], ['--holes'])):
+        sys.exit(__doc__)
+    held = ''.join(added).removeprefix('--filled')
+    least = {'': 0, '--tree': 2, '--holes': 21}[held]
     try:
-        image = Image(words[0], *map(int, words[1:4])).contents('--filled' in sys.argv[1:])
+        if held and (int(words[1]) < least or int(words[2]) < 1 or int(words[3]) < 1):
+            raise ValueError(f'a single with {held} has at least {least} blocks, a directory and a file')
+        image = Image(words[0], *map(int, words[1:4])).contents('--filled' in added, held)
     except ValueError as error:
         sys.exit(f'make_image: {error}')
     with open(words[4], 'wb') as file:

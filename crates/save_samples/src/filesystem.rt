@@ -15,7 +15,7 @@ const BUCKETS: u32 = 9;
 /// The allocation table begins so far behind the information: 0x68 bytes and two ranges of nine buckets.
 const ALLOCATION: usize = 0x68 + 36 + 36;
 /// Bit 31 of an allocation entry's words.
-const FLAG: u32 = 0x8000_0000;
+pub(crate) const FLAG: u32 = 0x8000_0000;
 
 /// A SAVE's header. The information follows it.
 pub(crate) fn put_save_header(level_four: &mut [u8])
@@ -98,7 +98,7 @@ fn put_shared_information(level_four: &mut [u8], information: usize, region: u64
 }
 
 /// The node of the entries `first` to `last`, with no node before or after it in its list.
-fn put_node(table: &mut [u8], first: u32, last: u32, chain: bool)
+pub(crate) fn put_node(table: &mut [u8], first: u32, last: u32, chain: bool)
     requires order { first ≤ last }
     requires index { last < 2 ^ 31 }
     requires room { 8 * last + 8 ≤ length table.old }
@@ -122,8 +122,8 @@ fn put_bounds(table: &mut [u8], entry: u32, first: u32, last: u32)
     set_u32(table, place + 4, last);
 }
 
-/// The one free node, which entry 0 names.
-fn put_free_node(table: &mut [u8], first: u32, last: u32)
+/// The first free node, which entry 0 names, with no other free node after it.
+pub(crate) fn put_free_node(table: &mut [u8], first: u32, last: u32)
     requires order { first ≤ last }
     requires index { last < 2 ^ 31 }
     requires room { 8 * last + 8 ≤ length table.old }

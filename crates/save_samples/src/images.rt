@@ -1,6 +1,6 @@
 //! Each image from its pieces: level four, the descriptors, the digests above level four, and the header.
 
-ghost use Rattle.std.specs.Prelude.{◌≡◌, length, vec_len, IfOk};
+ghost use Rattle.std.specs.Prelude.{◌≡◌, ◌≤◌, length, vec_len, IfOk};
 
 use crate::fields::put_digest;
 use crate::filesystem::{
@@ -8,6 +8,7 @@ use crate::filesystem::{
 };
 use crate::headers::{put_diff, put_dual_disa, put_single_disa, turn_partitions};
 use crate::partition::{DATA, LEVEL_FOUR, LONE, TREE, put_descriptor, put_digests};
+use crate::trees::{put_holes, put_tree};
 use crate::which::Sample;
 use std::alloc::{AllocError, Global};
 
@@ -25,6 +26,8 @@ pub fn sample(alloc: Global, which: Sample) -> Result<Vec<u8>, AllocError>
         Sample::Dual => put_dual(&mut image),
         Sample::Loose => put_loose(&mut image),
         Sample::Vsxe => put_vsxe(&mut image),
+        Sample::Tree => put_small_tree(&mut image),
+        Sample::Holes => put_unwritten_file(&mut image),
     }
     Ok(image)
 }
@@ -38,9 +41,39 @@ fn zeros(alloc: Global, len: usize) -> Result<Vec<u8>, AllocError>
 fn put_single(image: &mut [u8])
     requires { length image.old ≡ 110592 }
 {
+    put_save(&mut image[LEVEL_FOUR..]);
+    put_above_save(image);
+}
+
+fn put_small_tree(image: &mut [u8])
+    requires { length image.old ≡ 110592 }
+{
     let level_four = &mut image[LEVEL_FOUR..];
+    put_save(level_four);
+    put_tree(level_four);
+    put_above_save(image);
+}
+
+fn put_unwritten_file(image: &mut [u8])
+    requires { length image.old ≡ 110592 }
+{
+    let level_four = &mut image[LEVEL_FOUR..];
+    put_save(level_four);
+    put_holes(level_four);
+    put_above_save(image);
+}
+
+fn put_save(level_four: &mut [u8])
+    requires { 4096 ≤ length level_four.old }
+{
     put_save_header(level_four);
     put_with_chained_tables(level_four, 0x20);
+}
+
+/// What stands above the level four of a DISA with one partition.
+fn put_above_save(image: &mut [u8])
+    requires { length image.old ≡ 110592 }
+{
     put_descriptor(&mut image[1024..1324], &LONE);
     put_digests(image, 1024 + 0x10C);
     put_single_disa(&mut image[0x100..0x200]);

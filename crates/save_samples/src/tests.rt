@@ -12,7 +12,7 @@ use std::test::Fail;
 const LEVEL_FOUR: usize = 4096 + 8192 + 12_288;
 
 /// That these numbers of 64 bits stand so far behind `start`. A shorter field is read with what follows it.
-fn assert_numbers(rt: &impl Abort, image: &[u8], start: usize, fields: &[(usize, u64)])
+pub(crate) fn assert_numbers(rt: &impl Abort, image: &[u8], start: usize, fields: &[(usize, u64)])
     requires { length image.now ≡ 110592 }
 {
     assert!(rt; start <= 100_000);
@@ -27,7 +27,7 @@ fn assert_numbers(rt: &impl Abort, image: &[u8], start: usize, fields: &[(usize,
 }
 
 /// That the digest of the bytes of each block stands at its entry: a block's place and size, and the entry's place.
-fn assert_digests(rt: &impl Abort, image: &[u8], blocks: &[(usize, usize, usize)])
+pub(crate) fn assert_digests(rt: &impl Abort, image: &[u8], blocks: &[(usize, usize, usize)])
     requires { length image.now ≡ 110592 }
 {
     for &(at, size, entry) in blocks {

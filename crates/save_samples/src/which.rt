@@ -1,6 +1,6 @@
 //! Which images there are.
 
-/// A new image. Each has 110,592 bytes, its primary table is active, and its authentication field is zero bytes.
+/// A sample image. Each has 110,592 bytes, its primary table is active, and its authentication field is zero bytes.
 #[derive(Clone, Copy, Debug, PartialEq, Eq)]
 pub enum Sample {
     /// A DISA with one partition: the tables of its SAVE are chains in the data region.
@@ -12,4 +12,8 @@ pub enum Sample {
     Loose,
     /// A DIFF: the tables of its VSXE are chains in the data region.
     Vsxe,
+    /// `Single` with a directory `/a` and in it a file `/a/x` of the three bytes `xyz`.
+    Tree,
+    /// `Single` with a file `/u` of 1,000 bytes whose two data blocks, 20 and 21, were never written.
+    Holes,
 }
