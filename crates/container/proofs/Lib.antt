@@ -13,3 +13,4 @@ pub mod AcrossLemmas
 pub mod ImageLemmas
 pub mod HeldLemmas
 pub mod OpensLemmas
+pub mod DropLemmas
