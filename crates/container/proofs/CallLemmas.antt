@@ -16,6 +16,7 @@ use Rattle.page_image.specs.declared.state.ImageState.{ImageState}
 use Rattle.page_image.specs.Images.{image_state}
 use Rattle.part_store.specs.declared.part.Part.{Part}
 use Rattle.part_store.specs.Parts.{CanViewPart, part_state, IsFound}
+use Rattle.part_store.specs.Ends.{KeepsPartOrigins}
 use Rattle.container.specs.declared.open.Container.{Container}
 use Rattle.save_bytes.specs.State.{State, CanPut}
 use Rattle.save_bytes.specs.Stays.{Stays}
@@ -23,12 +24,13 @@ use Rattle.save_bytes.proofs.JoinLemmas.{IsReady-before, IsReady-append, IsReady
 use Rattle.difi.specs.Places.{block_size}
 use Rattle.container.specs.Stores.{state_of}
 use Rattle.container.specs.StoreHeld.{store_of}
+use Rattle.container.specs.Origins.{KeepsStoreOrigins}
 use Rattle.container.specs.Overs.{Over, Opened, opened_state, OpenedKeeps, opened_lands}
 use Rattle.container.proofs.EmbedLemmas.{can_in_part, ready_whole, clear_ready_whole}
 use Rattle.container.proofs.StandsLemmas.{first_stands, second_stands}
 use Rattle.container.proofs.LiftLemmas.{ImageOverKeeps, image_over_lands, image_over, image_of}
-use Rattle.container.proofs.FirstLemmas.{first_told, second_told, first_reads, first_puts, first_moves}
-use Rattle.container.proofs.SecondLemmas.{second_reads, second_puts, second_moves}
+use Rattle.container.proofs.FirstLemmas.{first_told, second_told, first_reads, first_puts, first_moves, first_came}
+use Rattle.container.proofs.SecondLemmas.{second_reads, second_puts, second_moves, second_came}
 
 -- the block of a place of each part
 first_block : (base : State) (first : Part) (second : Option Part) (table : List ℕ) (at : ℕ) → at < first.difi.ivfc4.size
@@ -75,6 +77,12 @@ module _ {D : Type 0} (states : D → disks.State) (c d : Container) (view next 
   abbrev OpenedPuts : ℕ → List ℕ → Opened D → Opened D → Type 0
   OpenedPuts at bytes a b = Puts (opened_state states a) at bytes (opened_state states b) refusal
 
+  abbrev OverCame : Part → Part → List ℕ → List ℕ → Type 0
+  OverCame part after t u = KeepsPartOrigins (image_of states view) part t (image_of states next) after u refusal
+
+  abbrev OpenedCame : Opened D → Opened D → Type 0
+  OpenedCame a b = KeepsStoreOrigins (states a.disk) a.container (states b.disk) b.container refusal
+
   held : (P : Opened D → Opened D → Type 0)
       → P (record { container = record c { image = view.image.now }; disk = view.disk.now })
       (record { container = record d { image = next.image.now }; disk = next.disk.now })
@@ -119,6 +127,16 @@ module _ {D : Type 0} (states : D → disks.State) (c d : Container) (view next 
         held (OpenedMoves at n)
         (first_moves states c d view next header second refusal sound_there there.hold at n fits there)
 
+    pub came_in_first : (at n : ℕ) → at + n ≤ c.parts.first.difi.ivfc4.size
+        → OverMoves at n (before c.parts.first table) (behind d.parts.first later)
+        → OverCame c.parts.first d.parts.first table later
+        → OpenedCame (record { container = c; disk = s }) (record { container = d; disk = e })
+    came_in_first at n fits moves came =
+        let there = in_table (λ t u. OverMoves at n (before c.parts.first t) (behind d.parts.first u)) moves in
+        held OpenedCame
+        (first_came states c d view next header second refusal sound_there there.hold at n fits there
+        (in_table (OverCame c.parts.first d.parts.first) came))
+
     pub puts_in_first : (at : ℕ) (bytes : List ℕ) → at + length bytes ≤ c.parts.first.difi.ivfc4.size
         → OverMoves at (length bytes) (before c.parts.first table) (behind d.parts.first later)
         → Puts (image_over states (before c.parts.first table)) at bytes (image_over states (behind d.parts.first later)) refusal
@@ -150,6 +168,15 @@ module _ {D : Type 0} (states : D → disks.State) (c d : Container) (view next 
         (subst (λ (at : ℕ). OpenedMoves at n (record { container = record c { image = view.image.now }; disk = view.disk.now })
         (record { container = record d { image = next.image.now }; disk = next.disk.now })) there_is
         (second_moves states c d view next part after header first is still refusal sound_there there.hold x n fits there))
+
+    pub came_in_second : (n : ℕ) → x + n ≤ part.difi.ivfc4.size
+        → OverMoves x n (before part table) (behind after later) → OverCame part after table later
+        → OpenedCame (record { container = c; disk = s }) (record { container = d; disk = e })
+    came_in_second n fits moves came =
+        let there = in_table (λ t u. OverMoves x n (before part t) (behind after u)) moves in
+        held OpenedCame
+        (second_came states c d view next part after header first is still refusal sound_there there.hold x n fits there
+        (in_table (OverCame part after) came))
 
     pub puts_in_second : (bytes : List ℕ) → x + length bytes ≤ part.difi.ivfc4.size
         → OverMoves x (length bytes) (before part table) (behind after later)
@@ -203,6 +230,11 @@ module _ {D : Type 0} (states : D → disks.State) (c d : Container) (view next 
         moves_off (start c.parts.first at) (len c.parts.first at) at block.0 block.1
         (moves_in_first second (start c.parts.first at) (len c.parts.first at) (block_fits c.parts.first at below) moves)
 
+    pub clear_came_in_first : OverCame c.parts.first d.parts.first table later
+        → OpenedCame (record { container = c; disk = s }) (record { container = d; disk = e })
+    clear_came_in_first =
+        came_in_first second (start c.parts.first at) (len c.parts.first at) (block_fits c.parts.first at below) moves
+
     pub clear_puts_in_first : Puts (image_over states (before c.parts.first table)) (start c.parts.first at)
         (replicate (len c.parts.first at) 0) (image_over states (behind d.parts.first later)) refusal
         → OpenedPuts ((store_of (states s) c).shape.block_start at)
@@ -228,6 +260,12 @@ module _ {D : Type 0} (states : D → disks.State) (c d : Container) (view next 
         moves_off (c.parts.first.difi.ivfc4.size + start part x) (len part x) at block.0 block.1
         (moves_in_second part after first is still (c.parts.first.difi.ivfc4.size + start part x) (start part x) refl
         (len part x) (block_fits part x below) moves)
+
+    pub clear_came_in_second : OverCame part after table later
+        → OpenedCame (record { container = c; disk = s }) (record { container = d; disk = e })
+    clear_came_in_second =
+        came_in_second part after first is still (c.parts.first.difi.ivfc4.size + start part x) (start part x) refl
+        (len part x) (block_fits part x below) moves
 
     pub clear_puts_in_second : Puts (image_over states (before part table)) (start part x)
         (replicate (len part x) 0) (image_over states (behind after later)) refusal

@@ -1,8 +1,9 @@
 -- A call on part 0, seen as a call on all parts.
-use Rattle.std.proofs.Common.{◌≡◌, ℕ, ◌+◌, ◌-◌, ◌<◌, ◌≤◌, true, IsTrue, List, length, Option, Some, None, refl, ap, subst, arith, ⊎_elim}
+use Rattle.std.proofs.Common.{◌≡◌, ℕ, ◌+◌, ◌-◌, ◌<◌, ◌≤◌, true, IsTrue, List, length, Option, Some, None, IfSome, refl, sym, ap, subst, arith, ⊎_elim}
 use Rattle.std.proofs.lemmas.Bool.{cases_lt, lt-ltb, le-ltb, and_parts, and_from}
 use Rattle.save_bytes.specs.declared.space.Bad.{Bad}
 use Rattle.save_bytes.specs.declared.space.Bad.TheVariants.{Disk, Damaged}
+use Rattle.save_bytes.specs.Cells.{Cell}
 use Rattle.save_bytes.specs.State.{State, CanPut}
 use Rattle.save_bytes.specs.Refusals.{UnlessDisk, IfDamaged}
 use Rattle.save_bytes.specs.Stays.{SameSpace}
@@ -17,7 +18,8 @@ use Rattle.page_image.specs.declared.image.Image.{Image}
 use Rattle.page_image.specs.Spots.{Leaves}
 use Rattle.page_image.specs.Laws.{image_size_fits, SameImage-shape}
 use Rattle.part_store.specs.declared.part.Part.{Part}
-use Rattle.part_store.specs.Parts.{CanViewPart, part_state}
+use Rattle.part_store.specs.Parts.{CanViewPart, master_of, part_state}
+use Rattle.part_store.specs.Ends.{PartCameFrom, KeepsPartOrigins}
 use Rattle.part_store.specs.Spots.{SamePart, KeepsMarks, PartSpot, PartLands}
 use Rattle.part_store.specs.SpotLaws.{SamePart-same, KeepsMarks-same, PartSpot-same}
 use Rattle.part_store.proofs.PartLemmas.{told_below as part_told}
@@ -27,6 +29,8 @@ use Rattle.container.specs.Stores.{are_two, state_of, PartsLand}
 use Rattle.container.specs.StoreHeld.{ContainerSpot}
 use Rattle.container.specs.Overs.{Over, Opened, opened_state, OpenedKeeps, opened_lands}
 use Rattle.container.specs.StoreLaws.{first_view, second_view, second_same}
+use Rattle.container.specs.Origins.{HasCome, HaveCome, KeepsStoreOrigins}
+use Rattle.container.proofs.OriginLemmas.{can_put, came_kept}
 use Rattle.container.proofs.TakenLemmas.{IsLeft, left_cells}
 use Rattle.container.proofs.EmbedLemmas.{StayOutside, puts_whole, can_in_part, stays_whole}
 use Rattle.container.proofs.StandsLemmas.{taken_from_two, first_stands, first_outside}
@@ -227,6 +231,34 @@ module _ {D : Type 0} (states : D → disks.State) (c d : Container) (view next 
           all_kept None all = tt
           all_kept (Some Disk) all = tt
           all_kept (Some (Damaged part level block)) all = λ spot. kept_over spot (all spot)
+
+      -- and leaves both parts come from where they came from
+      pub first_came : KeepsPartOrigins (image_of states view) c.parts.first c.table.items (image_of states next)
+          d.parts.first d.table.items refusal
+          → KeepsStoreOrigins (states view.disk.now) old.container (states next.disk.now) new.container refusal
+      first_came came told was was_table h =
+          UnlessDisk-map refusal
+          (λ (first : PartCameFrom (was 0) (master_of was_table c.parts.first.difi) (image_of states next) d.parts.first
+          d.table.items).
+          (let moved : HasCome (was 0) was_table (states next.disk.now) new.container d.parts.first =
+          subst (λ (difi : Difi). PartCameFrom (was 0) (master_of was_table difi) (image_of states next) d.parts.first
+          d.table.items) (sym hold.0.descriptor) first in
+          let can = can_put (image_of states view) c.parts.first c.parts.second c.table.items at n told in
+          let rest : HaveCome was was_table (states next.disk.now) new.container =
+          record { first = moved; second = rw second (other_came (was 1) was_table can c.parts.second refl h.second) } in
+          rest))
+          (came (first_told (image_of states view) c.parts.first c.parts.second c.table.items told) (was 0)
+          (master_of was_table c.parts.first.difi) h.first)
+        where
+          other_came : (was : ℕ → Cell) (was_table : List ℕ) → CanPut (opened_state states old) at n → (o : Option Part)
+              → c.parts.second ≡ o → IfSome o (HasCome was was_table (states view.disk.now) old.container)
+              → IfSome o (HasCome was was_table (states next.disk.now) new.container)
+          other_came was was_table can None is other = tt
+          other_came was was_table can (Some part) is other =
+              rw hold.1
+              (came_kept (image_of states view) (image_of states next) part part c.table.items
+              (image_size_fits (states view.disk.now) view.image.now) (other_view part is) (left_by_put can part is)
+              (KeepsMarks-same part) was (master_of was_table part.difi) other)
 
     pub first_puts : (at : ℕ) (bytes : List ℕ) → at + length bytes ≤ c.parts.first.difi.ivfc4.size
         → MovesOnly (ImageOverKeeps states) (image_over_lands states) (image_over states v) v at (length bytes) w refusal

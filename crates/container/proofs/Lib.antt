@@ -6,6 +6,7 @@ pub mod EmbedLemmas
 pub mod StandsLemmas
 pub mod OverLemmas
 pub mod LiftLemmas
+pub mod OriginLemmas
 pub mod FirstLemmas
 pub mod SecondLemmas
 pub mod CallLemmas
@@ -13,3 +14,4 @@ pub mod AcrossLemmas
 pub mod ImageLemmas
 pub mod HeldLemmas
 pub mod OpensLemmas
+pub mod DropLemmas

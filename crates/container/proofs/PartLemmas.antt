@@ -12,8 +12,8 @@ use Rattle.difi.specs.Conditions.{reading}
 use Rattle.container.specs.Openings.{descriptor_of, partition_of, part_reading}
 use Rattle.part_store.specs.declared.part.Part.{Part}
 use Rattle.part_store.specs.Parts.{HasNoMemory}
-use Rattle.part_store.specs.Spots.{KeepsMarks}
-use Rattle.part_store.specs.SpotLaws.{IsMadeFor-many}
+use Rattle.part_store.specs.Spots.{SamePart, KeepsMarks}
+use Rattle.part_store.specs.SpotLaws.{IsMadeFor-many, KeepsMarks-part}
 use Rattle.container.specs.declared.parts.Parts.{Parts}
 use Rattle.container.specs.Parts.{part_count, HasDescriptors, IsPartOf, IsPartRead, AreRead, IsWhole, SameSecond}
 use Rattle.container.specs.Parts.{KeepsParts}
@@ -59,17 +59,25 @@ pub second_of : (table : List ℕ) (header : Header) (second : Option Part) → 
 second_of table header None read = tt
 second_of table header (Some part) read = read.part_of
 
--- a part that keeps its marks is that of its partition still, and what its descriptor says
+-- a part of which nothing but marks was changed is that of its partition still
+pub same_part : (header : Header) (number : ℕ) (old new : Part) → SamePart old new → IsPartOf header number old
+    → IsPartOf header number new
+same_part header number old new same is = record {
+  number_is = same.number ∙ is.number_is;
+  place = same.place ∙ is.place;
+  in_table = ap (λ (difi : Difi). difi.place) same.descriptor ∙ is.in_table;
+  sound = rw same.descriptor is.sound;
+  contents = rw same.descriptor (record {
+    marks = same.copies ∙ is.contents.marks;
+    selector = λ one_of_two. rw same.selector (is.contents.selector one_of_two);
+  });
+  hashes = rw same.descriptor (IsMadeFor-many old.difi old.ivfc new.ivfc same.hashes is.hashes);
+}
+
+-- one that keeps its marks is so too, and what its descriptor says
 kept_part : (header : Header) (number : ℕ) (old new : Part) → KeepsMarks old new → IsPartOf header number old
     → IsPartOf header number new
-kept_part header number old new kept is = record {
-  number_is = kept.number ∙ is.number_is;
-  place = kept.place ∙ is.place;
-  in_table = ap (λ (difi : Difi). difi.place) kept.descriptor ∙ is.in_table;
-  sound = rw kept.descriptor is.sound;
-  contents = rw (kept.descriptor, kept.copies) is.contents;
-  hashes = rw kept.descriptor (IsMadeFor-many old.difi old.ivfc new.ivfc kept.hashes.many is.hashes);
-}
+kept_part header number old new kept = same_part header number old new (KeepsMarks-part old new kept)
 
 kept_read : (table : List ℕ) (header : Header) (number : ℕ) (old new : Part) → KeepsMarks old new
     → IsPartRead table header number old
@@ -83,37 +91,51 @@ kept_read table header number old new kept is = record {
   };
 }
 
--- what holds of a second part holds of one that keeps its marks
-kept_second : (P : Part → Type 0) → ((old new : Part) → KeepsMarks old new → P old → P new) → (old new : Option Part)
-    → SameSecond KeepsMarks old new → IfSome old P → IfSome new P
-kept_second P keep None None kept is = tt
-kept_second P keep None (Some new) kept is = absurd kept
-kept_second P keep (Some old) None kept is = tt
-kept_second P keep (Some old) (Some new) kept is = keep old new kept is
+-- what holds of a second part gives what holds of the one that it became
+pub second_keeps : (R : Part → Part → Type 0) (P Q : Part → Type 0) → ((old new : Part) → R old new → P old → Q new)
+    → (old new : Option Part) → SameSecond R old new → IfSome old P → IfSome new Q
+second_keeps R P Q keep None None same is = tt
+second_keeps R P Q keep None (Some new) same is = absurd same
+second_keeps R P Q keep (Some old) None same is = tt
+second_keeps R P Q keep (Some old) (Some new) same is = keep old new same is
 
-same_count : (old new : Option Part) → SameSecond KeepsMarks old new → part_count new ≡ part_count old
-same_count None None kept = refl
-same_count None (Some new) kept = absurd kept
-same_count (Some old) None kept = absurd kept
-same_count (Some old) (Some new) kept = refl
+pub same_count : (R : Part → Part → Type 0) (old new : Option Part) → SameSecond R old new
+    → part_count new ≡ part_count old
+same_count R None None same = refl
+same_count R None (Some new) same = absurd same
+same_count R (Some old) None same = absurd same
+same_count R (Some old) (Some new) same = refl
+
+-- so the parts of a container stay whole
+whole_by : (R : Part → Part → Type 0) (header : Header) → ((number : ℕ) (old new : Part) → R old new
+    → IsPartOf header number old → IsPartOf header number new) → (image_len : ℕ) (table : List ℕ) (old new : Parts)
+    → R old.first new.first → SameSecond R old.second new.second → IsWhole header image_len table old
+    → IsWhole header image_len table new
+whole_by R header keep image_len table old new first second is = record {
+  sound = is.sound;
+  table_len = is.table_len;
+  count = same_count R old.second new.second second ∙ is.count;
+  first = keep 0 old.first new.first first is.first;
+  second = second_keeps R (IsPartOf header 1) (IsPartOf header 1) (keep 1) old.second new.second second is.second;
+}
+
+pub same_whole : (header : Header) (image_len : ℕ) (table : List ℕ) (old new : Parts) → SamePart old.first new.first
+    → SameSecond SamePart old.second new.second → IsWhole header image_len table old
+    → IsWhole header image_len table new
+same_whole header = whole_by SamePart header (same_part header)
 
 pub kept_whole : (header : Header) (image_len : ℕ) (table : List ℕ) (old new : Parts) → KeepsParts old new
     → IsWhole header image_len table old
     → IsWhole header image_len table new
-kept_whole header image_len table old new kept is = record {
-  sound = is.sound;
-  table_len = is.table_len;
-  count = same_count old.second new.second kept.second ∙ is.count;
-  first = kept_part header 0 old.first new.first kept.first is.first;
-  second = kept_second (IsPartOf header 1) (kept_part header 1) old.second new.second kept.second is.second;
-}
+kept_whole header image_len table old new kept =
+    whole_by KeepsMarks header (kept_part header) image_len table old new kept.first kept.second
 
 pub kept_as_read : (table : List ℕ) (header : Header) (old new : Parts) → KeepsParts old new
     → AreRead table header old → AreRead table header new
 kept_as_read table header old new kept is = record {
-  count = same_count old.second new.second kept.second ∙ is.count;
+  count = same_count KeepsMarks old.second new.second kept.second ∙ is.count;
   first = kept_read table header 0 old.first new.first kept.first is.first;
-  second = kept_second (IsPartRead table header 1)
+  second = second_keeps KeepsMarks (IsPartRead table header 1) (IsPartRead table header 1)
       (kept_read table header 1) old.second new.second kept.second is.second;
 }
 

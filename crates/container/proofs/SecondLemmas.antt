@@ -1,8 +1,9 @@
 -- A call on part 1, seen as a call on all parts.
-use Rattle.std.proofs.Common.{◌≡◌, ℕ, ◌+◌, ◌-◌, ◌≤◌, true, IsTrue, List, length, Option, Some, None, refl, sym, ◌∙◌, ap, subst, arith}
+use Rattle.std.proofs.Common.{◌≡◌, ℕ, ◌+◌, ◌-◌, ◌≤◌, true, IsTrue, List, length, Option, Some, None, IfSome, refl, sym, ◌∙◌, ap, subst, arith}
 use Rattle.std.proofs.lemmas.Bool.{le-ltb}
 use Rattle.save_bytes.specs.declared.space.Bad.{Bad}
 use Rattle.save_bytes.specs.declared.space.Bad.TheVariants.{Disk, Damaged}
+use Rattle.save_bytes.specs.Cells.{Cell}
 use Rattle.save_bytes.specs.State.{CanPut}
 use Rattle.save_bytes.specs.Refusals.{UnlessDisk, IfDamaged}
 use Rattle.save_bytes.specs.Stays.{SameSpace}
@@ -17,7 +18,8 @@ use Rattle.page_image.specs.declared.image.Image.{Image}
 use Rattle.page_image.specs.Spots.{Leaves}
 use Rattle.page_image.specs.Laws.{image_size_fits, SameImage-shape}
 use Rattle.part_store.specs.declared.part.Part.{Part}
-use Rattle.part_store.specs.Parts.{CanViewPart, part_state}
+use Rattle.part_store.specs.Parts.{CanViewPart, master_of, part_state}
+use Rattle.part_store.specs.Ends.{PartCameFrom, KeepsPartOrigins}
 use Rattle.part_store.specs.Spots.{SamePart, PartSpot, PartLands}
 use Rattle.part_store.specs.SpotLaws.{SamePart-same, KeepsMarks-same, PartSpot-same}
 use Rattle.part_store.proofs.PartLemmas.{told_below as part_told}
@@ -27,6 +29,8 @@ use Rattle.container.specs.Stores.{are_two, PartsLand}
 use Rattle.container.specs.StoreHeld.{ContainerSpot}
 use Rattle.container.specs.Overs.{Over, Opened, opened_state, OpenedKeeps, opened_lands}
 use Rattle.container.specs.StoreLaws.{first_view, second_view}
+use Rattle.container.specs.Origins.{HasCome, HaveCome, KeepsStoreOrigins}
+use Rattle.container.proofs.OriginLemmas.{can_put, came_kept}
 use Rattle.container.proofs.TakenLemmas.{IsLeft, left_cells}
 use Rattle.container.proofs.EmbedLemmas.{StandsIn, StayOutside, puts_whole, can_in_part, stays_whole}
 use Rattle.container.proofs.StandsLemmas.{apart_from_first, second_stands, second_outside}
@@ -194,6 +198,32 @@ module _ {D : Type 0} (states : D → disks.State) (c d : Container) (view next 
           all_kept None all = tt
           all_kept (Some Disk) all = tt
           all_kept (Some (Damaged part level block)) all = λ spot. kept_over spot (all spot)
+
+      -- and leaves both parts come from where they came from
+      pub second_came : KeepsPartOrigins (image_of states view) part c.table.items (image_of states next) after
+          d.table.items refusal
+          → KeepsStoreOrigins (states view.disk.now) old.container (states next.disk.now) new.container refusal
+      second_came came told was was_table h =
+          let own : HasCome (was 1) was_table (states view.disk.now) old.container part = rw is at h.second in
+          UnlessDisk-map refusal
+          (λ (second : PartCameFrom (was 1) (master_of was_table part.difi) (image_of states next) after d.table.items).
+          (let moved : HasCome (was 1) was_table (states next.disk.now) new.container after =
+          subst (λ (difi : Difi). PartCameFrom (was 1) (master_of was_table difi) (image_of states next) after
+          d.table.items) (sym hold.0.descriptor) second in
+          let can = can_put (image_of states view) c.parts.first c.parts.second c.table.items (o + at) n told in
+          let rest : HaveCome was was_table (states next.disk.now) new.container =
+          record { first = rw first (other_came (was 0) was_table can h.first); second = rw still moved } in
+          rest))
+          (came (told_of told) (was 1) (master_of was_table part.difi) own)
+        where
+          other_came : (was : ℕ → Cell) (was_table : List ℕ) → CanPut (opened_state states old) (o + at) n
+              → HasCome was was_table (states view.disk.now) old.container c.parts.first
+              → HasCome was was_table (states next.disk.now) new.container c.parts.first
+          other_came was was_table can other =
+              rw hold.1
+              (came_kept (image_of states view) (image_of states next) c.parts.first c.parts.first c.table.items
+              (image_size_fits (states view.disk.now) view.image.now) other_view (left_by_put can)
+              (KeepsMarks-same c.parts.first) was (master_of was_table c.parts.first.difi) other)
 
     pub second_puts : (at : ℕ) (bytes : List ℕ) → at + length bytes ≤ part.difi.ivfc4.size
         → MovesOnly (ImageOverKeeps states) (image_over_lands states) (image_over states v) v at (length bytes) w refusal

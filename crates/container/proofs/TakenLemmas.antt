@@ -136,14 +136,15 @@ module _ (base new : State) (part : Part) (table : List ℕ) (small : base.shape
       upper_kept base.shape part part.dpfs.selector tree_there (bytes_of base.cells) (bytes_of new.cells)
       (λ y there. rw (same y there) refl)
 
-  contents_left : IsLeft base new part → SameCells (contents_of base part) (contents_of new part)
+  -- so its contents stay
+  pub contents_left : IsLeft base new part → SameCells (contents_of base part) (contents_of new part)
   contents_left same x inside =
       let marked = is_marked part.dpfs.touched.items in
       let there = place_by-upper base.shape part.at part.difi part.dpfs.selector tree_there (bytes_of base.cells)
       (bytes_of new.cells) (upper_left same) marked x in
       rw there (same _ (placed base.shape part part.dpfs.selector tree_there marked (bytes_of base.cells) x inside))
 
-  -- so its cells stay
+  -- and its cells
   pub left_cells : IsLeft base new part → SameCells (part_state base part table) (part_state new part table)
   left_cells same =
       hashed_same (contents_of base part) (contents_of new part) part.number (master_of table part.difi) part.difi

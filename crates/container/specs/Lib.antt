@@ -7,5 +7,7 @@ pub mod Containers
 pub mod Stores
 pub mod StoreHeld
 pub mod Overs
+pub mod Origins
+pub mod Aborts
 pub mod StoreLaws
 pub mod ImageCells

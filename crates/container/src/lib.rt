@@ -1,6 +1,7 @@
 //! An open image: its header, its parts, and a store of the cells of their level fours.
 #![tactic(auto)]
 
+mod abort;
 mod copying;
 mod facts;
 mod fault;

@@ -8,6 +8,7 @@ ghost use Rattle.save_bytes.specs.Puts.{Puts};
 ghost use Rattle.save_bytes.specs.Reads.{Reads};
 ghost use Rattle.save_bytes.specs.Spots.{MovesOnly};
 ghost use Rattle.part_store.specs.Parts.{CanViewPart, part_state};
+ghost use Rattle.part_store.specs.Ends.{KeepsPartOrigins};
 ghost use Rattle.container.specs.Overs.{Over, over_state, OverKeeps, over_lands};
 
 use part_store::{Part, PartView};
@@ -49,6 +50,7 @@ pub(crate) fn put_over<S: Space>(
     ensures moves { MovesOnly (OverKeeps S.keeps) (over_lands S.state S.lands) (part_state (S.state base.old) part.old table.old)
         (record { base = base.old; part = part.old; table = table.old }) at (length bytes.now)
         (record { base = base.new; part = part.new; table = table.new }) (result_err result) }
+    ensures came { KeepsPartOrigins (S.state base.old) part.old table.old (S.state base.new) part.new table.new (result_err result) }
 {
     let mut view = PartView::new(base, part, table);
     view.put(at, bytes)
@@ -89,6 +91,7 @@ pub(crate) fn clear_over<S: Space>(
         MovesOnly (OverKeeps S.keeps) (over_lands S.state S.lands) old
         (record { base = base.old; part = part.old; table = table.old }) (old.shape.block_start at) (old.shape.block_len at)
         (record { base = base.new; part = part.new; table = table.new }) (result_err result) }
+    ensures came { KeepsPartOrigins (S.state base.old) part.old table.old (S.state base.new) part.new table.new (result_err result) }
 {
     let mut view = PartView::new(base, part, table);
     view.clear(at)

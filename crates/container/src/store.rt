@@ -1,8 +1,11 @@
 //! The cells of an open image's parts.
 
-ghost use Rattle.std.specs.Prelude.{◌≡◌, ℕ, ◌/◌, ◌*◌, ◌-◌, ◌<◌, ◌≤◌, min, Bool, true, List, IsTrue, IfOk, IfSome};
+ghost use Rattle.std.specs.Prelude.{◌≡◌, ℕ, ◌/◌, ◌*◌, ◌-◌, ◌<◌, ◌≤◌, min, Bool, true, List, length, replicate, IsTrue, IfOk, IfSome};
 ghost use Rattle.std.specs.Result.{result_err};
-ghost use Rattle.save_bytes.specs.State.{IsInside};
+ghost use Rattle.save_bytes.specs.State.{IsInside, IsWritable, CanPut};
+ghost use Rattle.save_bytes.specs.Answers.{IsReady, IsClearReady};
+ghost use Rattle.save_bytes.specs.Puts.{Puts};
+ghost use Rattle.save_bytes.specs.Spots.{MovesOnly};
 ghost use Rattle.save_bytes.specs.Refusals.{NeverDamaged};
 ghost use Rattle.save_bytes.specs.Stays.{Stays};
 ghost use Rattle.save_bytes.specs.Reads.{Reads};
@@ -14,6 +17,7 @@ ghost use Rattle.container.specs.Parts.{part_count, part_at};
 ghost use Rattle.container.specs.StoreHeld.{shown, store_of, IsStoreOf, IsKept, ReadsImage, StoreKeeps, store_lands};
 ghost use Rattle.container.specs.ImageCells.{IsHeld, AreImageCells, AreImageStatuses};
 ghost use Rattle.container.specs.Containers.{IsOpenOf, IsWholeContainer};
+ghost use Rattle.container.specs.Origins.{KeepsStoreOrigins};
 ghost use Rattle.difi.specs.Places.{block_size};
 ghost use Rattle.container.specs.StoreLaws.{shown_fits, shown_plain, shown_alone, shown_ground, shown_blocks, shown_alike};
 ghost use Rattle.container.specs.StoreLaws.{StoreKeeps-same, StoreKeeps-join, StoreKeeps-shape, StoreKeeps-cells, StoreKeeps-lands};
@@ -208,7 +212,19 @@ impl<D: Disk> Space for Store<'_, D> {
         ready_all(container, disk, at, n)
     }
 
-    fn put(&mut self, at: u64, bytes: &[u8]) -> Result<(), Bad> {
+    /// Beside what each space promises: contents and a table from which the parts' trees came as the transaction began
+    /// are those from which they come.
+    fn put(&mut self, at: u64, bytes: &[u8]) -> Result<(), Bad>
+        requires { IsWritable (shown D.state self.old).shape at (length bytes.now) }
+        ensures ready { CanPut (shown D.state self.old) at (length bytes.now)
+            → IsReady (shown D.state self.old) at (length bytes.now) (result_err result) }
+        ensures plain { IsTrue (shown D.state self.old).shape.plain → NeverDamaged (result_err result) }
+        ensures puts { Puts (shown D.state self.old) at bytes.now (shown D.state self.new) (result_err result) }
+        ensures moves { MovesOnly (StoreKeeps D.state) (store_lands D.state) (shown D.state self.old) self.old at
+            (length bytes.now) self.new (result_err result) }
+        ensures came { KeepsStoreOrigins (D.state self.old.disk.now) self.old.container.now (D.state self.new.disk.now)
+            self.new.container.now (result_err result) }
+    {
         let container = &mut *self.container;
         let disk = &mut *self.disk;
         put_all(container, disk, at, bytes)
@@ -241,7 +257,20 @@ impl<D: Disk> Floor for Store<'_, D> {
         clear_ready_in(container, disk, at)
     }
 
-    fn clear(&mut self, at: u64) -> Result<(), Bad> {
+    /// Beside what each floor promises: contents and a table from which the parts' trees came as the transaction began
+    /// are those from which they come.
+    fn clear(&mut self, at: u64) -> Result<(), Bad>
+        requires { IsInside (shown D.state self.old).shape at 1 }
+        ensures ready { IsClearReady (shown D.state self.old) at (result_err result) }
+        ensures puts { let block = (shown D.state self.old).shape in
+            Puts (shown D.state self.old) (block.block_start at) (replicate (block.block_len at) 0) (shown D.state self.new)
+            (result_err result) }
+        ensures moves { let block = (shown D.state self.old).shape in
+            MovesOnly (StoreKeeps D.state) (store_lands D.state) (shown D.state self.old) self.old
+            (block.block_start at) (block.block_len at) self.new (result_err result) }
+        ensures came { KeepsStoreOrigins (D.state self.old.disk.now) self.old.container.now (D.state self.new.disk.now)
+            self.new.container.now (result_err result) }
+    {
         let container = &mut *self.container;
         let disk = &mut *self.disk;
         clear_in(container, disk, at)

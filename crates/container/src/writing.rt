@@ -8,6 +8,7 @@ ghost use Rattle.save_bytes.specs.Puts.{Puts};
 ghost use Rattle.save_bytes.specs.Reads.{Reads};
 ghost use Rattle.save_bytes.specs.Spots.{MovesOnly};
 ghost use Rattle.container.specs.StoreHeld.{store_of};
+ghost use Rattle.container.specs.Origins.{KeepsStoreOrigins};
 ghost use Rattle.container.specs.Overs.{opened_state, OpenedKeeps, opened_lands};
 
 use crate::open::Container;
@@ -76,6 +77,7 @@ fn put_in<D: Disk>(
     ensures moves { MovesOnly (OpenedKeeps D.state) (opened_lands D.state) (store_of (D.state disk.old) container.old)
         (record { container = container.old; disk = disk.old }) at (length bytes.now)
         (record { container = container.new; disk = disk.new }) (result_err result) }
+    ensures came { KeepsStoreOrigins (D.state disk.old) container.old (D.state disk.new) container.new (result_err result) }
 {
     let split = container.parts.first.difi().ivfc4.size;
     let table = &mut container.table[..];
@@ -106,6 +108,7 @@ fn put_across<D: Disk>(
     ensures moves { MovesOnly (OpenedKeeps D.state) (opened_lands D.state) (store_of (D.state disk.old) container.old)
         (record { container = container.old; disk = disk.old }) at (length first.now + length second.now)
         (record { container = container.new; disk = disk.new }) (result_err result) }
+    ensures came { KeepsStoreOrigins (D.state disk.old) container.old (D.state disk.new) container.new (result_err result) }
 {
     let split = container.parts.first.difi().ivfc4.size;
     match ready_all(container, disk, at, (first.len() + second.len()) as u64) {
@@ -133,6 +136,7 @@ pub(crate) fn put_all<D: Disk>(
     ensures moves { MovesOnly (OpenedKeeps D.state) (opened_lands D.state) (store_of (D.state disk.old) container.old)
         (record { container = container.old; disk = disk.old }) at (length bytes.now)
         (record { container = container.new; disk = disk.new }) (result_err result) }
+    ensures came { KeepsStoreOrigins (D.state disk.old) container.old (D.state disk.new) container.new (result_err result) }
 {
     let split = container.parts.first.difi().ivfc4.size;
     if at >= split || at + bytes.len() as u64 <= split {
@@ -177,6 +181,7 @@ pub(crate) fn clear_in<D: Disk>(container: &mut Container, disk: &mut D, at: u64
         MovesOnly (OpenedKeeps D.state) (opened_lands D.state) old (record { container = container.old; disk = disk.old })
         (old.shape.block_start at) (old.shape.block_len at) (record { container = container.new; disk = disk.new })
         (result_err result) }
+    ensures came { KeepsStoreOrigins (D.state disk.old) container.old (D.state disk.new) container.new (result_err result) }
 {
     let split = container.parts.first.difi().ivfc4.size;
     let table = &mut container.table[..];

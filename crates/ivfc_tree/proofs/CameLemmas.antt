@@ -24,7 +24,7 @@ use Rattle.ivfc_tree.specs.PutViews.{KeepsOrigins}
 use Rattle.ivfc_tree.specs.Readies.{PutsContents}
 
 -- the same cells and the same marks came from the same trees
-came_same : (base : Shape) (difi : Difi) (master : List ℕ) → HasTree base difi (length master) → (cells new : ℕ → Cell)
+pub came_same : (base : Shape) (difi : Difi) (master : List ℕ) → HasTree base difi (length master) → (cells new : ℕ → Cell)
     → ((x : ℕ) → x < base.size → new x ≡ cells x) → (state later : IvfcState) → SameMarks state later
     → (was : ℕ → Cell) (was_master : List ℕ) → CameFrom difi (is_marked state) was was_master cells master
     → CameFrom difi (is_marked later) was was_master new master

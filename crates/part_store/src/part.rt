@@ -8,6 +8,7 @@ ghost use Rattle.dpfs_tree.specs.Picks.{chosen};
 ghost use Rattle.save_bytes.specs.State.{Shape};
 ghost use Rattle.dpfs_tree.specs.Marks.{place_of, IsMadeForContents, IsFreshContents};
 ghost use Rattle.ivfc_tree.specs.Marks.{IsMadeFor, HasNoMarks};
+ghost use Rattle.ivfc_tree.specs.Origins.{IsAtOrigin};
 ghost use Rattle.ivfc_tree.specs.Paths.{IsStateOf, block_state};
 ghost use Rattle.ivfc_tree.specs.Settles.{settled, dropped, TurnsMarks, SettlesHashed, RemembersOrigin};
 
@@ -50,6 +51,7 @@ impl Part {
         ensures paths { IfOk result (λ part. (cells : ℕ → Cell) (master : List ℕ) (level block : ℕ)
             → IsStateOf cells master difi.now level block (block_state cells master difi.now part.ivfc level block)) }
         ensures told { IfOk result HasNoMemory }
+        ensures origin { IfOk result (λ part. IsAtOrigin part.ivfc) }
     {
         Ok(Part {
             number,

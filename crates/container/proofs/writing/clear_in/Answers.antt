@@ -7,6 +7,7 @@ use Rattle.container.specs.StoreLaws.{first_view, second_view}
 use Rattle.container.proofs.HeldLemmas.{disk_of_store}
 use Rattle.container.proofs.CallLemmas.{clear_ready_in_first, clear_ready_in_second, clear_puts_in_first}
 use Rattle.container.proofs.CallLemmas.{clear_puts_in_second, clear_moves_in_first, clear_moves_in_second}
+use Rattle.container.proofs.CallLemmas.{clear_came_in_first, clear_came_in_second}
 use Rattle.container.proofs.CallLemmas.{written_back, part_viewed, two_long, size_of}
 use Rattle.container.proofs.writing.clear_in.Goals as goal
 
@@ -76,6 +77,24 @@ returns-then-at-split-clause-moves g c =
     refl (search rules) refl (result_err c.clear_over.result) c.requires.sound
     refl c.args.at (omega (arith, split)) c.clear_over.ensures.moves
 
+pub returns-then-at-split-clause-came : goal.returns-then-at-split-clause-came
+returns-then-at-split-clause-came g c =
+    let container = c.args.container.now in
+    let view = c.view-view.ensures.holds in
+    let split = size_of c.difi.result.now container.parts.first.difi c.difi.ensures in
+    let left = c.clear_over.new in
+    let after : Container = record container {
+      image = left.base.image.now;
+      table = with_items container.table left.table;
+      parts = record container.parts { first = left.part };
+    } in
+    clear_came_in_first g.D.Disk.state container after c.view-view.result left.base c.args.disk.now _
+    c.deref_mut.result.now left.table view.image_now view.disk_now (search rules)
+    (written_back container.table left.table c.deref_mut.result.now c.clear_over.ensures.moves.hold.1 c.deref_mut.ensures.len)
+    refl (search rules) refl (result_err c.clear_over.result) c.requires.sound
+    refl c.args.at (omega (arith, split)) c.clear_over.ensures.moves
+    c.clear_over.ensures.came
+
 pub returns-clause-ready : goal.returns-clause-ready
 returns-clause-ready g c =
     let container = c.args.container.now in
@@ -134,3 +153,26 @@ returns-clause-moves g c =
     refl (search rules) refl (result_err c.clear_over-in-Some.result) c.requires.sound
     c.in-Some.second left.part refl c.in-Some.is refl c.args.at (c.args.at - o) place below
     (rw (sym split) c.clear_over-in-Some.ensures.moves)
+
+pub returns-clause-came : goal.returns-clause-came
+returns-clause-came g c =
+    let container = c.args.container.now in
+    let view = c.view-view.ensures.holds in
+    let split = size_of c.difi.result.now container.parts.first.difi c.difi.ensures in
+    let left = c.clear_over-in-Some.new in
+    let after : Container = record container {
+      image = left.base.image.now;
+      table = with_items container.table left.table;
+      parts = record container.parts { second = Some left.part };
+    } in
+    let o = container.parts.first.difi.ivfc4.size in
+    let place : o + (c.args.at - o) ≡ c.args.at = omega (arith, split) in
+    let below : c.args.at - o < c.in-Some.second.difi.ivfc4.size =
+    omega (arith, split, c.requires.inside, two_long (g.D.Disk.state c.args.disk.now) container c.in-Some.second c.in-Some.is) in
+    clear_came_in_second g.D.Disk.state container after c.view-view.result left.base c.args.disk.now _
+    c.deref_mut.result.now left.table view.image_now view.disk_now (search rules)
+    (written_back container.table left.table c.deref_mut.result.now c.clear_over-in-Some.ensures.moves.hold.1 c.deref_mut.ensures.len)
+    refl (search rules) refl (result_err c.clear_over-in-Some.result) c.requires.sound
+    c.in-Some.second left.part refl c.in-Some.is refl c.args.at (c.args.at - o) place below
+    (rw (sym split) c.clear_over-in-Some.ensures.moves)
+    c.clear_over-in-Some.ensures.came

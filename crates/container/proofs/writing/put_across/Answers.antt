@@ -1,9 +1,11 @@
-use Rattle.std.proofs.Common.{◌≡◌, ◌+◌, length, sym, ◌∙◌}
+use Rattle.std.proofs.Common.{◌≡◌, ◌+◌, length, Some, None, sym, ◌∙◌}
 use Rattle.std.specs.Result.{result_err}
+use Rattle.page_image.specs.Images.{image_state}
 use Rattle.container.specs.StoreHeld.{store_of}
 use Rattle.container.proofs.CallLemmas.{size_of}
 use Rattle.container.proofs.AcrossLemmas.{across_ready, across_puts, across_moves, can_behind, never, refused_puts}
 use Rattle.container.proofs.AcrossLemmas.{refused_moves}
+use Rattle.container.proofs.OriginLemmas.{can_put, origins_join, read_come}
 use Rattle.container.proofs.writing.put_across.Goals as goal
 
 pub returns-in-Ok-put_in-clause-ready : goal.returns-in-Ok-put_in-clause-ready
@@ -62,3 +64,40 @@ pub returns-in-Err-put_in-clause-moves : goal.returns-in-Err-put_in-clause-moves
 returns-in-Err-put_in-clause-moves g c =
     refused_moves g.D.Disk.state _ _ _ c.args.at (length c.args.first.now) (length c.args.second.now)
     c.requires.inside.inside c.in-Ok.ensures.reads c.in-Err-put_in.bad c.in-Err-put_in.ensures.moves
+
+pub returns-in-Ok-put_in-clause-came : goal.returns-in-Ok-put_in-clause-came
+returns-in-Ok-put_in-clause-came g c =
+    let states = g.D.Disk.state in
+    let mid = c.ready_all.new in
+    let next = c.put_in.new in
+    let last = c.put_in-in-Ok-put_in.new in
+    let refusal = result_err c.put_in-in-Ok-put_in.result in
+    origins_join (states c.args.disk.now) (states mid.disk) (states last.disk) c.args.container.now mid.container
+    last.container refusal c.in-Ok.ensures.reads.stays.space.told
+    (read_come states (record { container = c.args.container.now; disk = c.args.disk.now })
+    (record { container = mid.container; disk = mid.disk }) None c.requires.inside.sound c.in-Ok.ensures.reads)
+    (origins_join (states mid.disk) (states next.disk) (states last.disk) mid.container next.container last.container
+    refusal
+    (λ told. c.in-Ok-put_in.ensures.puts.space.told
+    (can_put (image_state (states mid.disk) mid.container.image) mid.container.parts.first mid.container.parts.second
+    mid.container.table.items c.args.at (length c.args.first.now) told))
+    c.in-Ok-put_in.ensures.came c.put_in-in-Ok-put_in.ensures.came)
+
+pub returns-in-Err-put_in-clause-came : goal.returns-in-Err-put_in-clause-came
+returns-in-Err-put_in-clause-came g c =
+    let states = g.D.Disk.state in
+    let mid = c.ready_all.new in
+    let next = c.put_in.new in
+    origins_join (states c.args.disk.now) (states mid.disk) (states next.disk) c.args.container.now mid.container
+    next.container (Some c.in-Err-put_in.bad) c.in-Ok.ensures.reads.stays.space.told
+    (read_come states (record { container = c.args.container.now; disk = c.args.disk.now })
+    (record { container = mid.container; disk = mid.disk }) None c.requires.inside.sound c.in-Ok.ensures.reads)
+    c.in-Err-put_in.ensures.came
+
+pub returns-in-Err-clause-came : goal.returns-in-Err-clause-came
+returns-in-Err-clause-came g c =
+    let states = g.D.Disk.state in
+    let mid = c.ready_all.new in
+    read_come states (record { container = c.args.container.now; disk = c.args.disk.now })
+    (record { container = mid.container; disk = mid.disk }) (Some c.in-Err.bad) c.requires.inside.sound
+    c.in-Err.ensures.reads

@@ -9,6 +9,7 @@ use Rattle.container.proofs.writing.put_in.Given.{Over}
 use Rattle.container.specs.declared.open.Container.{Container}
 use Rattle.container.specs.StoreLaws.{first_view, second_view}
 use Rattle.container.proofs.HeldLemmas.{disk_of_store}
+use Rattle.container.proofs.CallLemmas.{came_in_first, came_in_second}
 use Rattle.container.proofs.CallLemmas.{ready_in_first, ready_in_second, puts_in_first, puts_in_second, moves_in_first}
 use Rattle.container.proofs.CallLemmas.{moves_in_second, can_in_first, can_in_second}
 use Rattle.container.proofs.CallLemmas.{written_back, part_viewed, past_first, two_long, size_of}
@@ -86,6 +87,24 @@ returns-then-at-bytes-clause-moves g c =
     refl (search rules) refl (result_err c.put_over.result) c.requires.inside.sound
     refl c.args.at (length c.args.bytes.now) (omega (arith, split)) c.put_over.ensures.moves
 
+pub returns-then-at-bytes-clause-came : goal.returns-then-at-bytes-clause-came
+returns-then-at-bytes-clause-came g c =
+    let container = c.args.container.now in
+    let view = c.view-view.ensures.holds in
+    let left = c.put_over.new in
+    let after : Container = record container {
+      image = left.base.image.now;
+      table = with_items container.table left.table;
+      parts = record container.parts { first = left.part };
+    } in
+    let split = size_of c.difi.result.now container.parts.first.difi c.difi.ensures in
+    came_in_first g.D.Disk.state container after c.view-view.result left.base c.args.disk.now _
+    c.deref_mut.result.now left.table view.image_now view.disk_now (search rules)
+    (written_back container.table left.table c.deref_mut.result.now c.put_over.ensures.moves.hold.1 c.deref_mut.ensures.len)
+    refl (search rules) refl (result_err c.put_over.result) c.requires.inside.sound
+    refl c.args.at (length c.args.bytes.now) (omega (arith, split)) c.put_over.ensures.moves
+    c.put_over.ensures.came
+
 -- what the call on part 1 answers, at a place of it
 abbrev Asked : (g : Over) (c : After-put_over-in-Some g) → ℕ → Type 0
 Asked g c x =
@@ -158,3 +177,26 @@ returns-clause-moves g c =
     refl (search rules) refl (result_err c.put_over-in-Some.result) c.requires.inside.sound
     c.in-Some.second left.part refl c.in-Some.is refl c.args.at (c.args.at - o) (omega (arith, behind))
     (length c.args.bytes.now) fits (rw (sym split) c.put_over-in-Some.ensures.moves)
+
+pub returns-clause-came : goal.returns-clause-came
+returns-clause-came g c =
+    let container = c.args.container.now in
+    let view = c.view-view.ensures.holds in
+    let left = c.put_over-in-Some.new in
+    let after : Container = record container {
+      image = left.base.image.now;
+      table = with_items container.table left.table;
+      parts = record container.parts { second = Some left.part };
+    } in
+    let split = size_of c.difi.result.now container.parts.first.difi c.difi.ensures in
+    let o = container.parts.first.difi.ivfc4.size in
+    let behind = past_first c.args.at (length c.args.bytes.now) o c.requires.one (omega (arith, split)) in
+    let fits : c.args.at - o + length c.args.bytes.now ≤ c.in-Some.second.difi.ivfc4.size =
+    omega (arith, behind, c.requires.inside.inside, two_long (g.D.Disk.state c.args.disk.now) container c.in-Some.second c.in-Some.is) in
+    came_in_second g.D.Disk.state container after c.view-view.result left.base c.args.disk.now _
+    c.deref_mut.result.now left.table view.image_now view.disk_now (search rules)
+    (written_back container.table left.table c.deref_mut.result.now c.put_over-in-Some.ensures.moves.hold.1 c.deref_mut.ensures.len)
+    refl (search rules) refl (result_err c.put_over-in-Some.result) c.requires.inside.sound
+    c.in-Some.second left.part refl c.in-Some.is refl c.args.at (c.args.at - o) (omega (arith, behind))
+    (length c.args.bytes.now) fits (rw (sym split) c.put_over-in-Some.ensures.moves)
+    c.put_over-in-Some.ensures.came
