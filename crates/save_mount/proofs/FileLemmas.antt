@@ -108,7 +108,7 @@ module _ (table : ℕ → ℕ → Cell) (p : Places) (t : Tables) where
     pub done : (e : ℕ) → e < n → IsListOf Save table p t (OfFile e) (all (OfFile e))
     pub rest : (e : ℕ) → n ≤ e → all (OfFile e) ≡ []
 
-  pub below_none : (lists : Holder → List ℕ) (held : EntrySet) → HasNoFileLists table p t held lists
+  pub below_none : (lists : Holder → List ℕ) (held : EntrySet) → HasNoFileLists Save table p t held lists
       → HasFilesBelow lists 0 held lists
   below_none lists held h = record {
     holds = h.holds;
@@ -136,7 +136,7 @@ module _ (table : ℕ → ℕ → Cell) (p : Places) (t : Tables) where
     }
 
     pub below_all : (files : List (Option ReadEntry)) → AreReadFiles t files → length files ≤ n
-        → HasFileLists table p t lists held all
+        → HasFileLists Save table p t lists held all
     below_all files read past = record {
       holds = h.holds;
       free = h.free;

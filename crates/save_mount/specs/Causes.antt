@@ -82,3 +82,12 @@ HasListCause cells info Breaks Needs (Damaged part level block) =
 HasListCause cells info Breaks Needs (Broken table entry) = (table ≡ allocation_number) × Breaks entry
 HasListCause cells info Breaks Needs NotSave = ⊥
 HasListCause cells info Breaks Needs (Layout condition) = ⊥
+
+-- the store is no filesystem of this kind, or the disk failed
+abbrev pub IsNotSaveOrDisk : MountFault → Type 0
+IsNotSaveOrDisk Memory = ⊥
+IsNotSaveOrDisk Disk = ⊤
+IsNotSaveOrDisk (Damaged part level block) = ⊥
+IsNotSaveOrDisk (Broken table entry) = ⊥
+IsNotSaveOrDisk NotSave = ⊤
+IsNotSaveOrDisk (Layout condition) = ⊥

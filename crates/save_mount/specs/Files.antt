@@ -9,6 +9,7 @@ use Rattle.entry_tables.specs.Used.{used_entries}
 use Rattle.entry_audit.specs.declared.table.ReadEntry.{ReadEntry}
 use Rattle.entry_audit.specs.Read.{IsReadOf}
 use Rattle.held_lists.specs.declared.set.EntrySet.{EntrySet}
+use Rattle.tree_model.specs.declared.kind.TreeKind.{TreeKind}
 use Rattle.tree_model.specs.declared.kind.TreeKind.TheVariants.{Save}
 use Rattle.tree_rules.specs.declared.information.Places.{Places}
 use Rattle.tree_rules.specs.Lists.{Holder, Free, OfTable, OfFile, IsListOf}
@@ -33,18 +34,18 @@ pub record HasFileList (table : ℕ → ℕ → Cell) (p : Places) (t : Tables) 
   pub file : IsListOf Save table p t (OfFile e) (all (OfFile e))
 
 -- Before the first: the set has exactly the entries of these lists, and no file has one.
-pub record HasNoFileLists (table : ℕ → ℕ → Cell) (p : Places) (t : Tables) (held : EntrySet)
+pub record HasNoFileLists (kind : TreeKind) (table : ℕ → ℕ → Cell) (p : Places) (t : Tables) (held : EntrySet)
     (lists : Holder → List ℕ) : Type 0 where
-  pub holds : HoldsLists Save table p t held lists
+  pub holds : HoldsLists kind table p t held lists
   pub files : (e : ℕ) → lists (OfFile e) ≡ []
 
 -- Behind the last: each file has its list, and the other lists are as before.
-pub record HasFileLists (table : ℕ → ℕ → Cell) (p : Places) (t : Tables) (lists : Holder → List ℕ) (held : EntrySet)
-    (all : Holder → List ℕ) : Type 0 where
-  pub holds : HoldsLists Save table p t held all
+pub record HasFileLists (kind : TreeKind) (table : ℕ → ℕ → Cell) (p : Places) (t : Tables) (lists : Holder → List ℕ)
+    (held : EntrySet) (all : Holder → List ℕ) : Type 0 where
+  pub holds : HoldsLists kind table p t held all
   pub free : all Free ≡ lists Free
   pub tables : (entries : EntryKind) → all (OfTable entries) ≡ lists (OfTable entries)
-  pub files : (e : ℕ) → IsListOf Save table p t (OfFile e) (all (OfFile e))
+  pub files : (e : ℕ) → IsListOf kind table p t (OfFile e) (all (OfFile e))
 
 -- the words of an entry are needed to follow the chain of a used file
 abbrev pub NeedsFiles : (ℕ → ℕ → Cell) → Places → Tables → ℕ → Type 0

@@ -5,3 +5,5 @@ pub mod Structure
 pub mod Mounts
 pub mod Files
 pub mod Audited
+pub mod Counts
+pub mod Mounted

@@ -10,6 +10,7 @@ use Rattle.entry_tables.specs.Tables.{Tables}
 use Rattle.entry_tables.specs.Used.{used_entries}
 use Rattle.entry_audit.specs.Reading.{BlamesOne}
 use Rattle.tree_model.specs.declared.kind.TreeKind.{TreeKind}
+use Rattle.tree_model.specs.declared.kind.TreeKind.TheVariants.{Save}
 use Rattle.tree_layout.specs.Headers.{IsOther, HasHeader, HasBadHeader}
 use Rattle.tree_rules.specs.declared.information.Places.{Places}
 use Rattle.tree_rules.specs.Information.{information_in, information_len}
@@ -50,7 +51,8 @@ pub data FailsFirst (kind : TreeKind) (size : ℕ) (split : Option ℕ) (cells :
 pub data BlamesMount (kind : TreeKind) (size : ℕ) (split : Option ℕ) (cells : ℕ → Cell)
     (part level block : ℕ) : Type 0 where
   InHeader : HasBadHeader kind size cells part level block → BlamesMount kind size split cells part level block
-  InInformation : IsFirstFault cells (number_in 8 cells 8) information_len part level block
+  InInformation : HasHeader kind size cells (number_in 8 cells 8)
+      → IsFirstFault cells (number_in 8 cells 8) information_len part level block
       → BlamesMount kind size split cells part level block
   InLists : (entry : ℕ)
       → NeedsStructure (table_in cells (places_in kind split cells).chain) (places_in kind split cells) entry
@@ -60,7 +62,7 @@ pub data BlamesMount (kind : TreeKind) (size : ℕ) (split : Option ℕ) (cells 
       → BlamesOne (table_info size (places_in kind split cells) Dir) (table_info size (places_in kind split cells) File)
       (laid_cells size (places_in kind split cells) chains cells) part level block
       → BlamesMount kind size split cells part level block
-  InFile : (chains : EntryKind → List ℕ) → AreTableChains kind split cells chains → (e entry : ℕ)
+  InFile : kind ≡ Save → (chains : EntryKind → List ℕ) → AreTableChains kind split cells chains → (e entry : ℕ)
       → used_entries ((tables_of kind size split cells chains).table File) e
       → FileNeeds (table_in cells (places_in kind split cells).chain) (places_in kind split cells).chain.count
       ((tables_of kind size split cells chains).start e) entry

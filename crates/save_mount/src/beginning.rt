@@ -1,13 +1,14 @@
 //! What is found before the tables of entries can be read.
 
-ghost use Rattle.std.specs.Prelude.{◌≡◌, ℕ, ◌≤◌, IsTrue, IfOk, IfErr, IfSome, None};
+ghost use Rattle.std.specs.Prelude.{◌≡◌, ℕ, ◌≤◌, IsTrue, IfOk, IfErr, IfSome, None, IsErrAnd};
 ghost use Rattle.save_bytes.specs.Reads.{Reads};
 ghost use Rattle.container_header.specs.Conditions.{first_failing};
 ghost use Rattle.held_lists.specs.Sets.{HasRoomFor};
+ghost use Rattle.tree_layout.specs.Headers.{IsOther};
 ghost use Rattle.tree_rules.specs.Layout.{place_faults};
 ghost use Rattle.tree_rules.specs.Places.{places_of};
 ghost use Rattle.save_mount.specs.Held.{AreTableBlocks};
-ghost use Rattle.save_mount.specs.Causes.{refusal_in};
+ghost use Rattle.save_mount.specs.Causes.{refusal_in, IsNotSaveOrDisk};
 ghost use Rattle.save_mount.specs.Mounts.{IsBegun, HasMountCause};
 
 use crate::fault::MountFault;
@@ -41,11 +42,14 @@ pub fn begin<S: Space>(
     ensures places { IfOk result (λ begun. begun.places ≡ places_of kind split begun.info) }
     ensures faultless { IfOk result (λ begun.
         first_failing 1 (place_faults kind split (S.state store.old).shape.size begun.info) ≡ None) }
+    ensures few { IfOk result (λ begun. begun.found.free ≤ begun.places.chain.count) }
     ensures blocks { IfOk result (λ begun. AreTableBlocks begun.places begun.found.blocks.items) }
     ensures room { IfOk result (λ begun. (entry : ℕ) → entry ≤ begun.places.chain.count
         → HasRoomFor begun.found.held entry) }
     ensures cause { IsTrue (S.state store.old).told → IfErr result
         (HasMountCause kind (S.state store.old).shape.size split (S.state store.old).cells) }
+    ensures not_save { IsTrue (S.state store.old).told
+        → IsOther kind (S.state store.old).shape.size (S.state store.old).cells → IsErrAnd result IsNotSaveOrDisk }
     ensures reads { Reads S.state S.keeps S.lands store.old store.new (refusal_in result) }
 {
     let info = match read_places(store, kind, split) {

@@ -72,11 +72,11 @@ pub fn hold_files<S: Space>(
     requires small { length files.now < 2 ^ 32 }
     ensures held { let table = table_in (S.state base.old).cells p.now.chain in IsTrue (S.state base.old).told
         → (t : Tables) (lists : Holder → List ℕ) → AreReadFiles t files.now
-        → HasNoFileLists table p.now t held.old lists
-        → IfOk result (λ _. (all : Holder → List ℕ) × HasFileLists table p.now t lists held.new all) }
+        → HasNoFileLists Save table p.now t held.old lists
+        → IfOk result (λ _. (all : Holder → List ℕ) × HasFileLists Save table p.now t lists held.new all) }
     ensures cause { let table = table_in (S.state base.old).cells p.now.chain in IsTrue (S.state base.old).told
         → (t : Tables) (lists : Holder → List ℕ) → AreReadFiles t files.now
-        → HasNoFileLists table p.now t held.old lists → IfErr result (HasFilesCause table p.now t) }
+        → HasNoFileLists Save table p.now t held.old lists → IfErr result (HasFilesCause table p.now t) }
     ensures room { (entry : ℕ) → HasRoomFor held.old entry → HasRoomFor held.new entry }
     ensures reads { Reads S.state S.keeps S.lands base.old base.new (refusal_in result) }
 {

@@ -5,6 +5,7 @@ mod beginning;
 mod fault;
 mod files;
 mod lists;
+mod mount;
 mod places;
 mod structure;
 mod tables;
@@ -13,6 +14,7 @@ pub use beginning::{Begun, begin};
 pub use fault::MountFault;
 pub use files::hold_files;
 pub use lists::{FileFault, hold_file, hold_free, hold_table};
+pub use mount::Mounted;
 pub use structure::Structure;
 pub use tables::{Audited, audit_laid, table_infos};
 

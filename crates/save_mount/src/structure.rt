@@ -44,6 +44,7 @@ fn with_free<S: Space>(
     ensures cause { let table = table_in (S.state base.old).cells info in IsTrue (S.state base.old).told
         → IfErr result (HasListCause (S.state base.old).cells info
         (FailsFree table info.count) (IsFreeNeeded table info.count)) }
+    ensures few { IfOk result (λ found. found.free ≤ info.count) }
     ensures no_blocks { IfOk result (λ found. found.blocks.items ≡ []) }
     ensures room { IfOk result (λ found. (entry : ℕ) → entry ≤ info.count → HasRoomFor found.held entry) }
     ensures reads { Reads S.state S.keeps S.lands base.old base.new (refusal_in result) }
@@ -104,6 +105,7 @@ pub(crate) fn hold_structure<S: Space>(
     ensures cause { IsTrue (S.state base.old).told → IfErr result (HasListCause (S.state base.old).cells p.now.chain
         (FailsInStructure (S.state base.old).cells p.now)
         (NeedsStructure (table_in (S.state base.old).cells p.now.chain) p.now)) }
+    ensures few { IfOk result (λ found. found.free ≤ p.now.chain.count) }
     ensures blocks { IfOk result (λ found. AreTableBlocks p.now found.blocks.items) }
     ensures room { IfOk result (λ found. (entry : ℕ) → entry ≤ p.now.chain.count → HasRoomFor found.held entry) }
     ensures reads { Reads S.state S.keeps S.lands base.old base.new (refusal_in result) }

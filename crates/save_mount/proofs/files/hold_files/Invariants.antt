@@ -3,6 +3,7 @@ use Rattle.save_bytes.specs.Reads.{Reads}
 use Rattle.chain_nodes.specs.Table.{table_in}
 use Rattle.entry_tables.specs.Tables.{Tables}
 use Rattle.held_lists.specs.Sets.{HasRoomFor}
+use Rattle.tree_model.specs.declared.kind.TreeKind.TheVariants.{Save}
 use Rattle.tree_rules.specs.Lists.{Holder}
 use Rattle.save_mount.specs.Files.{AreReadFiles, HasNoFileLists}
 use Rattle.save_mount.proofs.FileLemmas.{HasFilesBelow}
@@ -16,6 +17,6 @@ invariant-loop-entry g l =
       reads : Reads g.S.Space.state g.S.Space.keeps g.S.Space.lands l.initial.base l.base None;
       room : (entry : ℕ) → HasRoomFor l.initial.held entry → HasRoomFor l.held entry;
       below : IsTrue old.told → (t : Tables) (lists : Holder → List ℕ) → AreReadFiles t l.files
-          → HasNoFileLists table l.p t l.initial.held lists
+          → HasNoFileLists Save table l.p t l.initial.held lists
           → (all : Holder → List ℕ) × HasFilesBelow table l.p t lists l.entry l.held all;
     }
