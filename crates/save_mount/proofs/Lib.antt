@@ -7,3 +7,4 @@ pub mod BeginLemmas
 pub mod FileLemmas
 pub mod CountLemmas
 pub mod AuditLemmas
+pub mod TableLemmas

@@ -5,3 +5,4 @@ pub mod Structure
 pub mod Mounts
 pub mod Files
 pub mod Audited
+pub mod Stored
