@@ -8,3 +8,4 @@ pub mod FileLemmas
 pub mod CountLemmas
 pub mod AuditLemmas
 pub mod LostLemmas
+pub mod TableLemmas

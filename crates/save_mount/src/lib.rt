@@ -1,6 +1,7 @@
 //! Mounting a filesystem: each of its rules is checked, and what is found is kept.
 #![tactic(auto)]
 
+mod audit;
 mod beginning;
 mod fault;
 mod files;
@@ -10,13 +11,14 @@ mod places;
 mod structure;
 mod tables;
 
+pub use audit::{audit_tables, read_stored};
 pub use beginning::{Begun, begin};
 pub use fault::MountFault;
 pub use files::hold_files;
 pub use lists::{FileFault, hold_file, hold_free, hold_table};
 pub use mount::Mounted;
 pub use structure::Structure;
-pub use tables::{Audited, audit_laid, table_infos};
+pub use tables::{Audited, table_infos};
 
 #[cfg(test)]
 mod files_tests;
