@@ -6,5 +6,7 @@ pub mod StructureLemmas
 pub mod BeginLemmas
 pub mod FileLemmas
 pub mod CountLemmas
+pub mod InsideLemmas
 pub mod AuditLemmas
 pub mod LostLemmas
+pub mod ExactLemmas

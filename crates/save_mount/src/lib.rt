@@ -4,6 +4,7 @@
 mod beginning;
 mod fault;
 mod files;
+mod laws;
 mod lists;
 mod mount;
 mod places;
@@ -13,6 +14,7 @@ mod tables;
 pub use beginning::{Begun, begin};
 pub use fault::MountFault;
 pub use files::hold_files;
+pub use laws::a_held_tree_is_no_cause_of_refusal;
 pub use lists::{FileFault, hold_file, hold_free, hold_table};
 pub use mount::Mounted;
 pub use structure::Structure;
