@@ -1,5 +1,5 @@
 -- Both tables, read after one another, as they were before.
-use Rattle.std.proofs.Common.{◌≡◌, ℕ, ◌+◌, ◌*◌, ◌<◌, ◌≤◌, List, [], IsTrue, Option, Some, None, refl, sym, ◌∙◌, ap, subst, arith}
+use Rattle.std.proofs.Common.{◌≡◌, ℕ, ◌+◌, ◌*◌, ◌<◌, ◌≤◌, List, [], IsTrue, Option, Some, None, refl, sym, ◌∙◌, ap, subst, arith, inl, inr}
 use Rattle.std.proofs.Math.Nat.{mul-le-mul_right}
 use Rattle.std.proofs.lemmas.Option.{none-some}
 use Rattle.std.proofs.lemmas.List.Elements.{All-contains}
@@ -43,7 +43,8 @@ use Rattle.tree_rules.proofs.SoftLemmas.{number_between, tables_same}
 use Rattle.save_mount.specs.declared.fault.MountFault.{MountFault}
 use Rattle.save_mount.specs.declared.fault.MountFault.TheVariants.{Memory, Disk, Damaged, Broken, NotSave, Layout}
 use Rattle.save_mount.specs.Causes.{bad_of}
-use Rattle.save_mount.specs.Audited.{CanAudit, AreCountsOf, AreCounted, AreFew, HasTablesCause, HasRuleCause, table_cause}
+use Rattle.save_mount.specs.Audited.{CanAudit, AreCountsOf, AreCounted, AreFew, HasBadCounts, HasTablesCause, HasRuleCause, table_cause}
+use Rattle.save_mount.proofs.InsideLemmas.{entry_inside, of_table_inside, needed_inside}
 use Rattle.save_mount.proofs.PlaceLemmas.{table_decides}
 
 -- the counts of a table that were read later
@@ -65,31 +66,42 @@ module _ (old mid : State) (stays : Stays old mid None) (told : IsTrue old.told)
       (stays.cells told (info.table_at + k) (omega (arith, h, table.zero, entry_long kind))) (known k h)
 
   -- a fault of the counts
-  pub counts_blamed : (part level block : ℕ) → IsFirstFault mid.cells info.table_at 8 part level block
-      → BlamesCell kind info old.cells part level block
-  counts_blamed part level block first =
-      let within : LiesWithin info.table_at (entry_size kind) (info.table_at + first.k) = record {
-        from = omega arith;
-        before = omega (arith, first.within, entry_long kind);
-      } in
+  pub counts_fault : (part level block : ℕ) → IsFirstFault mid.cells info.table_at 8 part level block
+      → IsFirstFault old.cells info.table_at 8 part level block
+  counts_fault part level block first =
+      let same : (k : ℕ) → k < 8 → mid.cells (info.table_at + k) ≡ old.cells (info.table_at + k) = λ k less.
+      stays.cells told (info.table_at + k) (omega (arith, less, table.zero, entry_long kind)) in
       record {
-        place = info.table_at + first.k;
-        of_table = InZero within;
-        needed = λ list. OfZero within;
-        blames = subst (λ (cell : Cell). Blames cell part level block)
-            (stays.cells told (info.table_at + first.k) (omega (arith, first.within, table.zero, entry_long kind)))
-            first.fault;
+        k = first.k;
+        within = first.within;
+        fault = subst (λ (cell : Cell). Blames cell part level block) (same first.k first.within) first.fault;
+        before = λ j less. subst IsByte (same j (omega (arith, less, first.within))) (first.before j less);
       }
+
+-- a fault of the counts is one of a needed cell
+pub counts_blamed : (kind : EntryKind) (info : TableInfo) (cells : ℕ → Cell) (part level block : ℕ)
+    → IsFirstFault cells info.table_at 8 part level block → BlamesCell kind info cells part level block
+counts_blamed kind info cells part level block first =
+    let within : LiesWithin info.table_at (entry_size kind) (info.table_at + first.k) = record {
+      from = omega arith;
+      before = omega (arith, first.within, entry_long kind);
+    } in
+    record {
+      place = info.table_at + first.k;
+      of_table = InZero within;
+      needed = λ list. OfZero within;
+      blames = first.fault;
+    }
 
 module _ (kind : TreeKind) (split : Option ℕ) (size : ℕ) (info : Information) where
   -- what a refusal of the space comes to
   pub bad_cause : (dirs files : TableInfo) (cells : ℕ → Cell) (fault : MountFault) (refusal : Bad)
-      → bad_of fault ≡ Some refusal → IfDamaged (Some refusal) (BlamesOne dirs files cells)
+      → bad_of fault ≡ Some refusal → IfDamaged (Some refusal) (HasBadCounts dirs files cells)
       → HasTablesCause kind split size info dirs files cells fault
   bad_cause dirs files cells Memory refusal is h = absurd (none-some refusal is)
   bad_cause dirs files cells Disk refusal is h = tt
   bad_cause dirs files cells (Damaged part level block) refusal is h =
-      subst (λ (found : Option Bad). IfDamaged found (BlamesOne dirs files cells)) (sym is) h
+      inl (subst (λ (found : Option Bad). IfDamaged found (HasBadCounts dirs files cells)) (sym is) h)
   bad_cause dirs files cells (Broken number entry) refusal is h = absurd (none-some refusal is)
   bad_cause dirs files cells NotSave refusal is h = absurd (none-some refusal is)
   bad_cause dirs files cells (Layout condition) refusal is h = absurd (none-some refusal is)
@@ -147,19 +159,12 @@ module _ (s : State) (kind : TreeKind) (split : Option ℕ) (size : ℕ) (info :
   abbrev t : Tables
   t = tables_in s.cells dirs files
 
-  entry_inside : (table : EntryKind) (e : ℕ) → e < (t.table table).most
-      → (info_of dirs files table).table_at + e * entry_size table + entry_size table ≤ s.shape.size
-  entry_inside table e below =
-      let room = can.room t counted.layout table in
-      let whole : (e + 1) * entry_size table ≤ (t.table table).most * entry_size table =
-      mul-le-mul_right (entry_size table) (omega (arith, below)) in
-      omega (arith, room, whole)
-
   pub tables_told : AreTold s dirs files counts.0.count counts.1.count
   tables_told table = record {
     tells = record {
       told = told;
-      entries = λ known e below. entry_inside table e below;
+      entries = λ known e below. entry_inside s.shape s.cells kind split size info dirs files can counted.layout table e
+          below;
       least = λ known. (h.counts table).least;
       most = λ known. (h.counts table).most;
     };
@@ -173,27 +178,6 @@ module _ (s : State) (kind : TreeKind) (split : Option ℕ) (size : ℕ) (info :
     count_is Dir = sym counted.dir_counts.count
     count_is File = sym counted.file_counts.count
 
-  of_table_inside : (table : EntryKind) (x : ℕ) → IsOfTable table (info_of dirs files table) (t.table table) x
-      → x < s.shape.size
-  of_table_inside table x (InZero within) = omega (arith, within.before, (can.tables table).zero)
-  of_table_inside table x (InEntry e below within) = omega (arith, within.before, entry_inside table e below)
-  of_table_inside table x (InBucket bucket below within) =
-      omega (arith, within.before, below, (can.tables table).buckets)
-
-  needed_of_table : (table : EntryKind) (x : ℕ) → HasFreedList table (t.table table)
-      → IsNeeded table (info_of dirs files table) (t.table table) x
-      → IsOfTable table (info_of dirs files table) (t.table table) x
-  needed_of_table table x whole (OfZero within) = InZero within
-  needed_of_table table x whole (OfBucket bucket below within) = InBucket bucket below within
-  needed_of_table table x whole (OfUsed e used within) =
-      InEntry e (omega (arith, used.below, (tables_told table).tells.most (counted.known table))) within
-  needed_of_table table x whole (OfFreedWord e list freed listed within) =
-      let can_be = All-contains (CanBeFreed table (t.table table)) whole.0 e whole.1.inside
-      (subst (λ (l : List ℕ). Contains l e)
-      (freed_same (t.table table) whole.0 list whole.1.leads freed) listed) in
-      InEntry e (omega (arith, can_be.1, (tables_told table).tells.most (counted.known table)))
-      (record { from = omega (arith, within.from); before = omega (arith, within.before, link_last table) })
-
   -- what was read later
   module _ (mid : State) (stays : Stays s mid None) where
     pub told_still : AreTold mid dirs files counts.0.count counts.1.count
@@ -202,7 +186,8 @@ module _ (s : State) (kind : TreeKind) (split : Option ℕ) (size : ℕ) (info :
 
     pub tables_before : tables_in mid.cells dirs files ≡ t
     tables_before = tables_same dirs files s.cells mid.cells
-        (λ table x within. ap value_of (stays.cells told x (of_table_inside table x within)))
+        (λ table x within. ap value_of (stays.cells told x
+        (of_table_inside s.shape s.cells kind split size info dirs files can counted.layout table x within)))
 
     pub blamed_before : (part level block : ℕ) → BlamesOne dirs files mid.cells part level block
         → BlamesOne dirs files s.cells part level block
@@ -216,7 +201,8 @@ module _ (s : State) (kind : TreeKind) (split : Option ℕ) (size : ℕ) (info :
         → HasNeededBytes dirs files s.cells
     bytes_before read are bytes table x needed =
         subst IsByte (stays.cells told x
-        (of_table_inside table x (needed_of_table table x (are table).freed needed)))
+        (needed_inside s.shape s.cells kind split size info dirs files can counted.layout table x (are table).freed
+        needed))
         (bytes table x (subst (λ (t : Tables). IsNeeded table (info_of dirs files table) (t.table table) x)
         (sym tables_before) needed))
 
@@ -228,7 +214,7 @@ module _ (s : State) (kind : TreeKind) (split : Option ℕ) (size : ℕ) (info :
     tables_cause table.Memory h = tt
     tables_cause (table.Entries (fault.Bad bad.Disk)) h = tt
     tables_cause (table.Entries (fault.Bad (bad.Damaged part level block))) h =
-        blamed_before part level block (h.damaged told_still)
+        inr (counted.layout, blamed_before part level block (h.damaged told_still))
     tables_cause (table.Entries (fault.Broken number entry)) h =
         let fails = h.broken told_still in (
           counted.layout,

@@ -6,6 +6,8 @@ pub mod StructureLemmas
 pub mod BeginLemmas
 pub mod FileLemmas
 pub mod CountLemmas
+pub mod InsideLemmas
 pub mod AuditLemmas
 pub mod LostLemmas
 pub mod TableLemmas
+pub mod ExactLemmas

@@ -1,7 +1,8 @@
 -- Both tables of entries, where they stand in cells: how they are read, and why they are refused.
-use Rattle.std.specs.Prelude.{◌≡◌, ℕ, ◌+◌, ◌*◌, ◌^◌, ◌<◌, ◌≤◌, ◌↔◌, List, length, get_or, nat_eq, Option, Some, None, Contains, ⊤}
+use Rattle.std.specs.Prelude.{◌≡◌, ◌⊎◌, ℕ, ◌+◌, ◌*◌, ◌^◌, ◌<◌, ◌≤◌, ◌↔◌, List, length, get_or, nat_eq, Option, Some, None, Contains, ⊤}
 use Rattle.std.specs.List.{IsDistinct}
 use Rattle.save_bytes.specs.Cells.{Cell}
+use Rattle.save_bytes.specs.Answers.{IsFirstFault}
 use Rattle.save_bytes.specs.State.{Shape}
 use Rattle.save_bytes.specs.declared.space.Bad.TheVariants as bad
 use Rattle.container_header.specs.Conditions.{first_failing}
@@ -66,14 +67,21 @@ pub record AreTablesRead (kind : TreeKind) (split : Option ℕ) (size : ℕ) (in
   pub read : AreReadTables (tables_in cells dirs files) found.0
   pub bytes : HasNeededBytes dirs files cells
 
--- Why both tables are refused: a condition fails; or a rule, where no condition does; or a cell of theirs is damaged,
--- a needed one as far as the freed entries have their list.
+-- the counts of a table can't be read, for the first of their cells that is no byte
+abbrev pub HasBadCounts : TableInfo → TableInfo → (ℕ → Cell) → ℕ → ℕ → ℕ → Type 0
+HasBadCounts dirs files cells part level block =
+    (table : EntryKind) × IsFirstFault cells (info_of dirs files table).table_at 8 part level block
+
+-- Why both tables are refused: a condition fails; or a rule, where no condition does; or a cell of theirs is damaged:
+-- one of their counts or, where no condition fails, a needed one as far as the freed entries have their list.
 abbrev pub HasTablesCause : TreeKind → Option ℕ → ℕ → Information → TableInfo → TableInfo → (ℕ → Cell) → MountFault
     → Type 0
 HasTablesCause kind split size info dirs files cells Memory = ⊤
 HasTablesCause kind split size info dirs files cells Disk = ⊤
 HasTablesCause kind split size info dirs files cells (Damaged part level block) =
-    BlamesOne dirs files cells part level block
+    HasBadCounts dirs files cells part level block
+    ⊎ ((layout_fault kind split size info (tables_in cells dirs files) ≡ None)
+    × BlamesOne dirs files cells part level block)
 HasTablesCause kind split size info dirs files cells (Broken number entry) =
     (layout_fault kind split size info (tables_in cells dirs files) ≡ None)
     × RuleFailsAt (tables_in cells dirs files) number entry

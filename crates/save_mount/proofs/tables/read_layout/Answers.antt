@@ -6,7 +6,7 @@ use Rattle.entry_tables.specs.declared.table.EntryKind.TheVariants.{Dir, File}
 use Rattle.entry_tables.specs.Tables.{table_in, tables_in}
 use Rattle.entry_tables.proofs.StayLemmas.{HasEntryTable-stays}
 use Rattle.save_mount.specs.Audited.{AreCountsOf}
-use Rattle.save_mount.proofs.AuditLemmas.{counts_before, known_before, counts_blamed, bad_cause, layout_is, few_counts}
+use Rattle.save_mount.proofs.AuditLemmas.{counts_before, known_before, counts_fault, bad_cause, layout_is, few_counts}
 use Rattle.save_mount.proofs.tables.read_layout.Goals as goal
 
 -- what holds of both kinds
@@ -22,6 +22,13 @@ read_counts-requires-2 g c =
     HasEntryTable-stays (g.S.Space.state c.args.space.now) (g.S.Space.state c.read_counts.new.space)
     c.in-Ok.ensures.reads.stays File c.args.files (c.requires.tables File)
 
+pub returns-in-Err-clause-cause : goal.returns-in-Err-clause-cause
+returns-in-Err-clause-cause g c told =
+    bad_cause c.args.kind c.args.split c.args.size c.args.info.now c.args.dirs c.args.files
+    (g.S.Space.state c.args.space.now).cells _ c.in-Err.bad c.refused.ensures
+    (IfDamaged-map (Some c.in-Err.bad) (λ part level block first. (Dir, first))
+    (c.in-Err.ensures.read.damaged told))
+
 pub returns-in-Err-read_counts-clause-cause : goal.returns-in-Err-read_counts-clause-cause
 returns-in-Err-read_counts-clause-cause g c told =
     let old = g.S.Space.state c.args.space.now in
@@ -32,7 +39,7 @@ returns-in-Err-read_counts-clause-cause g c told =
     (IfDamaged-map (Some c.in-Err-read_counts.bad)
     (λ part level block first. (
       File,
-      counts_blamed old mid stays told File c.args.files (c.requires.tables File)
+      counts_fault old mid stays told File c.args.files (c.requires.tables File)
           part level block first,
     ))
     (c.in-Err-read_counts.ensures.read.damaged (stays.space.told told)))
