@@ -1,0 +1,3 @@
+pub mod DescentLemmas
+pub mod CauseLemmas
+pub mod ChildLemmas
