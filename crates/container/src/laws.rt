@@ -7,7 +7,8 @@ ghost use Rattle.container.specs.Openings.{fault_of};
 ghost use Rattle.container.specs.Opens.{Opens};
 ghost use Rattle.container.specs.declared.open.Container.{Container};
 ghost use Rattle.container.specs.Containers.{IsOpenOf, IsWholeContainer};
-ghost use Rattle.container.specs.StoreHeld.{IsKept};
+ghost use Rattle.container.specs.StoreHeld.{IsKept, SameContainer};
+ghost use Rattle.container.specs.Aborts.{WasOpenOf};
 
 /// An image opens under a signer exactly where no fault of it is found, whichever condition is tried first.
 pub fn opens_exactly_where_no_fault_is_found()
@@ -20,4 +21,14 @@ pub fn what_was_only_read_stays_open()
     ensures whole { (old new : Container) → IsKept old new → new.image.len ≡ old.image.len → IsWholeContainer old → IsWholeContainer new }
     ensures opened { (old new : Container) → IsKept old new → (sign : Signing) (image : List ℕ) → IsOpenOf sign image old
         → IsOpenOf sign image new }
+{}
+
+/// A container that calls on its store changed is as whole as before, and was opened of what it was opened of.
+pub fn what_was_written_stays_whole()
+    ensures whole { (old new : Container) → SameContainer old new → new.image.len ≡ old.image.len → IsWholeContainer old
+        → IsWholeContainer new }
+    ensures begins { (sign : Signing) (image : List ℕ) (container : Container) → IsOpenOf sign image container
+        → WasOpenOf sign image container }
+    ensures opened { (old new : Container) → SameContainer old new → (sign : Signing) (image : List ℕ)
+        → WasOpenOf sign image old → WasOpenOf sign image new }
 {}

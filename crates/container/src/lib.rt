@@ -17,7 +17,10 @@ mod within;
 mod writing;
 
 pub use fault::OpenFault;
-pub use laws::{opens_exactly_where_no_fault_is_found, what_was_only_read_stays_open};
+pub use laws::{
+    opens_exactly_where_no_fault_is_found, what_was_only_read_stays_open,
+    what_was_written_stays_whole,
+};
 pub use open::Container;
 pub use store::Store;
 
