@@ -1,13 +1,15 @@
 -- The words of the table, read in a space.
 use Rattle.std.proofs.Common.{◌≡◌, ℕ, ◌+◌, ◌-◌, ◌*◌, ◌<◌, ◌≤◌, min, IsTrue, sym, ap, arith, ⊎_elim}
+use Rattle.std.proofs.Common.{List, length, take, drop, ◌∙◌, add-zero}
 use Rattle.std.proofs.lemmas.Bool.{cases_lt}
 use Rattle.save_bytes.specs.Fields.{number_at}
-use Rattle.save_bytes.specs.Cells.{Cell, IsByte}
-use Rattle.save_bytes.specs.CellNumbers.{number_in}
+use Rattle.save_bytes.specs.Cells.{Cell, IsByte, AreBytesAt}
+use Rattle.save_bytes.specs.CellNumbers.{bytes_in, number_in}
 use Rattle.save_bytes.specs.State.{State}
 use Rattle.save_bytes.specs.Answers.{IsFirstFault}
 use Rattle.save_bytes.specs.Stays.{Stays}
-use Rattle.save_bytes.proofs.CellLemmas.{bytes_in-same}
+use Rattle.save_bytes.proofs.CellLemmas.{bytes_in-same, bytes_in-is, bytes_in-part}
+use Rattle.save_bytes.proofs.FieldLemmas.{number_at-drop, number_at-take}
 use Rattle.std.proofs.Common.{None}
 use Rattle.chain_nodes.specs.declared.info.ChainInfo.{ChainInfo}
 use Rattle.chain_nodes.specs.Table.{table_in, word_u, word_v, HasWords, HasFault, HasAllocationTable}
@@ -63,17 +65,32 @@ module _ (cells : ℕ → Cell) (info : ChainInfo) (entry at : ℕ) (inside : en
       rw (table_cell cells info entry k inside h, there) (second (k - 4) (omega arith)))
       (cases_lt k 4)
 
-  -- a damaged byte in one of them
-  pub fault_in_u : (part level block : ℕ) → IsFirstFault cells at 4 part level block
+  -- and in the whole entry
+  pub has_bytes : ((k : ℕ) → k < 8 → IsByte (cells (at + k))) → HasWords (table_in cells info) entry
+  has_bytes bytes k h =
+      let there : info.table_at + 8 * entry + k ≡ at + k = omega arith in
+      rw (table_cell cells info entry k inside h, there) (bytes k h)
+
+  -- a damaged byte in it
+  pub fault_in : (part level block : ℕ) → IsFirstFault cells at 8 part level block
       → HasFault (table_in cells info) entry part level block
-  fault_in_u part level block first =
+  fault_in part level block first =
       let small : first.k < 8 = omega (arith, first.within) in
       let there : info.table_at + 8 * entry + first.k ≡ at + first.k = omega arith in
       (first.k, small, rw (table_cell cells info entry first.k inside small, there) first.fault)
 
-  pub fault_in_v : (part level block : ℕ) → IsFirstFault cells (at + 4) 4 part level block
-      → HasFault (table_in cells info) entry part level block
-  fault_in_v part level block first =
-      let small : 4 + first.k < 8 = omega (arith, first.within) in
-      let there : info.table_at + 8 * entry + (4 + first.k) ≡ at + 4 + first.k = omega arith in
-      (4 + first.k, small, rw (table_cell cells info entry (4 + first.k) inside small, there) first.fault)
+  -- the words in the bytes that were read
+  module _ (words : List ℕ) (long : length words ≡ 8) (are : AreBytesAt cells at words) where
+    word_at : (k : ℕ) → k + 4 ≤ 8 → number_at 4 words k ≡ number_in 4 cells (at + k)
+    word_at k fits =
+        sym (number_at-drop 4 words k)
+        ∙ sym (number_at-take 4 4 (drop k words) 0 (omega arith))
+        ∙ ap (λ (l : List ℕ). number_at 4 (take 4 (drop k l)) 0)
+        (sym (bytes_in-is cells at words are) ∙ ap (bytes_in cells at) long)
+        ∙ ap (λ (l : List ℕ). number_at 4 l 0) (bytes_in-part cells at 8 k 4 fits)
+
+    pub word_u-read : number_at 4 words 0 ≡ word_u (table_in cells info) entry
+    word_u-read = word_at 0 (omega arith) ∙ ap (number_in 4 cells) (add-zero at) ∙ word_u-is
+
+    pub word_v-read : number_at 4 words 4 ≡ word_v (table_in cells info) entry
+    word_v-read = word_at 4 (omega arith) ∙ word_v-is

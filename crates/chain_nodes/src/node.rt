@@ -11,7 +11,7 @@ ghost use Rattle.chain_nodes.specs.Faults.{IsLong, IsHead, IsSecond, IsFaulty, r
 
 use crate::fault::ChainFault;
 use crate::info::ChainInfo;
-use save_bytes::{Bad, Space, space_u32};
+use save_bytes::{Bad, Space, space_copy, u32_at};
 
 /// The flag of a word, which is bit 31.
 pub const FLAG: u32 = 0x8000_0000;
@@ -61,7 +61,7 @@ impl Lead {
     }
 }
 
-/// Reads an entry's words.
+/// Reads an entry's words, by one copy of its eight bytes.
 pub fn read_entry<S: Space>(base: &mut S, info: ChainInfo, entry: u32) -> Result<Entry, Bad>
     requires table { HasAllocationTable (S.state base.old).shape info }
     requires inside { entry ≤ info.count }
@@ -72,16 +72,14 @@ pub fn read_entry<S: Space>(base: &mut S, info: ChainInfo, entry: u32) -> Result
     ensures plain { IsTrue (S.state base.old).shape.plain → NeverDamaged (result_err result) }
     ensures reads { Reads S.state S.keeps S.lands base.old base.new (result_err result) }
 {
-    let at = info.table_at + 8 * u64::from(entry);
-    let u = match space_u32(base, at) {
-        Ok(u) => u,
-        Err(bad) => return Err(bad),
-    };
-    let v = match space_u32(base, at + 4) {
-        Ok(v) => v,
-        Err(bad) => return Err(bad),
-    };
-    Ok(Entry { u, v })
+    let mut words = [0; 8];
+    match space_copy(base, info.table_at + 8 * u64::from(entry), &mut words) {
+        Ok(()) => Ok(Entry {
+            u: u32_at(&words, 0),
+            v: u32_at(&words, 4),
+        }),
+        Err(bad) => Err(bad),
+    }
 }
 
 // Reads the first entry of a node, and gives its word V.

@@ -34,7 +34,8 @@ use Rattle.entry_tables.specs.Words.{HasWord, word_place, tables_after}
 use Rattle.entry_tables.specs.Causes.{IfRuleBroken}
 use Rattle.entry_tables.proofs.CauseLemmas.{IfRuleBroken-map}
 use Rattle.entry_tables.proofs.FailLemmas.{nowhere_fails}
-use Rattle.entry_tables.specs.Changes.{EntriesOf, CanChangeTables, IsBounded, CanSet, CanSetAll, AreSet, IsSite, ChangesAt}
+use Rattle.entry_tables.specs.Changes.{EntriesOf, CanChangeTables, IsBounded, CanSet, CanSetAll, AreSet, IsSite}
+use Rattle.entry_tables.specs.Changes.{ChangesAt}
 use Rattle.entry_tables.specs.Changes.{Area, IsAreaPlace}
 use Rattle.entry_tables.proofs.EntryLemmas.{least_some}
 use Rattle.entry_tables.proofs.QuietLemmas.{stays_tables}
@@ -49,7 +50,8 @@ use Rattle.entry_changes.proofs.PlannedLemmas.{zero_has}
 use Rattle.entry_additions.specs.declared.entry.NewEntry.{NewEntry}
 use Rattle.entry_additions.specs.declared.entry.NewPlace.{NewPlace}
 use Rattle.entry_additions.specs.declared.plan.Addition.{Addition}
-use Rattle.entry_additions.specs.Added.{taken_entry, taken_edit, count_after, freed_after, HasRoom, table_put, tables_put}
+use Rattle.entry_additions.specs.Added.{taken_entry, taken_edit, count_after, freed_after, HasRoom, table_put}
+use Rattle.entry_additions.specs.Added.{tables_put}
 use Rattle.entry_additions.specs.Added.{tables_with_new}
 use Rattle.entry_additions.specs.Gains.{GainsOne}
 use Rattle.entry_additions.specs.Puts.{IsEntryPut}
@@ -77,7 +79,8 @@ buckets_put t kind e new sibling link =
 
 has_put : (t : Tables) (kind : EntryKind) (e : ℕ) (new : NewEntry) (sibling link : ℕ) (word : Word) → HasWord t word
     → HasWord (tables_put t kind e new sibling link) word
-has_put t kind e new sibling link (Head other bucket) has = omega (arith, has, buckets_put t kind e new sibling link other)
+has_put t kind e new sibling link (Head other bucket) has =
+    omega (arith, has, buckets_put t kind e new sibling link other)
 has_put t kind e new sibling link (Link other f) has = omega (arith, has, most_put t kind e new sibling link other)
 has_put t kind e new sibling link (Sibling other f) has =
     record { some = has.some; below = omega (arith, has.below, most_put t kind e new sibling link other) }
@@ -138,7 +141,8 @@ module _ (s : State) (dirs files : TableInfo) (can : CanChangeTables s dirs file
 
 -- all together the tables have one entry more
 pub added_to : (s t u v : State) (dirs files : TableInfo) → HasEntryTables s.shape dirs files
-    → (can : CanChangeTables s dirs files) (stays : Stays s t None) (kind : EntryKind) (new : NewEntry) (plan : Addition)
+    → (can : CanChangeTables s dirs files) (stays : Stays s t None) (kind : EntryKind) (new : NewEntry)
+    (plan : Addition)
     → MayAdd (tables_in s.cells dirs files) kind new.parent new.name.0
     → IsAdditionPlan s dirs files kind new.parent new.name.0 plan → IsEntryPut t u dirs files kind plan.place new
     → AreSet u v dirs files plan.edits
@@ -187,7 +191,8 @@ taken_blamed s t dirs files can stays kind parent name plan refusal may made rea
           (taking_is s dirs files can kind parent name may).fresh;
       place = entry_place kind (info_of dirs files kind) plan.place.entry + first.k;
       within = record { from = omega arith; before = omega (arith, first.within) };
-      spoilt = sym (stays.cells (can.tells Dir).told (entry_place kind (info_of dirs files kind) plan.place.entry + first.k)
+      spoilt = sym (stays.cells (can.tells Dir).told
+          (entry_place kind (info_of dirs files kind) plan.place.entry + first.k)
           (omega (arith, first.within, (can.tells kind).entries (can.counts kind) plan.place.entry made.has.below)))
           ∙ first.spoilt;
     }))
@@ -211,7 +216,8 @@ taken_never s t dirs files can stays kind parent name plan refusal made bytes re
 
 -- and where it may be, none is spoilt
 pub taken_ready : (s t : State) (dirs files : TableInfo) (can : CanChangeTables s dirs files) (stays : Stays s t None)
-    (kind : EntryKind) (parent : ℕ) (name : List ℕ) (plan : Addition) → IsAdditionPlan s dirs files kind parent name plan
+    (kind : EntryKind) (parent : ℕ) (name : List ℕ) (plan : Addition)
+    → IsAdditionPlan s dirs files kind parent name plan
     → HasAdditionWords s dirs files kind parent name
     → (entry_place kind (info_of dirs files kind) plan.place.entry + entry_size kind ≤ t.shape.size
     → IsReady t (entry_place kind (info_of dirs files kind) plan.place.entry) (entry_size kind) None)
@@ -291,7 +297,8 @@ softened_unspoilt (Spoilt part level block) new is soft = absurd is
 
 pub addition_bytes_later : (was now : State) (dirs files : TableInfo) → HasEntryTables now.shape dirs files
     → CanChangeTables was dirs files → HaveSoftened was now dirs files → (kind : EntryKind) (parent : ℕ) (name : List ℕ)
-    → MayAdd (tables_in now.cells dirs files) kind parent name → HasAdditionBytes was dirs files kind parent name → HasAdditionBytes now dirs files kind parent name
+    → MayAdd (tables_in now.cells dirs files) kind parent name → HasAdditionBytes was dirs files kind parent name
+    → HasAdditionBytes now dirs files kind parent name
 addition_bytes_later was now dirs files there can soft kind parent name may_now bytes =
     let tables = subst (λ (shape : Shape). HasEntryTables shape dirs files) soft.shape there in
     let may = subst (λ (u : Tables). MayAdd u kind parent name) soft.tables may_now in
@@ -392,7 +399,8 @@ fits_later s t dirs files can stays kind parent name plan made =
 
 -- for callers: as far as the rules hold, none is said to fail
 pub never_broken : {A : Type 0} (s : State) (dirs files : TableInfo) (kind : EntryKind) (parent : ℕ) (name : List ℕ)
-    (result : Result A EntryFault) → HasAdditionCause s dirs files kind parent name result → CanChangeTables s dirs files
+    (result : Result A EntryFault) → HasAdditionCause s dirs files kind parent name result
+    → CanChangeTables s dirs files
     → MayAdd (tables_in s.cells dirs files) kind parent name → IfRuleBroken result (λ table number. ⊥)
 never_broken s dirs files kind parent name result cause can may =
     IfRuleBroken-map result

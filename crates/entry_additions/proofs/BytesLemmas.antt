@@ -95,7 +95,8 @@ module _ (u : State) (dirs files : TableInfo) (tables : HasEntryTables u.shape d
       → v.cells (entry_place kind (info_of dirs files kind) e + k) ≡ Byte value
   bytes_stay has v edits set elsewhere soft k value less is =
       let here : IsAreaPlace u.cells dirs files (EntriesOf kind)
-      (entry_place kind (info_of dirs files kind) e + k) = (e, has.below, record { from = omega arith; before = omega (arith, less) }) in
+      (entry_place kind (info_of dirs files kind) e + k) =
+      (e, has.below, record { from = omega arith; before = omega (arith, less) }) in
       let softened : MaySoften (u.cells (entry_place kind (info_of dirs files kind) e + k))
       (v.cells (entry_place kind (info_of dirs files kind) e + k)) =
       soft (entry_place kind (info_of dirs files kind) e + k)

@@ -1,7 +1,9 @@
 -- Bytes that are put one behind another into zeros, and what is read of them.
-use Rattle.std.proofs.Common.{◌≡◌, ℕ, ◌+◌, ◌-◌, ◌^◌, ◌<◌, ◌≤◌, List, ◌++◌, length, replicate, take, drop, get_or, refl, sym, ◌∙◌, ap}
+use Rattle.std.proofs.Common.{◌≡◌, ℕ, ◌+◌, ◌-◌, ◌^◌, ◌<◌, ◌≤◌, List, ◌++◌, length, replicate, take, drop, get_or, refl}
+use Rattle.std.proofs.Common.{sym, ◌∙◌, ap}
 use Rattle.std.proofs.Common.{[], arith, append_assoc, zero-add, length-append}
-use Rattle.std.proofs.lemmas.List.{append-nil, take-replicate, drop-replicate, get_or-append-add, get_or-replicate, length-replicate}
+use Rattle.std.proofs.lemmas.List.{append-nil, take-replicate, drop-replicate, get_or-append-add, get_or-replicate}
+use Rattle.std.proofs.lemmas.List.{length-replicate}
 use Rattle.byteorder.specs.Numbers.{little_number-reads_back}
 use Rattle.std.proofs.Math.Seq.{take-append-add, drop-append-add, take-append_seam, drop-append_seam}
 use Rattle.byteorder.specs.Endian.{little_bytes}

@@ -1,5 +1,6 @@
 -- What is read before an entry is added, and why that is refused.
-use Rattle.std.proofs.Common.{◌≡◌, ◌≢◌, ℕ, ◌+◌, ◌<◌, IsTrue, List, [], ◌∷◌, Option, Some, None, Result, Ok, Err, refl, sym}
+use Rattle.std.proofs.Common.{◌≡◌, ◌≢◌, ℕ, ◌+◌, ◌<◌, IsTrue, List, [], ◌∷◌, Option, Some, None, Result, Ok, Err, refl}
+use Rattle.std.proofs.Common.{sym}
 use Rattle.std.proofs.Common.{◌∙◌, ap, subst, arith, ⊎_elim}
 use Rattle.std.specs.List.{All}
 use Rattle.std.proofs.lemmas.Bool.{cases_eq, eq-eqb, ne_eqb}
@@ -79,7 +80,8 @@ pub freed_taken : (t : Table) → t.link 0 ≢ 0 → taken_entry t ≡ t.link 0
 freed_taken t some = rw (ne_eqb (t.link 0) 0 some) refl
 
 -- a word of bytes may have any number
-pub bytes_set : (s : State) (dirs files : TableInfo) (word : Word) (value : ℕ) → HasWord (tables_in s.cells dirs files) word
+pub bytes_set : (s : State) (dirs files : TableInfo) (word : Word) (value : ℕ)
+    → HasWord (tables_in s.cells dirs files) word
     → IsBounded (tables_in s.cells dirs files) word value → AreBytesOf s.cells dirs files word
     → CanSet s dirs files (record { word = word; value = value })
 bytes_set s dirs files word value has bounded bytes = record {
@@ -89,7 +91,8 @@ bytes_set s dirs files word value has bounded bytes = record {
 }
 
 -- the words that are read
-pub head_has : (s : State) (dirs files : TableInfo) → HasEntryTables s.shape dirs files → (kind : EntryKind) (parent : ℕ)
+pub head_has : (s : State) (dirs files : TableInfo) → HasEntryTables s.shape dirs files
+    → (kind : EntryKind) (parent : ℕ)
     (name : List ℕ)
     → HasWord (tables_in s.cells dirs files) (Head kind (bucket_number parent name (info_of dirs files kind).buckets))
 head_has s dirs files tables kind parent name =
@@ -132,7 +135,8 @@ module _ (s t : State) (dirs files : TableInfo) (tables : HasEntryTables s.shape
       → IfDamaged refusal (BlamesForNew s.cells dirs files kind)
   first_blamed kind parent refusal used read =
       new_word_blamed kind Dir (First kind parent) refusal (first_has s dirs files can kind parent used)
-      (λ j less. OfUsed parent used (record { from = omega arith; before = omega (arith, less, child_inside kind) })) read
+      (λ j less. OfUsed parent used
+      (record { from = omega arith; before = omega (arith, less, child_inside kind) })) read
 
   -- the counts that were read
   pub counts_then : (kind : EntryKind) (counts : Counts) (freed : ℕ)

@@ -289,7 +289,8 @@ module _ (s : State) (dirs files : TableInfo) (tables : HasEntryTables s.shape d
           (entry_place kind (info_of dirs files kind) e + 0) (entry_size kind) other 0 4 4
       quiet other = missed other 0 4 4 (omega (arith, entry_long other)) (λ same zero. omega (arith, zero, has.some))
 
-      most_is : (other : EntryKind) → most_in cells (info_of dirs files other) ≡ most_in s.cells (info_of dirs files other)
+      most_is : (other : EntryKind) → most_in cells (info_of dirs files other)
+          ≡ most_in s.cells (info_of dirs files other)
       most_is = most_kept s dirs files tables can (EntriesOf kind) (entry_place kind (info_of dirs files kind) e + 0)
           (entry_size kind) whole_run cells soft quiet
 
@@ -343,7 +344,8 @@ module _ (s : State) (dirs files : TableInfo) (tables : HasEntryTables s.shape d
           → number_in n cells (entry_place kind (info_of dirs files kind) e + offset) ≡ value
       number_put_at n offset value inside is =
           sym (field_is n cells (entry_place kind (info_of dirs files kind) e) offset
-          (entry_place kind (info_of dirs files kind) e + offset) bytes are (omega (arith, fields.long, inside)) refl) ∙ is
+          (entry_place kind (info_of dirs files kind) e + offset) bytes are
+          (omega (arith, fields.long, inside)) refl) ∙ is
 
       parent_put : number_in 4 cells (entry_place kind (info_of dirs files kind) e) ≡ new.parent
       parent_put =
@@ -354,7 +356,8 @@ module _ (s : State) (dirs files : TableInfo) (tables : HasEntryTables s.shape d
       name_put : bytes_in cells (entry_place kind (info_of dirs files kind) e + 4) 16 ≡ new.name.0
       name_put =
           sym (part_is 16 cells (entry_place kind (info_of dirs files kind) e) 4
-          (entry_place kind (info_of dirs files kind) e + 4) bytes are (omega (arith, fields.long, entry_long kind)) refl)
+          (entry_place kind (info_of dirs files kind) e + 4) bytes are
+          (omega (arith, fields.long, entry_long kind)) refl)
           ∙ fields.name
 
       link_put : number_in 4 cells (entry_place kind (info_of dirs files kind) e + link_offset kind) ≡ link
@@ -387,12 +390,14 @@ module _ (s : State) (dirs files : TableInfo) (tables : HasEntryTables s.shape d
             (λ differs. parent_is kind f (λ same. differs));
         name = λ f. with_at-reads e f new.name.0 (table_in s.cells kind (info_of dirs files kind)).name
             ((table_in cells kind (info_of dirs files kind)).name f)
-            (λ here. rw here (field_put (bytes_in cells (entry_place kind (info_of dirs files kind) e + 4) 16) new.name.0 []
+            (λ here. rw here (field_put
+            (bytes_in cells (entry_place kind (info_of dirs files kind) e + 4) 16) new.name.0 []
             name_put))
             (λ differs. name_is kind f (λ same. differs));
         sibling = λ f. with_at-reads e f sibling (table_in s.cells kind (info_of dirs files kind)).sibling
             ((table_in cells kind (info_of dirs files kind)).sibling f)
-            (λ here. rw here (field_put (number_in 4 cells (entry_place kind (info_of dirs files kind) e + 0x14)) sibling 0
+            (λ here. rw here (field_put
+            (number_in 4 cells (entry_place kind (info_of dirs files kind) e + 0x14)) sibling 0
             (number_put_at 4 0x14 sibling (omega (arith, entry_long kind)) fields.next)))
             (λ differs. sibling_is kind f (λ same. differs));
         link = λ f. with_at-reads e f link (table_in s.cells kind (info_of dirs files kind)).link
@@ -402,7 +407,8 @@ module _ (s : State) (dirs files : TableInfo) (tables : HasEntryTables s.shape d
             (λ differs. link_is kind f (λ same. differs));
       })
 
-      child_put : (child : EntryKind) → kind ≡ Dir → (dir : ℕ) → dir ≡ e → (tables_in cells dirs files).first child dir ≡ 0
+      child_put : (child : EntryKind) → kind ≡ Dir → (dir : ℕ) → dir ≡ e
+          → (tables_in cells dirs files).first child dir ≡ 0
       child_put child is dir here = rw here (at_dir is)
         where
           at_dir : kind ≡ Dir → (tables_in cells dirs files).first child e ≡ 0
@@ -413,7 +419,8 @@ module _ (s : State) (dirs files : TableInfo) (tables : HasEntryTables s.shape d
               number_put_at 4 (child_offset child) 0 size (fields.first is child) in
               subst (λ (k : EntryKind). (if is_entry (most_in cells (info_of dirs files k)) e
               then number_in 4 cells (entry_place k (info_of dirs files k) e + child_offset child) else 0) ≡ 0) is
-              (field_put (number_in 4 cells (entry_place kind (info_of dirs files kind) e + child_offset child)) 0 0 read)
+              (field_put
+              (number_in 4 cells (entry_place kind (info_of dirs files kind) e + child_offset child)) 0 0 read)
 
       start_put : kind ≡ File → (f : ℕ) → f ≡ e → (tables_in cells dirs files).start f ≡ new.fields.start
       start_put is f here = rw here (at_file is)

@@ -172,7 +172,8 @@ addition_after t kind new some =
     (cases_eq ((t.table kind).link 0) 0)
   where
     next_case : (t.table kind).link 0 ≡ 0 → (t.table kind).count ≢ 0
-        → tables_after (tables_begun t kind (taken_entry (t.table kind)) new) (addition_edits t kind new.parent new.name.0)
+        → tables_after (tables_begun t kind (taken_entry (t.table kind)) new)
+        (addition_edits t kind new.parent new.name.0)
         ≡ tables_with_new t kind new
     next_case none counted = rw (eq-eqb ((t.table kind).link 0) 0 none)
         (after_next t (t.table kind).count ((t.table kind).count + 1) new counted kind none)

@@ -105,6 +105,7 @@ pub record IsAdditionPlan (s : State) (dirs files : TableInfo) (kind : EntryKind
   pub has : HasEntry (table_in s.cells kind (info_of dirs files kind)) plan.place.entry
   pub sibling : plan.place.sibling ≡ (tables_in s.cells dirs files).first kind parent
   pub link : plan.place.link
-      ≡ (table_in s.cells kind (info_of dirs files kind)).head (bucket_number parent name (info_of dirs files kind).buckets)
+      ≡ (table_in s.cells kind (info_of dirs files kind)).head
+      (bucket_number parent name (info_of dirs files kind).buckets)
   pub edits : plan.edits ≡ addition_edits (tables_in s.cells dirs files) kind parent name
   pub can : CanSetAll s dirs files plan.edits

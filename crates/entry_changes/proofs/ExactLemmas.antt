@@ -48,7 +48,8 @@ softened_byte (Blank part level block) new is soft = absurd is
 softened_byte (Spoilt part level block) new is soft = absurd is
 
 -- bytes are read
-read_never : (s : State) (at n : ℕ) (refusal : Option Bad) → IsTrue s.told → ((k : ℕ) → k < n → IsByte (s.cells (at + k)))
+read_never : (s : State) (at n : ℕ) (refusal : Option Bad) → IsTrue s.told
+    → ((k : ℕ) → k < n → IsByte (s.cells (at + k)))
     → IsRead s at n refusal → NeverDamaged refusal
 read_never s at n refusal told bytes read =
     IfDamaged-map refusal
@@ -185,7 +186,8 @@ removal_bytes_later was now dirs files there can soft kind e may_now bytes =
           (ways_later was now dirs files tables can soft.tables later
           (Bucket kind (bucket_of (table_in was.cells kind (info_of dirs files kind)) e)) e
           (bucket_good was dirs files tables kind e) bytes.in_bucket);
-      in_directory = subst (λ (u : Tables). HasWayBytes now.cells dirs files (Children kind ((u.table kind).parent e)) e)
+      in_directory = subst
+          (λ (u : Tables). HasWayBytes now.cells dirs files (Children kind ((u.table kind).parent e)) e)
           (sym soft.tables)
           (ways_later was now dirs files tables can soft.tables later
           (Children kind ((table_in was.cells kind (info_of dirs files kind)).parent e)) e

@@ -10,7 +10,8 @@ ghost use Rattle.entry_tables.specs.Layout.{HasEntryTables};
 ghost use Rattle.entry_tables.specs.Words.{word_place};
 ghost use Rattle.entry_tables.specs.Changes.{CanChangeTables};
 ghost use Rattle.entry_tables.specs.Causes.{bad_of, IfRuleBroken, NeverNoEntry};
-ghost use Rattle.entry_changes.specs.Lists.{list_kind, first_word, entry_word, list_table, list_number, HasList, IsWordBefore, HasNoEnd, IsOnTheWay, AreBytesOf, HasWayBytes};
+ghost use Rattle.entry_changes.specs.Lists.{list_kind, first_word, entry_word, list_table, list_number};
+ghost use Rattle.entry_changes.specs.Lists.{HasList, IsWordBefore, HasNoEnd, IsOnTheWay, AreBytesOf, HasWayBytes};
 
 use entry_tables::{EntryFault, EntryKind, TableInfo, Word, read_word};
 use save_bytes::Space;

@@ -14,7 +14,8 @@ use Rattle.entry_changes.proofs.TakenLemmas.{reads_change, more_sites, all_later
 use Rattle.entry_additions.specs.Additions.{MayAdd}
 use Rattle.entry_additions.specs.Results.{IsAdditionSite}
 use Rattle.entry_additions.proofs.PlanLemmas.{addition_bad_cause}
-use Rattle.entry_additions.proofs.AddLemmas.{set_behind_put, added_to, entry_bytes_stay, taken_blamed, taken_never, cause_again}
+use Rattle.entry_additions.proofs.AddLemmas.{set_behind_put, added_to, entry_bytes_stay, taken_blamed, taken_never}
+use Rattle.entry_additions.proofs.AddLemmas.{cause_again}
 use Rattle.entry_additions.proofs.AddLemmas.{addition_bytes_later, read_then_change, planned_entry}
 use Rattle.entry_additions.proofs.AddLemmas.{planned_words, has_later}
 use Rattle.entry_additions.proofs.PutLemmas.{written_long}
@@ -191,9 +192,11 @@ returns-in_err-set_words-clause-changes g c =
     c.args.new.parent c.args.new.name.0 in
     let bad = c.in_err-set_words.field-0.0 in
     rw (passed_on _ bad c.from_residual-in_err-set_words.ensures.1)
-    (ChangesAt-then g.S.Space.state g.S.Space.keeps g.S.Space.lands g.met.S.Space.keeps_join sites sites c.args.space.now
-    c.put_entry.new.space c.set_words.new.space (Some bad) (λ p. p) (λ p. c.in_err-set_words.ensures.never (gives p)) (λ x here. here) put
-    (more_sites g.S.Space.state g.S.Space.keeps g.S.Space.lands (IsSite c.args.dirs c.args.files c.in_ok-plan.plan.edits)
+    (ChangesAt-then g.S.Space.state g.S.Space.keeps g.S.Space.lands g.met.S.Space.keeps_join sites sites
+    c.args.space.now c.put_entry.new.space c.set_words.new.space (Some bad) (λ p. p)
+    (λ p. c.in_err-set_words.ensures.never (gives p)) (λ x here. here) put
+    (more_sites g.S.Space.state g.S.Space.keeps g.S.Space.lands
+    (IsSite c.args.dirs c.args.files c.in_ok-plan.plan.edits)
     sites c.put_entry.new.space c.set_words.new.space (Some bad)
     (λ p. planned_words s c.args.dirs c.args.files c.args.kind c.args.new.parent c.args.new.name.0 c.in_ok-plan.plan
     (c.in_ok-plan.ensures.plan p.0 p.1))
@@ -280,7 +283,8 @@ returns-clause-changes g c =
     c.args.new.parent c.args.new.name.0 in
     ChangesAt-then g.S.Space.state g.S.Space.keeps g.S.Space.lands g.met.S.Space.keeps_join sites sites c.args.space.now
     c.put_entry.new.space c.set_words.new.space None (λ p. p) (λ p. tt) (λ x here. here) put
-    (more_sites g.S.Space.state g.S.Space.keeps g.S.Space.lands (IsSite c.args.dirs c.args.files c.in_ok-plan.plan.edits)
+    (more_sites g.S.Space.state g.S.Space.keeps g.S.Space.lands
+    (IsSite c.args.dirs c.args.files c.in_ok-plan.plan.edits)
     sites c.put_entry.new.space c.set_words.new.space None
     (λ p. planned_words s c.args.dirs c.args.files c.args.kind c.args.new.parent c.args.new.name.0 c.in_ok-plan.plan
     (c.in_ok-plan.ensures.plan p.0 p.1))

@@ -232,7 +232,8 @@ returns-clause-cause g c = record {
         count = (rw c.info_for-info.ensures at c.in_ok-counts.ensures.count) (can.tells Dir).told;
         most = (rw c.info_for-info.ensures at c.in_ok-counts.ensures.most) (can.tells Dir).told;
         first = read_then s (g.S.Space.state c.read_counts.new.space) c.args.dirs c.args.files c.requires can
-            c.in_ok-counts.ensures.reads.stays (Link c.args.kind 0) (zero_has s c.args.dirs c.args.files can c.args.kind)
+            c.in_ok-counts.ensures.reads.stays (Link c.args.kind 0)
+            (zero_has s c.args.dirs c.args.files can c.args.kind)
             c.in_ok-freed.freed c.in_ok-freed.ensures.value;
       } in
       let taking = taking_before s (g.S.Space.state c.read_word.new.space) c.args.dirs c.args.files c.requires can
