@@ -35,7 +35,7 @@ use Rattle.save_mount.specs.Mounts.{places_in, HasMountCause}
 use Rattle.save_mount.specs.Mounts.BlamesMount.{InLists}
 use Rattle.save_mount.proofs.PlaceLemmas.{front_small}
 
-end_small : (second : Bool) (front size : ℕ) → front ≤ size → (if second then size else front) ≤ size
+pub end_small : (second : Bool) (front size : ℕ) → front ≤ size → (if second then size else front) ≤ size
 end_small true front size small = omega arith
 end_small false front size small = small
 

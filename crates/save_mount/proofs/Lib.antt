@@ -10,3 +10,4 @@ pub mod InsideLemmas
 pub mod AuditLemmas
 pub mod LostLemmas
 pub mod ExactLemmas
+pub mod TableLemmas

@@ -7,3 +7,4 @@ pub mod Files
 pub mod Audited
 pub mod Counts
 pub mod Mounted
+pub mod Stored

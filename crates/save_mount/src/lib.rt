@@ -1,6 +1,7 @@
 //! Mounting a filesystem: each of its rules is checked, and what is found is kept.
 #![tactic(auto)]
 
+mod audit;
 mod beginning;
 mod fault;
 mod files;
@@ -11,6 +12,7 @@ mod places;
 mod structure;
 mod tables;
 
+pub use audit::{audit_tables, read_stored};
 pub use beginning::{Begun, begin};
 pub use fault::MountFault;
 pub use files::hold_files;
@@ -18,7 +20,7 @@ pub use laws::a_held_tree_is_no_cause_of_refusal;
 pub use lists::{FileFault, hold_file, hold_free, hold_table};
 pub use mount::Mounted;
 pub use structure::Structure;
-pub use tables::{Audited, audit_laid, table_infos};
+pub use tables::{Audited, table_infos};
 
 #[cfg(test)]
 mod files_tests;

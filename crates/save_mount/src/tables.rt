@@ -1,8 +1,9 @@
 //! Both tables of entries: where they stand, how they are read, and their rules.
 
-ghost use Rattle.std.specs.Prelude.{◌≡◌, ℕ, ◌+◌, ◌*◌, ◌^◌, ◌<◌, ◌≤◌, IsTrue, IfOk, IfErr, IfSome, None, List, length};
+ghost use Rattle.std.specs.Prelude.{◌≡◌, ℕ, ◌+◌, ◌*◌, ◌^◌, ◌<◌, ◌≤◌, IsTrue, IfOk, IfErr, Option, IfSome, None, List, length};
 ghost use Rattle.std.specs.Prelude.{◌++◌, ◌≢◌, get_or, false};
 ghost use Rattle.save_bytes.specs.Reads.{Reads};
+ghost use Rattle.save_bytes.specs.Cells.{Cell};
 ghost use Rattle.container_header.specs.Conditions.{first_failing};
 ghost use Rattle.entry_tables.specs.declared.table.EntryKind.{EntryKind};
 ghost use Rattle.entry_tables.specs.declared.table.EntryKind.TheVariants.{Dir, File};
@@ -38,7 +39,6 @@ ghost use Rattle.save_mount.specs.Audited.{
 };
 
 use crate::fault::{MountFault, refused};
-use chain_space::BlocksSpace;
 use entry_audit::{ReadEntry, ReadTable, ReadTables, TableFault, read_tables, rule_fault};
 use entry_tables::{Counts, EntryFault, EntryKind, TableInfo, read_counts};
 use save_bytes::Space;
@@ -144,7 +144,7 @@ fn refused_table(fault: TableFault) -> MountFault
 }
 
 // Both tables, of which no condition on where all lies fails.
-fn read_both<S: Space>(
+pub(crate) fn read_both<S: Space>(
     alloc: Global,
     space: &mut S,
     kind: TreeKind,
@@ -231,29 +231,25 @@ fn free_in(counts: Counts, table: &ReadTable) -> u32
     counts.most - counts.count + unread(&table.entries)
 }
 
-// Both tables, over a space in which each lies in one piece.
-pub fn audit_laid<S: Space>(
+// What is kept of both tables once they are read: their rules are tried, and what can be added is counted.
+pub(crate) fn audit_read(
     alloc: Global,
-    space: &mut S,
-    kind: TreeKind,
-    split: Option<u64>,
-    size: u64,
-    info: &Information,
+    found: (ReadTables, (Counts, Counts)),
     dirs: TableInfo,
     files: TableInfo,
 ) -> Result<Audited, MountFault>
-    requires { CanAudit (S.state space.old).shape kind split size info.now dirs files }
-    ensures audited { IsTrue (S.state space.old).told
-        → IfOk result (IsAudited kind split size info.now dirs files (S.state space.old).cells) }
+    requires { AreLong found }
+    ensures audited { (kind : TreeKind) (split : Option ℕ) (size : ℕ) (info : Information) (cells : ℕ → Cell)
+        → AreTablesRead kind split size info dirs files cells found
+        → IfOk result (IsAudited kind split size info dirs files cells) }
     ensures lengths { IfOk result (λ audited. AreShort audited.read) }
-    ensures cause { IsTrue (S.state space.old).told
-        → IfErr result (HasTablesCause kind split size info.now dirs files (S.state space.old).cells) }
-    ensures reads { Reads S.state S.keeps S.lands space.old space.new (refusal_in result) }
+    ensures dirs { IfOk result (λ audited. audited.dirs ≡ dirs) }
+    ensures files { IfOk result (λ audited. audited.files ≡ files) }
+    ensures cause { (kind : TreeKind) (split : Option ℕ) (size : ℕ) (info : Information) (cells : ℕ → Cell)
+        → AreTablesRead kind split size info dirs files cells found
+        → IfErr result (HasTablesCause kind split size info dirs files cells) }
+    ensures reads { refusal_in result ≡ None }
 {
-    let found = match read_both(alloc, space, kind, split, size, info, dirs, files) {
-        Ok(found) => found,
-        Err(fault) => return Err(fault),
-    };
     let (read, (dir_counts, file_counts)) = found;
     match try_rules(alloc, &read) {
         Ok(()) => {}
