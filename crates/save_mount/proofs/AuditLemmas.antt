@@ -1,9 +1,6 @@
 -- Both tables, read after one another, as they were before.
-use Rattle.std.proofs.Common.{◌≡◌, ℕ, ◌+◌, ◌*◌, ◌<◌, ◌≤◌, List, [], IsTrue, Option, Some, None, refl, sym, ◌∙◌, ap, subst, arith, inl, inr}
-use Rattle.std.proofs.Math.Nat.{mul-le-mul_right}
+use Rattle.std.proofs.Common.{◌≡◌, ℕ, ◌+◌, ◌<◌, ◌≤◌, [], IsTrue, Option, Some, None, refl, sym, ◌∙◌, ap, subst, arith, inl, inr}
 use Rattle.std.proofs.lemmas.Option.{none-some}
-use Rattle.std.proofs.lemmas.List.Elements.{All-contains}
-use Rattle.std.specs.List.{Contains}
 use Rattle.save_bytes.specs.declared.space.Bad.{Bad}
 use Rattle.save_bytes.specs.declared.space.Bad.TheVariants as bad
 use Rattle.save_bytes.specs.Cells.{Cell, IsByte, Blames}
@@ -20,11 +17,10 @@ use Rattle.entry_tables.specs.declared.table.TableInfo.{TableInfo}
 use Rattle.entry_tables.specs.declared.reads.Counts.{Counts}
 use Rattle.entry_tables.specs.Kinds.{entry_size}
 use Rattle.entry_tables.specs.Tables.{Table, Tables, table_in, tables_in, info_of}
-use Rattle.entry_tables.specs.Rules.{HasFreedList, CanBeFreed}
 use Rattle.entry_tables.specs.Fails.{OfFreed, NamesWrongly}
 use Rattle.entry_tables.specs.Layout.{LiesWithin, HasCounts, HasEntryTable, IsNeeded}
-use Rattle.entry_tables.specs.Layout.{OfZero, OfBucket, OfUsed, OfFreed as OfFreedWord, IsOfTable, InZero, InEntry, InBucket}
-use Rattle.entry_tables.proofs.EntryLemmas.{entry_long, link_last}
+use Rattle.entry_tables.specs.Layout.{OfZero, InZero}
+use Rattle.entry_tables.proofs.EntryLemmas.{entry_long}
 use Rattle.entry_audit.specs.declared.table.ReadTables.{ReadTables}
 use Rattle.entry_audit.specs.declared.table.TableFault.{TableFault}
 use Rattle.entry_audit.specs.declared.table.TableFault.TheVariants as table
@@ -32,7 +28,6 @@ use Rattle.entry_audit.specs.Read.{AreReadTables}
 use Rattle.entry_audit.specs.Reading.{AreTold, BlamesCell, BlamesOne, FreedFailsAt, HasReadCause, HasNeededBytes}
 use Rattle.entry_audit.specs.Reading.{count_of, space_bad}
 use Rattle.entry_audit.proofs.StayLemmas.{told_later, blamed_later}
-use Rattle.entry_audit.proofs.CopyLemmas.{freed_same}
 use Rattle.tree_model.specs.declared.kind.TreeKind.{TreeKind}
 use Rattle.tree_rules.specs.declared.information.Information.{Information}
 use Rattle.tree_rules.specs.Layout.{place_faults, table_faults, layout_fault}

@@ -1,5 +1,5 @@
 -- Where cells hold a tree, there is no cause of a refusal.
-use Rattle.std.proofs.Common.{◌≡◌, ℕ, ◌+◌, ◌^◌, ◌<◌, List, Option, Some, None, sym, ◌∙◌, subst, arith}
+use Rattle.std.proofs.Common.{◌≡◌, ℕ, ◌+◌, ◌^◌, ◌<◌, List, Option, Some, sym, ◌∙◌, subst, arith}
 use Rattle.std.proofs.lemmas.Option.{none-some}
 use Rattle.save_bytes.specs.Cells.{Cell, IsByte, Blames, Byte, Blank, Spoilt}
 use Rattle.chain_nodes.specs.declared.info.ChainInfo.{ChainInfo}
@@ -23,7 +23,7 @@ use Rattle.tree_rules.specs.Information.{information_in}
 use Rattle.tree_rules.specs.Layout.{layout_fault}
 use Rattle.tree_rules.specs.Lists.{Holder, Free, OfTable, OfFile, IsTableList, IsFileList, IsListOfFile}
 use Rattle.tree_rules.specs.Lists.IsFileList.{HasNone, HasSome}
-use Rattle.tree_rules.specs.Places.{places_of, table_lies, table_info, laid_cells}
+use Rattle.tree_rules.specs.Places.{table_lies, table_info, laid_cells}
 use Rattle.tree_rules.specs.Trees.{table_chains, IsConsistentTree}
 use Rattle.tree_rules.proofs.FailLaws.{nothing_breaks}
 use Rattle.tree_rules.proofs.LayoutLemmas.{layout_from}

@@ -8,6 +8,8 @@ pub mod FileLemmas
 pub mod CountLemmas
 pub mod InsideLemmas
 pub mod AuditLemmas
+pub mod TableLemmas
 pub mod LostLemmas
 pub mod ExactLemmas
-pub mod TableLemmas
+pub mod LaterLemmas
+pub mod MountLemmas
