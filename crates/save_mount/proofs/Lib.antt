@@ -11,3 +11,8 @@ pub mod AuditLemmas
 pub mod LostLemmas
 pub mod TableLemmas
 pub mod ExactLemmas
+pub mod TableLemmas
+pub mod LostLemmas
+pub mod ExactLemmas
+pub mod LaterLemmas
+pub mod MountLemmas

@@ -154,7 +154,7 @@ module _ (shape : Shape) (kind : TreeKind) (split : Option ℕ) (info : Informat
   unfolding places_of
   buckets_fit Dir = record {
     sound = true-can_lay (extra_of (places_of kind split info).chain.region_at
-      (places_of kind split info).chain.block blocks) shape lay_at;
+        (places_of kind split info).chain.block blocks) shape lay_at;
     first = h.first;
     some = (known.buckets Dir).least;
     buckets = omega (arith, known.buckets_inside Dir, front_fits);
@@ -163,7 +163,7 @@ module _ (shape : Shape) (kind : TreeKind) (split : Option ℕ) (info : Informat
   }
   buckets_fit File = record {
     sound = true-can_lay (extra_of (places_of kind split info).chain.region_at
-      (places_of kind split info).chain.block blocks) shape lay_at;
+        (places_of kind split info).chain.block blocks) shape lay_at;
     first = h.first;
     some = (known.buckets File).least;
     buckets = omega (arith, known.buckets_inside File, front_fits);
@@ -220,7 +220,7 @@ module _ (shape : Shape) (kind : TreeKind) (split : Option ℕ) (info : Informat
       (audit_at shape kind split info blocks at_places)
 
 -- the cells, and behind them those of the tables' blocks, by their chains
-laid_by : (size : ℕ) (p : Places) (chains : EntryKind → List ℕ) (blocks : List ℕ) (cells : ℕ → Cell)
+pub laid_by : (size : ℕ) (p : Places) (chains : EntryKind → List ℕ) (blocks : List ℕ) (cells : ℕ → Cell)
     → AreBlocksOf p chains blocks
     → (λ (x : ℕ). cells (laid_place (extra_of p.chain.region_at p.chain.block blocks) size x))
     ≡ laid_cells size p chains cells

@@ -6,6 +6,8 @@ use Rattle.container_header.specs.Conditions.{first_failing}
 use Rattle.entry_tables.specs.declared.table.EntryKind.TheVariants.{Dir, File}
 use Rattle.held_lists.specs.Sets.{has_entry, HasRoomFor}
 use Rattle.tree_model.specs.declared.kind.TreeKind.{TreeKind}
+use Rattle.tree_rules.specs.declared.information.Information.{Information}
+use Rattle.tree_rules.specs.declared.information.Places.{Places}
 use Rattle.tree_rules.specs.Information.{information_in}
 use Rattle.tree_rules.specs.Layout.{place_faults}
 use Rattle.tree_rules.specs.Lists.{Holder, Free, OfTable}
@@ -14,10 +16,26 @@ use Rattle.tree_rules.specs.Reading.{IsRoomOf}
 use Rattle.tree_rules.specs.Trees.{table_chains, IsConsistentTree}
 use Rattle.save_mount.specs.declared.fault.MountFault.{MountFault}
 use Rattle.save_mount.specs.declared.fault.MountFault.TheVariants.{Memory, Disk, Damaged, Broken, NotSave, Layout}
-use Rattle.save_mount.specs.declared.mount.Mounted.{Mounted}
+use Rattle.save_mount.specs.declared.mounting.Mounted.{Mounted}
+use Rattle.save_mount.specs.declared.structure.Structure.{Structure}
+use Rattle.save_mount.specs.declared.tables.Audited.{Audited}
 use Rattle.save_mount.specs.Counts.{IsCountOf, IsLost}
 use Rattle.save_mount.specs.Held.{AreTableBlocks}
 use Rattle.save_mount.specs.Mounts.{tables_of}
+
+-- what is kept of lists and tables, where so many data blocks are lost
+abbrev pub mount_with : TreeKind → Information → Places → Structure → Audited → ℕ → Mounted
+mount_with kind info p found audited lost = record {
+  kind = kind;
+  info = info;
+  places = p;
+  dirs = audited.dirs;
+  files = audited.files;
+  blocks = found.blocks;
+  held = found.held;
+  room = record { blocks = found.free; dirs = audited.free_dirs; files = audited.free_files };
+  lost = lost;
+}
 
 -- The cells hold a tree with these lists, of which this is kept: where all lies, the set of all entries of the lists,
 -- what can be added, and how many data blocks are in no list.

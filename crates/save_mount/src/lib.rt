@@ -7,7 +7,7 @@ mod fault;
 mod files;
 mod laws;
 mod lists;
-mod mount;
+mod mounting;
 mod places;
 mod structure;
 mod tables;
@@ -18,7 +18,7 @@ pub use fault::MountFault;
 pub use files::hold_files;
 pub use laws::a_held_tree_is_no_cause_of_refusal;
 pub use lists::{FileFault, hold_file, hold_free, hold_table};
-pub use mount::Mounted;
+pub use mounting::{Mounted, mount};
 pub use structure::Structure;
 pub use tables::{Audited, table_infos};
 

@@ -1,8 +1,8 @@
 use Rattle.std.proofs.Common.{◌≡◌, ℕ, ◌+◌, sym, ◌∙◌, subst, arith}
 use Rattle.save_mount.specs.Counts.{IsCountOf}
 use Rattle.save_mount.proofs.LostLemmas.{IsOutBelow, out_none, out_more, out_skip, out_all}
-use Rattle.save_mount.proofs.mount.lost_in.Goals as goal
-use Rattle.save_mount.proofs.mount.lost_in.Goals.{then-not-has, else-not-has}
+use Rattle.save_mount.proofs.mounting.lost_in.Goals as goal
+use Rattle.save_mount.proofs.mounting.lost_in.Goals.{then-not-has, else-not-has}
 
 pub loop-entry-init : goal.loop-entry-init
 loop-entry-init c = record { few = omega arith; lost = out_none c.args.held.now }
