@@ -11,8 +11,5 @@ pub mod AuditLemmas
 pub mod LostLemmas
 pub mod TableLemmas
 pub mod ExactLemmas
-pub mod TableLemmas
-pub mod LostLemmas
-pub mod ExactLemmas
 pub mod LaterLemmas
 pub mod MountLemmas
