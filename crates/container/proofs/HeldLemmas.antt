@@ -19,7 +19,7 @@ use Rattle.page_image.specs.declared.image.Image.{Image}
 use Rattle.page_image.specs.Spots.{Leaves, ImageLands, LeavesTold}
 use Rattle.page_image.specs.Held.{ImageKeeps}
 use Rattle.page_image.specs.Held.{shown as shown_image}
-use Rattle.page_image.proofs.DiskLemmas.{disk_of-true}
+use Rattle.page_image.proofs.DiskLemmas.{disk_of-true, kept_disk}
 use Rattle.page_image.proofs.PieceLemmas.{image_piece, asked}
 use Rattle.dpfs_tree.specs.Picks.{bytes_of}
 use Rattle.part_store.specs.declared.part.Part.{Part}
@@ -31,9 +31,11 @@ use Rattle.container.specs.declared.open.Container.{Container}
 use Rattle.container.specs.declared.store.Store.{Store}
 use Rattle.container.specs.Parts.{SameSecond}
 use Rattle.container.specs.Stores.{state_of}
-use Rattle.container.specs.StoreHeld.{store_of, shown, SameStore, IsKept, ReadsImage, ContainerSpot}
+use Rattle.container.specs.Containers.{IsWholeContainer}
+use Rattle.container.specs.StoreHeld.{SameContainer, store_of, shown, SameStore, IsKept, ReadsImage, ContainerSpot}
 use Rattle.container.specs.StoreHeld.{StoreKeeps}
 use Rattle.container.specs.StoreHeld.{store_lands}
+use Rattle.container.proofs.PartLemmas.{same_whole}
 use Rattle.container.specs.StoreLaws.{sound_base, told_below, store_fits, store_stays, store_lands_before}
 use Rattle.container.specs.StoreLaws.{parts_land}
 
@@ -197,3 +199,25 @@ leaves_as {D = D} states spot s t m n d e first disk last end h =
     (subst (λ (a : D). Leaves spot (states a) s.container.now.image (states e) n.image) (sym disk)
     (subst (λ (c : Container). Leaves spot (states s.disk.now) s.container.now.image (states e) c.image) (sym last)
     (subst (λ (a : D). Leaves spot (states s.disk.now) s.container.now.image (states a) t.container.now.image) (sym end) h)))
+
+-- a container that calls on its store changed is as whole as before
+pub whole_still : (old new : Container) → SameContainer old new → new.image.len ≡ old.image.len → IsWholeContainer old
+    → IsWholeContainer new
+whole_still old new same len whole =
+    rw (same.header, len, same.table)
+    (same_whole old.header old.image.len old.table.items old.parts new.parts same.first same.second whole)
+
+-- and has the disk of its image, behind the loan of both
+module _ {D : Type 0} (states : D → disks.State) (spot : Spot) (s t : Store D) (m n : Container) (d e : D)
+    (first : m ≡ s.container.now) (disk : d ≡ s.disk.now) (last : n ≡ t.container.now) (end : e ≡ t.disk.now)
+    (kept : StoreKeeps states spot s t) where
+  pub disk_behind : IsDiskOf (states d) m.image → IsDiskOf (states e) n.image
+  disk_behind is =
+      let leaves = leaves_as states spot s t m n d e first disk last end kept.2 in
+      kept_disk (states d) (states e) m.image n.image leaves.0 is
+
+  pub whole_behind : IsWholeContainer m → IsWholeContainer n
+  whole_behind whole =
+      subst (λ (c : Container). IsWholeContainer c) (sym last)
+      (whole_still s.container.now t.container.now kept.0.container kept.2.0.len
+      (subst (λ (c : Container). IsWholeContainer c) first whole))

@@ -25,6 +25,8 @@ pub use open::Container;
 pub use store::Store;
 
 #[cfg(test)]
+mod abort_tests;
+#[cfg(test)]
 mod copy_tests;
 #[cfg(test)]
 mod opens_tests;

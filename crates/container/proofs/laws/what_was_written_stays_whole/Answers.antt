@@ -2,13 +2,11 @@ use Rattle.std.proofs.Common.{refl}
 use Rattle.part_store.specs.Spots.{SamePart}
 use Rattle.part_store.specs.SpotLaws.{SamePart-same}
 use Rattle.container.specs.StoreLaws.{second_same, SameContainer-join}
-use Rattle.container.proofs.PartLemmas.{same_whole}
+use Rattle.container.proofs.HeldLemmas.{whole_still}
 use Rattle.container.proofs.laws.what_was_written_stays_whole.Goals as goal
 
 pub returns-clause-whole : goal.returns-clause-whole
-returns-clause-whole c = λ old new same len whole.
-    rw (same.header, len, same.table)
-    (same_whole old.header old.image.len old.table.items old.parts new.parts same.first same.second whole)
+returns-clause-whole c = whole_still
 
 pub returns-clause-begins : goal.returns-clause-begins
 returns-clause-begins c = λ sign image container is.
