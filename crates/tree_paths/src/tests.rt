@@ -26,8 +26,8 @@ const NOTHING: Standing = Standing {
     file: None,
 };
 
-/// Makes a directory's entry: its parent, the one byte of its name, its first directory and file, and the next entry in
-/// the bucket's list.
+/// Makes a directory's entry: its parent, the one byte of its name, its first directory and file, and the next entry
+/// in the bucket's list.
 fn set_dir(
     bytes: &mut [u8; 1024],
     entry: usize,
