@@ -41,10 +41,10 @@ front_same xs ys x y same =
 pub none_last : (xs : Names) (x : List ℕ) → [] ≡ xs ++ x ∷ [] → ⊥
 none_last xs x same = omega (arith, ap length same, length-append xs (x ∷ []))
 
-none_some : {A : Type 0} (x : A) → None ≡ Some x → ⊥
+pub none_some : {A : Type 0} (x : A) → None ≡ Some x → ⊥
 none_some x is = cc
 
-some_same : (d e : ℕ) → Some d ≡ Some e → d ≡ e
+pub some_same : (d e : ℕ) → Some d ≡ Some e → d ≡ e
 some_same d e is = cc
 
 -- a path without its last name
@@ -78,7 +78,7 @@ pub record HasDescended (t : Tables) (path : Names) (parent dir : Option ℕ) : 
 
 module _ (t : Tables) where
   -- an entry of a directory stands at the directory's path with its name
-  stands_down : (kind : EntryKind) (front : Names) (dir : ℕ) (name : List ℕ) (e : ℕ) → IsDirAt t front dir
+  pub stands_down : (kind : EntryKind) (front : Names) (dir : ℕ) (name : List ℕ) (e : ℕ) → IsDirAt t front dir
       → IsEntryOf kind (t.table kind) dir name e → StandsAt kind t (front ++ name ∷ []) e
   stands_down Dir front dir name e at found = (
     found.entry.used,
@@ -145,7 +145,7 @@ module _ (t : Tables) where
           };
         }
 
-    stands_up : (kind : EntryKind) (front : Names) (name : List ℕ) (e : ℕ) → StandsAt kind t (front ++ name ∷ []) e
+    pub stands_up : (kind : EntryKind) (front : Names) (name : List ℕ) (e : ℕ) → StandsAt kind t (front ++ name ∷ []) e
         → IsUp kind front name e
     stands_up Dir front name e at = dir_up front name e at.1.rising at.0 at.1.leads at.1.below_root at.1.names
     stands_up File front name e at =

@@ -1,3 +1,4 @@
 pub mod DescentLemmas
 pub mod CauseLemmas
 pub mod ChildLemmas
+pub mod TreeLemmas

@@ -8,3 +8,6 @@ pub use children::has_children;
 pub use descent::{Standing, find_path};
 pub use entry_tables::{EntryFault, TableInfo};
 pub use save_bytes::Path;
+
+#[cfg(test)]
+mod tests;
