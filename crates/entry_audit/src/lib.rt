@@ -11,8 +11,8 @@ mod rules;
 mod table;
 
 pub use entry_tables::{Counts, EntryFault, EntryKind, TableInfo};
-pub use names::name_fault;
-pub use placed::place_fault;
+pub use names::{name_fault, named_of};
+pub use placed::{entry_of, place_fault};
 pub use read::read_tables;
 pub use rules::rule_fault;
 pub use table::{ReadEntry, ReadTable, ReadTables, RuleFault, TableFault};

@@ -14,8 +14,8 @@ use entry_tables::EntryKind;
 use std::alloc::{AllocError, Global};
 use std::collections::BTreeMap;
 
-// An entry other than the root: none where it is the root or not used.
-fn named_of(kind: EntryKind, table: &ReadTable, entry: u32) -> Option<ReadEntry>
+/// What was read of an entry other than the root: none where it is the root or not used.
+pub fn named_of(kind: EntryKind, table: &ReadTable, entry: u32) -> Option<ReadEntry>
     ensures named { (t : Tables) → IsReadTable kind t table.now → IfSome result (λ read.
         named_entries kind (t.table kind) entry × IsReadEntry kind t entry read) }
     ensures other { (t : Tables) → IsReadTable kind t table.now

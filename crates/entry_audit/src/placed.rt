@@ -14,7 +14,7 @@ use crate::table::{ReadEntry, ReadTable, ReadTables, RuleFault};
 use entry_tables::EntryKind;
 
 /// What was read of an entry: none where it is not used.
-pub(crate) fn entry_of(table: &ReadTable, entry: u32) -> Option<ReadEntry>
+pub fn entry_of(table: &ReadTable, entry: u32) -> Option<ReadEntry>
     ensures used { IfSome result (λ read. (kind : EntryKind) (t : Tables) → IsReadTable kind t table.now
         → used_entries (t.table kind) entry × IsReadEntry kind t entry read) }
     ensures unused { IfNone result ((kind : EntryKind) (t : Tables) → IsReadTable kind t table.now

@@ -1,0 +1,4 @@
+pub mod PathLemmas
+pub mod InsertLemmas
+pub mod OrderLemmas
+pub mod RowLemmas
