@@ -27,7 +27,8 @@ use Rattle.container.specs.declared.parts.Parts.{Parts}
 use Rattle.container.specs.Parts.{part_at, part_count, AreRead}
 use Rattle.container.specs.ImageCells.{contents_in, path_in, cell_at, AreImageCells}
 use Rattle.save_top.specs.Texts.{block_text, damaged_line, no_part_line, no_block_line}
-use Rattle.save_top.specs.Replies.{done, refused, block_reply, part_reply, peek_reply}
+use Rattle.save_top.specs.Output.{done, refused}
+use Rattle.save_top.specs.Replies.{block_reply, part_reply, peek_reply}
 use Rattle.save_top.specs.declared.peek.Miss.{Miss}
 use Rattle.save_top.specs.declared.peek.Miss.TheVariants.{Memory, Disk as DiskMiss, NoPart, NoBlock, Damaged as DamagedMiss}
 use Rattle.save_top.specs.declared.peek.Place.{Place}

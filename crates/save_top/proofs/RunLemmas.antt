@@ -1,6 +1,8 @@
 -- A command as a whole.
-use Rattle.std.proofs.Common.{◌≡◌, ◌⊎◌, ℕ, ◌≤◌, List, [], Option, Some, Result, Ok, refl, ◌∙◌, ap, arith, inl, inr, ⊎_elim}
-use Rattle.save_disk.specs.Trace.{Told, IsFresh, OnlySays, image_after}
+use Rattle.std.proofs.Common.{◌≡◌, ◌⊎◌, ℕ, ◌≤◌, List, [], take, Option, Some, Result, Ok, refl, ◌∙◌, ap, subst}
+use Rattle.std.proofs.Common.{arith, inl, inr, ⊎_elim}
+use Rattle.std.proofs.lemmas.List.{append-nil}
+use Rattle.save_disk.specs.Trace.{Event, Told, IsFresh, OnlySays, image_after, said_of}
 use Rattle.save_disk.specs.State.{State, IsQuiet, Rose}
 use Rattle.save_disk.specs.Stops.{Since, AtEachMoment}
 use Rattle.save_disk.specs.Tells.{image_of, image_told, NoneRose, Tells}
@@ -12,15 +14,16 @@ use Rattle.container.specs.declared.fault.OpenFault.TheVariants.{Memory, Disk, H
 use Rattle.container.specs.Openings.{IsCaused}
 use Rattle.container.proofs.OpensLemmas.{no_fault}
 use Rattle.save_top.specs.declared.form.Act.{Act}
-use Rattle.save_top.specs.Output.{SaysFront, SaysAll, Says, IsEnd}
+use Rattle.desk_output.specs.Output.{SaysFront, SaysAll}
+use Rattle.desk_output.proofs.Telling.{front_at_each_moment, front_more}
+use Rattle.save_top.specs.Output.{Reply, refused, Says, SaysSome, SaysReply, SaysOneReply, Answers, IsEnd}
 use Rattle.container_header.specs.declared.header.Header.{Header as Fields}
 use Rattle.container_header.specs.declared.fault.HeaderFault.{HeaderFault}
 use Rattle.container.specs.declared.open.Container.{Container}
 use Rattle.save_top.specs.declared.form.Order.{Order}
 use Rattle.save_top.specs.Peeks.{Holds}
-use Rattle.save_top.specs.Replies.{Reply, refused, act_reply, reply_by, reply_to}
+use Rattle.save_top.specs.Replies.{act_reply, reply_by, reply_to}
 use Rattle.save_top.specs.Failures.{IsFaultBy, IsFailureBy}
-use Rattle.save_top.proofs.Telling.{front_at_each_moment}
 
 -- at a trace with no event the image is that of the start
 pub start_told : (state : State) (told : Told) → state.told ≡ Some told → IsFresh told → image_told state ≡ told.start
@@ -75,22 +78,68 @@ end_is_not_2 result ends two =
       | inr (inr (inr six)) ↦ omega (arith, six, two)
     ]
 
-module _ (old new : State) (reply : Reply) (result : ℕ) (says : Says reply.status reply.text old new result)
-    (told : Told) (is : old.told ≡ Some told) where
-  pub at_moments : Since (AtEachMoment (SaysFront reply.text)) told new.told
-  at_moments = let since = says.front told is in (since.0, front_at_each_moment reply.text since.0 since.1, since.2)
+-- a reply that was said is one of those that may be
+pub answers_one : (IsReply : Reply → Type 0) (reply : Reply) (old new : State) (result : ℕ) → IsReply reply
+    → Says reply.status reply.text old new result → Answers IsReply old new result
+answers_one IsReply reply old new result such says = record {
+  front = λ told is.
+      (let since = says.front told is in (
+        since.0,
+        record { only = since.1.only; said = inr (reply, such, since.1.front) },
+        since.2,
+      ));
+  whole = λ low told is. (let all = says.whole low in (reply, such, all.0, all.1 told is));
+}
 
-  pub at_end : result ≤ 1 → (result ≡ reply.status) × Since (SaysAll reply.text) told new.told
-  at_end done = let all = says.whole done in (all.0, all.1 told is)
+silent_at_moments : (events : List Event) → OnlySays events → said_of events ≡ [] → AtEachMoment (SaysFront []) events
+silent_at_moments events only none = front_at_each_moment [] events
+    (record { only = only; front = ([], append-nil (said_of events) ∙ none) })
 
-  pub ended : IsEnd result → (result ≡ 3 → Rose old.counts.disk new.counts.disk)
-      → (result ≡ 5 → Rose old.counts.sink new.counts.sink) → NoneRose old new → (result ≡ reply.status) ⊎ (result ≡ 6)
-  ended ends disk sink none = elim ends [
-    | inl low ↦ inl (says.whole low).0
-    | inr (inl three) ↦ absurd (none.disk (disk three))
-    | inr (inr (inl five)) ↦ absurd (none.sink (sink five))
-    | inr (inr (inr six)) ↦ inr six
-  ]
+one_at_moments : (IsReply : Reply → Type 0) (events : List Event) → SaysSome IsReply events
+    → SaysOneReply IsReply events
+one_at_moments IsReply events some =
+    elim some.said [
+      | inl none ↦ inl (silent_at_moments events some.only none)
+      | inr one ↦ inr (
+        one.0,
+        one.1,
+        front_at_each_moment one.0.text events (record { only = some.only; front = one.2 }),
+      )
+    ]
+
+pub at_moments : (IsReply : Reply → Type 0) (old new : State) (result : ℕ) → Answers IsReply old new result
+    → Tells (SaysOneReply IsReply) old new
+at_moments IsReply old new result answers = λ told is.
+    let since = answers.front told is in (since.0, one_at_moments IsReply since.0 since.1, since.2)
+
+-- a command that met no fault was done or refused, unless memory was wanting
+pub ended : (old new : State) (result : ℕ) → IsEnd result → (result ≡ 3 → Rose old.counts.disk new.counts.disk)
+    → (result ≡ 5 → Rose old.counts.sink new.counts.sink) → NoneRose old new → (result ≤ 1) ⊎ (result ≡ 6)
+ended old new result ends disk sink none = elim ends [
+  | inl low ↦ inl low
+  | inr (inl three) ↦ absurd (none.disk (disk three))
+  | inr (inr (inl five)) ↦ absurd (none.sink (sink five))
+  | inr (inr (inr six)) ↦ inr six
+]
+
+-- ---- where there is but one reply
+
+nothing_is_front : (text : List ℕ) (events : List Event) → SaysFront [] events → SaysFront text events
+nothing_is_front text events says = front_more [] text text events refl says
+
+pub lone_front : (reply : Reply) (events : List Event) → SaysOneReply (λ one. one ≡ reply) events
+    → AtEachMoment (SaysFront reply.text) events
+lone_front reply events says =
+    elim says [
+      | inl none ↦ λ moment. nothing_is_front reply.text (take moment events) (none moment)
+      | inr one ↦ subst (λ (r : Reply). AtEachMoment (SaysFront r.text) events) one.1 one.2
+    ]
+
+pub lone_whole : (reply : Reply) (result : ℕ) (told : Told) (after : State)
+    → SaysReply (λ one. one ≡ reply) result told after
+    → (result ≡ reply.status) × Since (SaysAll reply.text) told after.told
+lone_whole reply result told after says = subst
+    (λ (r : Reply). (result ≡ r.status) × Since (SaysAll r.text) told after.told) says.1 (says.2, says.3)
 
 -- what an order answers on an image that opens
 pub opened_reply : (sign : Signing) (image : List ℕ) (disk : State) (container : Container) (order : Order) (act : Act)

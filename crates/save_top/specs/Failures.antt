@@ -5,7 +5,7 @@ use Rattle.container.specs.declared.fault.OpenFault.TheVariants.{Memory as Memor
 use Rattle.save_top.specs.declared.failure.Failure.{Failure}
 use Rattle.save_top.specs.declared.failure.Failure.TheVariants.{Memory, Disk, Refused}
 use Rattle.save_top.specs.Texts.{open_fault_line}
-use Rattle.save_top.specs.Replies.{Reply, refused}
+use Rattle.save_top.specs.Output.{Reply, refused}
 
 -- the reply is the refusal with this line; want of memory is free, and that the disk failed is shown by its count
 abbrev pub IsFailureBy : Reply → Failure → Type 0

@@ -18,7 +18,7 @@ use Rattle.save_top.specs.declared.peek.Miss.{Miss}
 use Rattle.save_top.specs.declared.peek.Miss.TheVariants.{Memory, Disk, NoPart, NoBlock, Damaged}
 use Rattle.save_top.specs.declared.peek.Place.{Place}
 use Rattle.save_top.specs.Texts.{no_part_line, no_block_line, damaged_line}
-use Rattle.save_top.specs.Replies.{Reply, refused}
+use Rattle.save_top.specs.Output.{Reply, refused}
 
 -- a container over its disk holds this image, as it was opened under a signer, nothing of it was changed, and what is
 -- remembered of it is true

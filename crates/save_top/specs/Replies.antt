@@ -1,5 +1,5 @@
 -- What a command answers, as a function of the image.
-use Rattle.std.specs.Prelude.{ℕ, nat_lt, List, Option, Some, None, Result, Ok, Err, if◌then◌else◌}
+use Rattle.std.specs.Prelude.{◌≡◌, ℕ, nat_lt, List, Option, Some, None, Result, Ok, Err, if◌then◌else◌}
 use Rattle.container_header.specs.declared.header.Header.{Header}
 use Rattle.container_header.specs.declared.fault.HeaderFault.{HeaderFault}
 use Rattle.container_header.specs.Conditions.{reading}
@@ -16,18 +16,8 @@ use Rattle.container.specs.ImageCells.{contents_in, path_in}
 use Rattle.save_top.specs.declared.form.Order.{Order}
 use Rattle.save_top.specs.declared.form.Act.{Act}
 use Rattle.save_top.specs.declared.form.Act.TheVariants.{Info, Peek}
+use Rattle.save_top.specs.Output.{Reply, done, refused}
 use Rattle.save_top.specs.Texts.{info_text, fault_line, difi_line, open_fault_line, no_part_line, no_block_line, damaged_line, block_text}
-
--- a status, and all that is said
-pub record Reply : Type 0 where
-  pub status : ℕ
-  pub text : List ℕ
-
-abbrev pub done : List ℕ → Reply
-done text = record { status = 0; text = text }
-
-abbrev pub refused : List ℕ → Reply
-refused line = record { status = 1; text = line }
 
 -- what is said of a block of level four, by what its hash path comes to
 abbrev pub block_reply : List ℕ → Header → ℕ → Difi → ℕ → BlockState → Reply
@@ -63,3 +53,7 @@ reply_by None act image = act_reply act image (reading image)
 -- what a command answers on an image, under a signer
 abbrev pub reply_to : Signing → Order → List ℕ → Reply
 reply_to sign order image = reply_by (fault_of sign image) order.act image
+
+-- the reply to a command is this one
+abbrev pub IsReplyTo : Signing → Order → List ℕ → Reply → Type 0
+IsReplyTo sign order image reply = reply ≡ reply_to sign order image

@@ -1,7 +1,7 @@
 //! Why a command is not done.
 
 ghost use Rattle.std.specs.Prelude.{◌≡◌};
-ghost use Rattle.save_top.specs.Replies.{Reply};
+ghost use Rattle.save_top.specs.Output.{Reply};
 ghost use Rattle.save_top.specs.Failures.{IsFailureBy, IsFaultBy};
 ghost use Rattle.save_top.specs.Peeks.{IsMissBy};
 

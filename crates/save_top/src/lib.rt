@@ -12,10 +12,9 @@ mod text;
 #[cfg(test)]
 mod text_tests;
 mod top;
-mod voice;
 mod words;
 
 pub use form::{Act, Order};
-pub use laws::numbers_are_as_printed;
+pub use laws::{a_lone_reply_is_the_one_said, numbers_are_as_printed};
 pub use top::{DISK_FAULT, DONE, NO_MEMORY, REFUSED, SINK_FAULT, SOURCE_FAULT, USAGE, run};
 pub use words::order;

@@ -15,7 +15,8 @@ ghost use Rattle.container.specs.Containers.{IsWholeContainer, OfPart};
 ghost use Rattle.difi.specs.Places.{block_size};
 ghost use Rattle.container.specs.StoreHeld.{store_of};
 ghost use Rattle.save_top.specs.Peeks.{Holds, part_start, IsPlaceOf, IsMissOf, IsMissBy, MatchBad};
-ghost use Rattle.save_top.specs.Replies.{done, peek_reply};
+ghost use Rattle.save_top.specs.Output.{done};
+ghost use Rattle.save_top.specs.Replies.{peek_reply};
 
 use crate::block::block_text;
 use container::Container;

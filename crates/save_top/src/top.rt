@@ -2,7 +2,7 @@
 
 ghost use Rattle.std.specs.Prelude.{◌≡◌, ◌⊎◌, ◌≤◌, ◌↔◌, Bool, List, ℕ, IsTrue, IfOk, IfErr, Some, None};
 ghost use Rattle.save_disk.specs.State.{IsQuiet, IsSteady, Rose};
-ghost use Rattle.save_disk.specs.Stops.{Since, AtEachMoment};
+ghost use Rattle.save_disk.specs.Stops.{Since};
 ghost use Rattle.save_disk.specs.Trace.{OnlySays};
 ghost use Rattle.save_disk.specs.Tells.{Tells, WhenFresh, NoneRose, tells};
 ghost use Rattle.page_image.specs.Images.{IsDiskOf};
@@ -14,8 +14,8 @@ ghost use Rattle.save_top.specs.declared.form.Order.{Order};
 ghost use Rattle.save_top.specs.declared.form.Act.{Act};
 ghost use Rattle.save_top.specs.Words.{order_of};
 ghost use Rattle.save_top.specs.Texts.{info_text};
-ghost use Rattle.save_top.specs.Output.{SaysFront, SaysAll, Says, IsEnd};
-ghost use Rattle.save_top.specs.Replies.{Reply, done, peek_reply, reply_by, reply_to};
+ghost use Rattle.save_top.specs.Output.{Reply, Says, SaysReply, SaysOneReply, Answers, IsEnd};
+ghost use Rattle.save_top.specs.Replies.{peek_reply, reply_by, IsReplyTo};
 ghost use Rattle.save_top.specs.Failures.{IsFailureBy};
 ghost use Rattle.save_top.specs.Peeks.{Holds};
 
@@ -23,11 +23,11 @@ use crate::failure::{Failure, of_fault, of_miss};
 use crate::form::{Act, Order};
 use crate::peek::show;
 use crate::text::put_info;
-use crate::voice::say_all;
 use crate::words::order;
 use arrayvec::ArrayVec;
 use container::Container;
 use container_header::Header;
+use desk_output::say_all;
 use save_bytes::Words;
 use save_disk::{Desk, Signer};
 use std::alloc::Global;
@@ -134,8 +134,9 @@ fn open<D: Desk, G: Signer>(alloc: Global, desk: &mut D, signer: &G) -> Result<C
 
 // Does what an order asks for.
 fn obey<D: Desk, G: Signer>(alloc: Global, order: Order, desk: &mut D, signer: &G) -> u8
-    ensures says { WhenFresh (λ told. let reply = reply_to (signing G.tag_of G.is_demanding signer.now) order told.start in
-        Says reply.status reply.text (D.state desk.old) (D.state desk.new) result) (D.state desk.old) }
+    ensures answers { WhenFresh (λ told. Answers
+        (IsReplyTo (signing G.tag_of G.is_demanding signer.now) order told.start)
+        (D.state desk.old) (D.state desk.new) result) (D.state desk.old) }
     ensures silent { Tells OnlySays (D.state desk.old) (D.state desk.new) }
     ensures known { IsEnd result }
     ensures disk { result ≡ 3 → Rose (D.state desk.old).counts.disk (D.state desk.new).counts.disk }
@@ -159,24 +160,24 @@ pub fn run<D: Desk, G: Signer>(alloc: Global, words: &Words, desk: &mut D, signe
     ensures form { (result ≡ 2) ↔ (order_of words.now ≡ None) }
     ensures untouched { result ≡ 2 → desk.new ≡ desk.old }
 
-    // At each moment nothing was written or synced, and what was said is a front of the text that the
-    // image of the start gives under this signer.
+    // At each moment nothing was written or synced, and nothing said, or a front of the text of one reply that the
+    // order has on the image of the start, under this signer.
     ensures any_moment { (order : Order) → order_of words.now ≡ Some order
-        → WhenFresh (λ told. let reply = reply_to (signing G.tag_of G.is_demanding signer.now) order told.start in
-        Since (AtEachMoment (SaysFront reply.text)) told (D.state desk.new).told) (D.state desk.old) }
+        → WhenFresh (λ told. Since
+        (SaysOneReply (IsReplyTo (signing G.tag_of G.is_demanding signer.now) order told.start))
+        told (D.state desk.new).told) (D.state desk.old) }
 
     // On every desk that tells its trace, whatever came before and of whichever reads it tells, output alone was added.
     ensures silent { Tells OnlySays (D.state desk.old) (D.state desk.new) }
 
-    // At 0 and 1 it is all of that text, and the status that goes with it.
+    // At 0 and 1 all the text of such a reply was said, and the status is that reply's.
     ensures whole { result ≤ 1 → (order : Order) → order_of words.now ≡ Some order
-        → WhenFresh (λ told. let reply = reply_to (signing G.tag_of G.is_demanding signer.now) order told.start in
-        (result ≡ reply.status) × Since (SaysAll reply.text) told (D.state desk.new).told) (D.state desk.old) }
+        → WhenFresh (λ told. SaysReply (IsReplyTo (signing G.tag_of G.is_demanding signer.now) order told.start)
+        result told (D.state desk.new)) (D.state desk.old) }
 
-    // Where no count rose, the status is the one that goes with the text, or tells want of memory.
-    ensures complete { (order : Order) → order_of words.now ≡ Some order → NoneRose (D.state desk.old) (D.state desk.new)
-        → WhenFresh (λ told. let reply = reply_to (signing G.tag_of G.is_demanding signer.now) order told.start in
-        (result ≡ reply.status) ⊎ (result ≡ 6)) (D.state desk.old) }
+    // Where no count rose, the order was done or refused, or memory was wanting.
+    ensures complete { (order : Order) → order_of words.now ≡ Some order
+        → NoneRose (D.state desk.old) (D.state desk.new) → (result ≤ 1) ⊎ (result ≡ 6) }
 
     // Each fault has its cause.
     ensures disk_fault { result ≡ 3 → Rose (D.state desk.old).counts.disk (D.state desk.new).counts.disk }

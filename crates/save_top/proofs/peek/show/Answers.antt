@@ -2,7 +2,7 @@ use Rattle.std.proofs.Common.{◌≡◌, ℕ, List, length, sym, ◌∙◌, ap, 
 use Rattle.std.proofs.lemmas.Result.{err_from_is_err_and}
 use Rattle.page_image.proofs.ReadLemmas.{written_back}
 use Rattle.save_top.specs.Texts.{block_text}
-use Rattle.save_top.specs.Replies.{done}
+use Rattle.save_top.specs.Output.{done}
 use Rattle.save_top.proofs.PeekLemmas.{miss_by, shown_by, refused_by, place_fits}
 use Rattle.save_top.proofs.peek.show.Goals as goal
 

@@ -1,4 +1,4 @@
-use Rattle.save_top.specs.Replies.{done}
+use Rattle.save_top.specs.Output.{done}
 use Rattle.save_top.proofs.RunLemmas.{says_before, says_as, end_done, silent_says, silent_after, reply_of}
 use Rattle.save_top.proofs.top.peek.Goals as goal
 
