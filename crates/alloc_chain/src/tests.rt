@@ -306,7 +306,7 @@ fn runs_and_pieces(bytes: &mut [u8]) -> Result<(u32, u64), ChainFault>
 
 #[test]
 fn of_each_node_three_entries_are_read(rt: HostRuntime) {
-    // A chain of 250 nodes of four entries each. To read an entry reads two pieces, one of each word.
+    // A chain of 250 nodes of four entries each. To read an entry reads one piece, of both words.
     let mut bytes = [0; 8008];
     for node in 0..250usize {
         let first = 4 * node + 1;
@@ -316,7 +316,7 @@ fn of_each_node_three_entries_are_read(rt: HostRuntime) {
         set_entry(&mut bytes, first + 1, FLAG + first as u32, first as u32 + 3);
         set_entry(&mut bytes, first + 3, FLAG + first as u32, first as u32 + 3);
     }
-    assert_eq!(rt; runs_and_pieces(&mut bytes), Ok((250, 1500)));
+    assert_eq!(rt; runs_and_pieces(&mut bytes), Ok((250, 750)));
 }
 
 // How many blocks and runs lie behind a place of a plan. At most 1,000 are read.
@@ -369,9 +369,9 @@ fn of_each_node_of_a_plan_three_entries_are_read(rt: HostRuntime) {
         set_entry(&mut bytes, first + 1, FLAG + first as u32, first as u32 + 3);
         set_entry(&mut bytes, first + 3, FLAG + first as u32, first as u32 + 3);
     }
-    // To read an entry reads two pieces, one of each word. Entry 0 is read where the plan has free blocks.
-    assert_eq!(rt; planned_and_pieces(&mut bytes, 1000), Ok((1000, 250, 1502)));
-    assert_eq!(rt; planned_and_pieces(&mut bytes, 999), Ok((999, 250, 1502)));
-    assert_eq!(rt; planned_and_pieces(&mut bytes, 500), Ok((500, 125, 750)));
-    assert_eq!(rt; planned_and_pieces(&mut bytes, 1), Ok((1, 1, 6)));
+    // To read an entry reads one piece, of both words. Entry 0 is read where the plan has free blocks.
+    assert_eq!(rt; planned_and_pieces(&mut bytes, 1000), Ok((1000, 250, 751)));
+    assert_eq!(rt; planned_and_pieces(&mut bytes, 999), Ok((999, 250, 751)));
+    assert_eq!(rt; planned_and_pieces(&mut bytes, 500), Ok((500, 125, 375)));
+    assert_eq!(rt; planned_and_pieces(&mut bytes, 1), Ok((1, 1, 3)));
 }
