@@ -24,3 +24,5 @@ pub use tables::{Audited, table_infos};
 
 #[cfg(test)]
 mod files_tests;
+#[cfg(test)]
+mod mount_tests;
