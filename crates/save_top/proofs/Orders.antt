@@ -5,7 +5,8 @@ use Rattle.std.proofs.lemmas.Option.{slice_get_within, slice_get-get_or, get_or_
 use Rattle.std.specs.List.{slice_get}
 use Rattle.std.specs.Str.{bytes_eq}
 use Rattle.save_top.specs.declared.form.Act.TheVariants.{Peek}
-use Rattle.save_top.specs.Words.{number_of, info_of, peek_at, peek_of, act_of}
+use Rattle.tree_model.specs.CommandReading.{number_of}
+use Rattle.save_top.specs.Words.{info_of, peek_at, peek_of, act_of}
 
 -- a word, and those after it
 drop_word : (words : List (List ℕ)) (at : ℕ) (word : List ℕ) → slice_get words at ≡ Some word → drop at words ≡ word ∷ drop (at + 1) words

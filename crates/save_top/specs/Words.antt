@@ -1,14 +1,10 @@
 -- The forms of the words after the program's name.
-use Rattle.std.specs.Prelude.{ℕ, ◌^◌, Bool, true, false, nat_lt, ◌==◌, ◌&&◌, bytes_eq, List, [], ◌∷◌, length, Option, Some, None, codes, if◌then◌else◌}
-use Rattle.std.specs.Fmt.{decimal}
-use Rattle.std.specs.Str.Parse.{digits_value}
+use Rattle.std.specs.Prelude.{ℕ, Bool, true, false, ◌==◌, bytes_eq, List, [], ◌∷◌, length, Option, Some, None, codes}
+use Rattle.std.specs.Prelude.{if◌then◌else◌}
+use Rattle.tree_model.specs.CommandReading.{number_of}
 use Rattle.save_top.specs.declared.form.Order.{Order}
 use Rattle.save_top.specs.declared.form.Act.{Act}
 use Rattle.save_top.specs.declared.form.Act.TheVariants.{Info, Peek}
-
--- a number is the word that it is printed as, and is below 2 ^ 64
-unfoldable pub number_of : List ℕ → Option ℕ
-number_of word = let n = digits_value 10 word in if nat_lt n (2 ^ 64) && bytes_eq word (decimal n) then Some n else None
 
 -- info
 abbrev pub info_of : List (List ℕ) → Option Act

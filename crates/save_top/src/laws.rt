@@ -1,20 +1,11 @@
-//! What the definitions of words and replies mean, for all of them: each function's contract is the law, and its
-//! body is empty.
+//! What the definitions of replies mean, for all of them: the function's contract is the law, and its body is empty.
 
-ghost use Rattle.std.specs.Prelude.{◌≡◌, ℕ, ◌^◌, ◌<◌, ◌↔◌, List, Some};
-ghost use Rattle.std.specs.Fmt.{decimal};
+ghost use Rattle.std.specs.Prelude.{◌≡◌, ℕ, List};
 ghost use Rattle.save_disk.specs.Trace.{Event, Told};
 ghost use Rattle.save_disk.specs.State.{State};
 ghost use Rattle.save_disk.specs.Stops.{Since, AtEachMoment};
 ghost use Rattle.desk_output.specs.Output.{SaysFront, SaysAll};
 ghost use Rattle.save_top.specs.Output.{Reply, SaysReply, SaysOneReply};
-ghost use Rattle.save_top.specs.Words.{number_of};
-
-/// A word is read as a number exactly where it is the text that the number is printed as.
-pub fn numbers_are_as_printed()
-    ensures { (word : List ℕ) (n : ℕ) → (number_of word ≡ Some n)
-        ↔ ((word ≡ decimal n) × (n < 2 ^ 64)) }
-{}
 
 /// Where there is but one reply, a front of its text is said at each moment, and in the end the reply.
 pub fn a_lone_reply_is_the_one_said()

@@ -15,6 +15,6 @@ mod top;
 mod words;
 
 pub use form::{Act, Order};
-pub use laws::{a_lone_reply_is_the_one_said, numbers_are_as_printed};
+pub use laws::a_lone_reply_is_the_one_said;
 pub use top::{DISK_FAULT, DONE, NO_MEMORY, REFUSED, SINK_FAULT, SOURCE_FAULT, USAGE, run};
 pub use words::order;

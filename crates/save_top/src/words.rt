@@ -1,12 +1,11 @@
 //! The words of a call.
 
 ghost use Rattle.std.specs.Prelude.{◌≡◌, ◌≤◌, ◌↔◌, IsTrue, slice_get, drop, length, codes};
-ghost use Rattle.save_top.specs.Words.{number_of, info_of, peek_of, act_of, order_of};
+ghost use Rattle.save_top.specs.Words.{info_of, peek_of, act_of, order_of};
 
 use crate::form::{Act, Order};
-use itoa::Buffer;
 use save_bytes::Words;
-use std::str;
+use tree_model::read_number;
 
 /// Reads the words after the program's name: FILE, which is not empty, then `sealed` or not, then
 /// `info` or `peek PART BLOCK`, whose two numbers stand as they are printed. Nothing else is a form.
@@ -68,21 +67,4 @@ fn read_peek(words: &Words, at: usize) -> Option<Act>
     let part = read_number(words.get(at))?;
     let block = read_number(words.get(at + 1))?;
     Some(Act::Peek(part, block))
-}
-
-// The number that the word is printed from, if it is one below 2 ^ 64.
-fn read_number(word: &[u8]) -> Option<u64>
-    ensures { result ≡ number_of word.now }
-{
-    let Ok(text) = str::from_utf8(word) else {
-        return None;
-    };
-    let Ok(number) = text.parse::<u64>() else {
-        return None;
-    };
-    let mut digits = Buffer::new();
-    if digits.format(number).as_bytes() != word {
-        return None;
-    }
-    Some(number)
 }

@@ -49,6 +49,12 @@ target_by-text word (Err fault) is = first_fault word fault is
 target_text : (word : List ℕ) → IsTargetText (target_of word) word
 target_text word = target_by-text word (path_from word) refl
 
+pub target_stands : (word : List ℕ) (target : Target) → (target_of word ≡ target) ↔ IsTargetText target word
+target_stands word target = (
+  λ is. subst (λ (t : Target). IsTargetText t word) is (target_text word),
+  λ text. target_read target word text,
+)
+
 -- ---- so is a command off its words
 
 module _ (name : List ℕ) (target : Target) (words : List (List ℕ)) where

@@ -1,5 +1,5 @@
 -- What is read as a number.
-use Rattle.std.proofs.Common.{◌≡◌, ◌≢◌, ℕ, zero, suc, ◌/◌, ◌%◌, ◌<◌, ◌≤◌, ◌^◌, ◌==◌, Bool, true, false, not, ◌&&◌, cond}
+use Rattle.std.proofs.Common.{◌≡◌, ◌≢◌, ℕ, zero, suc, ◌/◌, ◌%◌, ◌<◌, ◌≤◌, ◌^◌, ◌==◌, ◌↔◌, Bool, true, false, not, ◌&&◌, cond}
 use Rattle.std.proofs.Common.{nat_lt, List, [], ◌∷◌}
 use Rattle.std.proofs.Common.{Option, Some, None, refl, sym, ◌∙◌, ap, arith, ⊎_elim, lt-ltb}
 use Rattle.std.proofs.lemmas.Bool.{and_parts, both_ways, cases_Bool, not-true, not-false, ltb-true}
@@ -10,7 +10,7 @@ use Rattle.std.proofs.lemmas.Slice.Eq.{bytes_eq-Decides}
 use Rattle.std.specs.Fmt.{decimal, digits, digits_onto, digit_glyph}
 use Rattle.std.specs.Str.{bytes_eq}
 use Rattle.std.specs.Str.Parse.{digits_value}
-use Rattle.tree_model.specs.Commands.{Lacks}
+use Rattle.tree_model.specs.Commands.{Lacks, IsNumberText}
 use Rattle.tree_model.specs.CommandReading.{number_of}
 
 -- a number, where the word is printed from it
@@ -41,6 +41,12 @@ number_of-decimal word n small is =
     let value : digits_value 10 word ≡ n = ap (λ (text : List ℕ). digits_value 10 text) is
     ∙ (decimal_is_IsNumeral n small).1 in
     of_digits word ∙ ap (λ (k : ℕ). printed_from word k) value ∙ printed_from-decimal word n small is
+
+pub number_stands : (word : List ℕ) (n : ℕ) → (number_of word ≡ Some n) ↔ IsNumberText n word
+number_stands word n = (
+  λ is. (let parts = number_of-some word n is in record { digits = parts.0; fits = parts.1 }),
+  λ text. number_of-decimal word n text.fits text.digits,
+)
 
 none_from : (number : Option ℕ) → ((n : ℕ) → number ≡ Some n → ⊥) → None ≡ number
 none_from None never = refl

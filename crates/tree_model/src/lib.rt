@@ -10,8 +10,12 @@ mod refusal;
 
 pub use command::{Command, Room, Target};
 pub use kind::TreeKind;
-pub use laws::{acknowledged_commits_add_up, lines_stand_for_one_command};
+pub use laws::{
+    acknowledged_commits_add_up, lines_stand_for_one_command, numbers_are_as_printed,
+    words_stand_for_one_target,
+};
 pub use listing::{Listing, Row};
+pub use reading::read_number;
 pub use refusal::{FsFault, Full, Refusal};
 
 #[cfg(test)]

@@ -33,6 +33,18 @@ impl Command {
     }
 }
 
+impl Target {
+    /// The path that a word stands for, or why it stands for none.
+    pub fn read(word: &[u8]) -> Target
+        ensures { result ≡ target_of word.now }
+    {
+        match Path::read(word) {
+            Ok(path) => Target::Path(path),
+            Err(fault) => Target::Fault(fault),
+        }
+    }
+}
+
 // Where the first word ends: at the first space, or where the text does.
 fn word_end(text: &[u8]) -> usize
     ensures inside { result ≤ length text.now }
@@ -73,13 +85,13 @@ fn read_named(name: &[u8], word: &[u8]) -> Option<Command>
     ensures { result ≡ named_of name.now (target_of word.now) }
 {
     if name == b"get".as_slice() {
-        return Some(Command::Get(read_target(word)));
+        return Some(Command::Get(Target::read(word)));
     }
     if name == b"mkdir".as_slice() {
-        return Some(Command::Mkdir(read_target(word)));
+        return Some(Command::Mkdir(Target::read(word)));
     }
     if name == b"remove".as_slice() {
-        return Some(Command::Remove(read_target(word)));
+        return Some(Command::Remove(Target::read(word)));
     }
     None
 }
@@ -90,26 +102,16 @@ fn read_numbered(name: &[u8], word: &[u8], number: &[u8]) -> Option<Command>
 {
     let n = read_number(number)?;
     if name == b"put".as_slice() {
-        return Some(Command::Put(read_target(word), n));
+        return Some(Command::Put(Target::read(word), n));
     }
     if name == b"link".as_slice() {
-        return Some(Command::Link(read_target(word), n));
+        return Some(Command::Link(Target::read(word), n));
     }
     None
 }
 
-// The path that a word stands for, or why it stands for none.
-fn read_target(word: &[u8]) -> Target
-    ensures { result ≡ target_of word.now }
-{
-    match Path::read(word) {
-        Ok(path) => Target::Path(path),
-        Err(fault) => Target::Fault(fault),
-    }
-}
-
-// The number that the word is printed from, if it is one below 2 ^ 64.
-fn read_number(word: &[u8]) -> Option<u64>
+/// The number that the word is printed from, if it is one below 2 ^ 64.
+pub fn read_number(word: &[u8]) -> Option<u64>
     ensures { result ≡ number_of word.now }
 {
     let Ok(text) = str::from_utf8(word) else {

@@ -2,7 +2,7 @@ use Rattle.std.proofs.Common.{refl, sym, ap}
 use Rattle.tree_model.specs.CommandReading.{target_by}
 use Rattle.save_bytes.proofs.PathLemmas.{path_from-text}
 use Rattle.save_bytes.proofs.PathFaultLemmas.{fault_from}
-use Rattle.tree_model.proofs.reading.read_target.Goals as goal
+use Rattle.tree_model.proofs.command.Target.read.Goals as goal
 
 pub returns-in-Ok : goal.returns-in-Ok
 returns-in-Ok c =
