@@ -1,5 +1,6 @@
 -- Both tables, read after one another, as they were before.
-use Rattle.std.proofs.Common.{◌≡◌, ℕ, ◌+◌, ◌<◌, ◌≤◌, [], IsTrue, Option, Some, None, refl, sym, ◌∙◌, ap, subst, arith, inl, inr}
+use Rattle.std.proofs.Common.{◌≡◌, ℕ, ◌+◌, ◌<◌, ◌≤◌, [], IsTrue, Option, Some}
+use Rattle.std.proofs.Common.{None, refl, sym, ◌∙◌, ap, subst, arith, inl, inr}
 use Rattle.std.proofs.lemmas.Option.{none-some}
 use Rattle.save_bytes.specs.declared.space.Bad.{Bad}
 use Rattle.save_bytes.specs.declared.space.Bad.TheVariants as bad
@@ -38,7 +39,8 @@ use Rattle.tree_rules.proofs.SoftLemmas.{number_between, tables_same}
 use Rattle.save_mount.specs.declared.fault.MountFault.{MountFault}
 use Rattle.save_mount.specs.declared.fault.MountFault.TheVariants.{Memory, Disk, Damaged, Broken, NotSave, Layout}
 use Rattle.save_mount.specs.Causes.{bad_of}
-use Rattle.save_mount.specs.Audited.{CanAudit, AreCountsOf, AreCounted, AreFew, HasBadCounts, HasTablesCause, HasRuleCause, table_cause}
+use Rattle.save_mount.specs.Audited.{CanAudit, AreCountsOf, AreCounted, AreFew}
+use Rattle.save_mount.specs.Audited.{HasBadCounts, HasTablesCause, HasRuleCause, table_cause}
 use Rattle.save_mount.proofs.InsideLemmas.{entry_inside, of_table_inside, needed_inside}
 use Rattle.save_mount.proofs.PlaceLemmas.{table_decides}
 

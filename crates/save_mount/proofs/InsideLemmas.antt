@@ -11,7 +11,8 @@ use Rattle.entry_tables.specs.Kinds.{entry_size}
 use Rattle.entry_tables.specs.Tables.{Tables, tables_in, info_of}
 use Rattle.entry_tables.specs.Rules.{HasFreedList, CanBeFreed}
 use Rattle.entry_tables.specs.Layout.{IsNeeded}
-use Rattle.entry_tables.specs.Layout.{OfZero, OfBucket, OfUsed, OfFreed as OfFreedWord, IsOfTable, InZero, InEntry, InBucket}
+use Rattle.entry_tables.specs.Layout.{OfZero, OfBucket, OfUsed, OfFreed as OfFreedWord}
+use Rattle.entry_tables.specs.Layout.{IsOfTable, InZero, InEntry, InBucket}
 use Rattle.entry_tables.proofs.EntryLemmas.{link_last}
 use Rattle.entry_audit.proofs.CopyLemmas.{freed_same}
 use Rattle.tree_model.specs.declared.kind.TreeKind.{TreeKind}

@@ -1,5 +1,6 @@
 -- Both tables of entries, where they stand in cells: how they are read, and why they are refused.
-use Rattle.std.specs.Prelude.{◌≡◌, ◌⊎◌, ℕ, ◌+◌, ◌*◌, ◌^◌, ◌<◌, ◌≤◌, ◌↔◌, List, length, get_or, nat_eq, Option, Some, None, Contains, ⊤}
+use Rattle.std.specs.Prelude.{◌≡◌, ◌⊎◌, ℕ, ◌+◌, ◌*◌, ◌^◌, ◌<◌, ◌≤◌, ◌↔◌}
+use Rattle.std.specs.Prelude.{List, length, get_or, nat_eq, Option, Some, None, Contains, ⊤}
 use Rattle.std.specs.List.{IsDistinct}
 use Rattle.save_bytes.specs.Cells.{Cell}
 use Rattle.save_bytes.specs.Answers.{IsFirstFault}
