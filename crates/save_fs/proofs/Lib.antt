@@ -1,0 +1,6 @@
+pub mod MountLemmas
+pub mod ListLemmas
+pub mod LookupLemmas
+pub mod LaterLemmas
+pub mod GetLemmas
+pub mod ReadLemmas

@@ -1,0 +1,13 @@
+//! A mounted SAVE: what stands in it, and the bytes of its files.
+#![tactic(auto)]
+
+mod fault;
+mod getting;
+mod listing;
+mod lookup;
+mod mounted;
+
+pub use getting::Getting;
+pub use mounted::SaveFs;
+pub use save_mount::MountFault;
+pub use tree_model::{FsFault, Listing, Refusal, Room};
