@@ -88,7 +88,7 @@ below [] some = absurd (omega (arith, some))
 below (name ∷ names) some = refl
 
 -- the chain of a file holds its contents
-contents_from : (table : ℕ → ℕ → Cell) (chain : ChainInfo) (start size : ℕ) (list : List ℕ)
+pub contents_from : (table : ℕ → ℕ → Cell) (chain : ChainInfo) (start size : ℕ) (list : List ℕ)
     → IsFileList table chain start size list → IsContentsList table chain start size list
 contents_from table chain start size list (HasNone none empty no_list) = record {
   enough = omega (arith, empty);

@@ -4,3 +4,4 @@ pub mod LookupLemmas
 pub mod LaterLemmas
 pub mod GetLemmas
 pub mod ReadLemmas
+pub mod TreeLaterLemmas

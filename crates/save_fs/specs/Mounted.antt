@@ -4,7 +4,7 @@ use Rattle.save_bytes.specs.Cells.{Cell}
 use Rattle.save_bytes.specs.State.{Shape}
 use Rattle.entry_tables.specs.Tables.{Tables}
 use Rattle.tree_model.specs.declared.kind.TreeKind.TheVariants.{Save}
-use Rattle.tree_model.specs.Trees.{Tree}
+use Rattle.tree_model.specs.Trees.{Tree, SameTree}
 use Rattle.tree_rules.specs.Information.{information_in}
 use Rattle.tree_rules.specs.Places.{places_of, tree_tables}
 use Rattle.tree_rules.specs.Lists.{Holder}
@@ -30,6 +30,12 @@ pub record StandsOn (shape : Shape) (fs : SaveFs) : Type 0 where
 pub record IsMountedOn (size : ℕ) (fs : SaveFs) (cells : ℕ → Cell) (tree : Tree) : Type 0 where
   pub reads : TreeReadsFrom Save size fs.split cells tree
   pub mount : IsMountOf Save size fs.split cells fs.mounted reads.lists
+
+-- the cells hold a tree that is the same, of which the same is kept
+pub record StaysMounted (size : ℕ) (fs : SaveFs) (cells : ℕ → Cell) (tree : Tree) : Type 0 where
+  pub later : Tree
+  pub mounted : IsMountedOn size fs cells later
+  pub same : SameTree tree later
 
 -- the tables that such cells have, with these lists
 abbrev pub tables_on : ℕ → SaveFs → (ℕ → Cell) → (Holder → List ℕ) → Tables
