@@ -270,7 +270,7 @@ pub record StayContents (table : ℕ → ℕ → Cell) (info : ChainInfo) (start
 
 module _ {table : ℕ → ℕ → Cell} {info : ChainInfo} {start size : ℕ} {list : List ℕ} {old new : ℕ → Cell}
     (h : StayContents table info start size list old new) where
-  cell_stays : (x : ℕ) → x < size → contents_in info list new x ≡ contents_in info list old x
+  pub cell_stays : (x : ℕ) → x < size → contents_in info list new x ≡ contents_in info list old x
   cell_stays x less = h.same (block_place info list x)
       (omega (arith, place_inside table info start size list x h.contents less, h.inside))
 

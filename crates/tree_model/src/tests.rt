@@ -249,3 +249,15 @@ fn other_lines_are_none_of_the_forms(rt: HostRuntime) {
         assert!(rt; read.is_none(), "{line:?}");
     }
 }
+
+#[test]
+fn a_word_alone_is_a_number_or_a_target(rt: HostRuntime) {
+    assert_eq!(rt; read_number(b"0"), Some(0));
+    assert_eq!(rt; read_number(b"18446744073709551615"), Some(u64::MAX));
+    let none: [&[u8]; 5] = [b"", b"00", b"+1", b"1 ", b"18446744073709551616"];
+    for word in none {
+        assert_eq!(rt; read_number(word), None, "{word:?}");
+    }
+    assert!(rt; matches!(Target::read(b"/a"), Target::Path(path) if path.len() == 1));
+    assert!(rt; matches!(Target::read(b"a"), Target::Fault(PathFault::NoSlash)));
+}
