@@ -7,6 +7,7 @@ pub mod StandsLemmas
 pub mod OverLemmas
 pub mod LiftLemmas
 pub mod OriginLemmas
+pub mod OriginStartLemmas
 pub mod FirstLemmas
 pub mod SecondLemmas
 pub mod CallLemmas

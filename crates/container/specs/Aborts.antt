@@ -1,6 +1,7 @@
 -- What becomes of an open image where the changes of a transaction are dropped.
-use Rattle.std.specs.Prelude.{◌≡◌, ℕ, ◌<◌, List, slice_index, IfSome}
-use Rattle.save_bytes.specs.Cells.{Cell}
+use Rattle.std.specs.Prelude.{◌≡◌, ℕ, ◌<◌, List, slice_index, Option, Some, None, IfSome}
+use Rattle.save_bytes.specs.Cells.{Cell, Byte}
+use Rattle.save_bytes.specs.State.{State}
 use Rattle.save_disk.specs.State as disks
 use Rattle.difi.specs.Contents.{view_size}
 use Rattle.dpfs_tree.specs.Picks.{chosen}
@@ -13,7 +14,7 @@ use Rattle.part_store.specs.Parts.{contents_of}
 use Rattle.part_store.specs.Ends.{EndsPart, HasNoChanges, TellsOrigin, chosen_cells}
 use Rattle.container.specs.declared.open.Container.{Container}
 use Rattle.container.specs.Signers.{Signing}
-use Rattle.container.specs.Parts.{SameSecond}
+use Rattle.container.specs.Parts.{SameSecond, part_at}
 use Rattle.container.specs.Containers.{IsOpenOf}
 use Rattle.container.specs.StoreHeld.{SameContainer}
 use Rattle.container.specs.Origins.{HaveCome}
@@ -53,6 +54,19 @@ pub record HaveOrigins (was : ℕ → ℕ → Cell) (disk : disks.State) (contai
   pub came : HaveCome was container.table.items disk container
   pub first : IsPartBack disk container (was 0) container.parts.first
   pub second : IfSome container.parts.second (IsPartBack disk container (was 1))
+
+-- the contents of a part as they are read; where there is no part no byte of them counts
+abbrev pub read_of : State → Option Part → ℕ → Cell
+read_of base None x = Byte 0
+read_of base (Some part) x = (contents_of base part).cells x
+
+-- the contents of each part as they are now, by its number
+abbrev pub contents_now : disks.State → Container → ℕ → ℕ → Cell
+contents_now disk container number = read_of (image_state disk container.image) (part_at container.parts number)
+
+-- each part's tree came from the contents as they are now: a transaction begins
+abbrev pub AreAtOrigin : disks.State → Container → Type 0
+AreAtOrigin disk container = HaveOrigins (contents_now disk container) disk container
 
 -- the contents that a part's selector chooses over a disk are those that it chooses in an image
 abbrev pub IsPartHeld : List ℕ → disks.State → Container → Part → Type 0

@@ -2,13 +2,14 @@
 //! body is empty.
 
 ghost use Rattle.std.specs.Prelude.{◌≡◌, ◌↔◌, ℕ, List, Bool, None};
+ghost use Rattle.save_disk.specs.State.{State as DiskState};
 ghost use Rattle.container.specs.Signers.{Signing};
 ghost use Rattle.container.specs.Openings.{fault_of};
 ghost use Rattle.container.specs.Opens.{Opens};
 ghost use Rattle.container.specs.declared.open.Container.{Container};
 ghost use Rattle.container.specs.Containers.{IsOpenOf, IsWholeContainer};
 ghost use Rattle.container.specs.StoreHeld.{IsKept, SameContainer};
-ghost use Rattle.container.specs.Aborts.{WasOpenOf};
+ghost use Rattle.container.specs.Aborts.{WasOpenOf, AreAtOrigin};
 
 /// An image opens under a signer exactly where no fault of it is found, whichever condition is tried first.
 pub fn opens_exactly_where_no_fault_is_found()
@@ -31,4 +32,11 @@ pub fn what_was_written_stays_whole()
         → WasOpenOf sign image container }
     ensures opened { (old new : Container) → SameContainer old new → (sign : Signing) (image : List ℕ)
         → WasOpenOf sign image old → WasOpenOf sign image new }
+{}
+
+/// The parts' trees of a container of which nothing was changed came from what the disk holds: so what was read may be
+/// remembered where the changes of its first transaction are dropped.
+pub fn an_opened_container_is_at_its_origin()
+    ensures { (sign : Signing) (image : List ℕ) (container : Container) → IsOpenOf sign image container
+        → (disk : DiskState) → AreAtOrigin disk container }
 {}

@@ -18,7 +18,7 @@ mod writing;
 
 pub use fault::OpenFault;
 pub use laws::{
-    opens_exactly_where_no_fault_is_found, what_was_only_read_stays_open,
+    an_opened_container_is_at_its_origin, opens_exactly_where_no_fault_is_found, what_was_only_read_stays_open,
     what_was_written_stays_whole,
 };
 pub use open::Container;

@@ -1,7 +1,7 @@
 //! Opening a container.
 
 ghost use Rattle.std.specs.Prelude.{◌≡◌, ◌≢◌, ◌≤◌, IsTrue, IfOk, IfErr, OnOk, Some, None, length};
-ghost use Rattle.save_disk.specs.State.{IsQuiet, IsSteady, Rose};
+ghost use Rattle.save_disk.specs.State.{State as DiskState, IsQuiet, IsSteady, Rose};
 ghost use Rattle.save_disk.specs.Tells.{tells, image_told};
 ghost use Rattle.page_image.specs.Images.{IsOpened};
 ghost use Rattle.container.specs.Signers.{signing};
@@ -60,6 +60,7 @@ fn open_image<D: Disk>(alloc: Global, disk: &mut D, len: u64) -> Result<ImageSta
 impl Container {
     ghost use Rattle.container.specs.Containers.{IsOpenOf, IsWholeContainer};
     ghost use Rattle.container.specs.Stores.{HaveNoMemory};
+    ghost use Rattle.container.specs.Aborts.{AreAtOrigin};
 
     /// Opens the image of a disk: its header and the signer's tag, the digest of the active table, and the
     /// descriptors in that table. The inactive table is not looked at, and nothing is written.
@@ -78,6 +79,8 @@ impl Container {
         ensures image { IfOk result (λ container. IsOpened (D.state disk.new) container.image) }
         ensures whole { IfOk result IsWholeContainer }
         ensures told { IfOk result (λ container. HaveNoMemory container.parts) }
+        // Nothing is put yet: so each part's tree came from what the disk holds.
+        ensures origin { IfOk result (λ container. (disk : DiskState) → AreAtOrigin disk container) }
         ensures caused { IfErr result (λ fault. IsTrue (tells (D.state disk.old))
             → IsCaused (fault_of (signing G.tag_of G.is_demanding signer.now) (image_told (D.state disk.old))) fault) }
         ensures disk { IfErr result (λ fault. fault ≡ OpenFault.Disk → Rose (D.state disk.old).counts.disk (D.state disk.new).counts.disk) }

@@ -10,6 +10,7 @@ use Rattle.container.proofs.ReadLemmas.{shown_before}
 use Rattle.container.proofs.PartLemmas.{second_of}
 use Rattle.container.proofs.FaultLemmas.{caused_by, caused_none, caused_first, caused_second, none_of_both, table_next}
 use Rattle.container.proofs.OpensLemmas.{opens_without_fault}
+use Rattle.container.proofs.OriginStartLemmas.{untouched_origin, second_untouched}
 use Rattle.container.proofs.open.Container.open.Given.{Over}
 use Rattle.container.proofs.open.Container.open.Goals.{In_ok-table, In_ok-check_table}
 use Rattle.container.proofs.open.Container.open.Goals as goal
@@ -85,6 +86,12 @@ returns-clause-opened g c = λ sure.
       table = read.same;
       parts = rw (← c.deref-2.ensures.value) c.in_ok-parts.ensures.parts;
     }
+
+pub returns-clause-origin : goal.returns-clause-origin
+returns-clause-origin g c = λ disk.
+    let parts = c.in_ok-parts.ensures.parts in
+    untouched_origin disk _ parts.first.untouched
+    (second_untouched c.deref-2.result.now c.in_ok-header.header c.in_ok-parts.parts.second parts.second)
 
 pub returns-in_err-image-clause-caused : goal.returns-in_err-image-clause-caused
 returns-in_err-image-clause-caused g c =

@@ -1,0 +1,54 @@
+-- Parts of which nothing was changed came from what they hold.
+use Rattle.std.proofs.Common.{ℕ, List, Option, Some, None, IfSome, sym, ap}
+use Rattle.save_bytes.specs.Cells.{Byte}
+use Rattle.save_bytes.specs.State.{State}
+use Rattle.save_disk.specs.State as disks
+use Rattle.container_header.specs.declared.header.Header.{Header}
+use Rattle.dpfs_tree.specs.Picks.{bytes_of}
+use Rattle.dpfs_tree.proofs.PickLemmas.{place_of-chosen}
+use Rattle.ivfc_tree.specs.Marks.{is_marked}
+use Rattle.ivfc_tree.proofs.OriginLemmas.{CameFrom-none}
+use Rattle.page_image.specs.Images.{image_state}
+use Rattle.part_store.specs.declared.part.Part.{Part}
+use Rattle.part_store.specs.Parts.{contents_of, master_of}
+use Rattle.container.specs.declared.open.Container.{Container}
+use Rattle.container.specs.Parts.{IsUntouched, IsPartRead}
+use Rattle.container.specs.Origins.{HasCome}
+use Rattle.container.specs.Aborts.{IsPartBack, read_of, AreAtOrigin}
+
+module _ (disk : disks.State) (c : Container) where
+  abbrev base : State
+  base = image_state disk c.image
+
+  came_itself : (part : Part) → IsUntouched part → HasCome (read_of base (Some part)) c.table.items disk c part
+  came_itself part untouched =
+      CameFrom-none part.difi (is_marked part.ivfc) (contents_of base part).cells (master_of c.table.items part.difi)
+      untouched.hashes
+
+  -- what is read is what the selector chooses
+  back_itself : (part : Part) → IsUntouched part → IsPartBack disk c (read_of base (Some part)) part
+  back_itself part untouched x inside free =
+      ap Byte (sym (place_of-chosen (bytes_of base.cells) part.at part.difi part.dpfs x untouched.contents.unmarked))
+
+  second_came : (second : Option Part) → IfSome second IsUntouched
+      → IfSome second (HasCome (read_of base second) c.table.items disk c)
+  second_came None untouched = tt
+  second_came (Some part) untouched = came_itself part untouched
+
+  second_back : (second : Option Part) → IfSome second IsUntouched
+      → IfSome second (IsPartBack disk c (read_of base second))
+  second_back None untouched = tt
+  second_back (Some part) untouched = back_itself part untouched
+
+  pub untouched_origin : IsUntouched c.parts.first → IfSome c.parts.second IsUntouched → AreAtOrigin disk c
+  untouched_origin first second = record {
+    came = record { first = came_itself c.parts.first first; second = second_came c.parts.second second };
+    first = back_itself c.parts.first first;
+    second = second_back c.parts.second second;
+  }
+
+-- parts that were just read are so
+pub second_untouched : (table : List ℕ) (header : Header) (second : Option Part)
+    → IfSome second (IsPartRead table header 1) → IfSome second IsUntouched
+second_untouched table header None read = tt
+second_untouched table header (Some part) read = read.untouched
