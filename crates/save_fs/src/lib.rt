@@ -11,3 +11,6 @@ pub use getting::Getting;
 pub use mounted::SaveFs;
 pub use save_mount::MountFault;
 pub use tree_model::{FsFault, Listing, Refusal, Room};
+
+#[cfg(test)]
+mod tests;
