@@ -62,7 +62,8 @@ module _ (tree : Tree) (path : Names) (save : tree.kind ≡ Save) where
       → get_refusal tree path ≡ Some NotFound
   of_nothing below none not_there = rw (save, below, none, not_there) refl
 
-  pub refused_reply : (refusal : Refusal) → get_refusal tree path ≡ Some refusal → IsGetReply tree path (Refused refusal)
+  pub refused_reply : (refusal : Refusal) → get_refusal tree path ≡ Some refusal
+      → IsGetReply tree path (Refused refusal)
   refused_reply refusal is = (Some refusal, sym is, (refl, same_tree tree))
 
   -- a file with these cells
@@ -72,7 +73,8 @@ module _ (tree : Tree) (path : Names) (save : tree.kind ≡ Save) where
         → ((x : ℕ) → x < size → cells x ≡ Byte (slice_index bytes x)) → IsGetReply tree path (FileIs bytes)
     bytes_reply bytes long are =
         let answers : GetAnswers (Some (Contents size held cells)) (FileIs bytes) = (long, are) in
-        (None, sym none, (subst (λ (f : Option TreeFile). GetAnswers f (FileIs bytes)) (sym file) answers, same_tree tree))
+        let given = subst (λ (f : Option TreeFile). GetAnswers f (FileIs bytes)) (sym file) answers in
+        (None, sym none, (given, same_tree tree))
 
     pub hole_reply : (part level block : ℕ) → IsFirstHole size cells part level block
         → IsGetReply tree path (Refused (Damaged part level block))
@@ -80,7 +82,10 @@ module _ (tree : Tree) (path : Names) (save : tree.kind ≡ Save) where
         let answers : GetAnswers (Some (Contents size held cells)) (Refused (Damaged part level block)) = hole in (
           None,
           sym none,
-          (subst (λ (f : Option TreeFile). GetAnswers f (Refused (Damaged part level block))) (sym file) answers, same_tree tree),
+          (
+            subst (λ (f : Option TreeFile). GetAnswers f (Refused (Damaged part level block))) (sym file) answers,
+            same_tree tree,
+          ),
         )
 
 below : (path : Names) → 1 ≤ length path → is_root path ≡ false
@@ -162,8 +167,8 @@ module _ (size : ℕ) (fs : SaveFs) (cells : ℕ → Cell) (tree : Tree) (h : Is
         → IsFileWith cells fs.mounted.places.chain tree path start wide
     file_fields e at none start wide is_start is_wide =
         let same = places_is size fs cells tree h in
-        let placed : IsFileAt t path e = subst (λ (q : Places). IsFileAt (tree_tables size q (table_chains h.reads.lists)
-        cells) path e) same at in
+        let placed : IsFileAt t path e =
+        subst (λ (q : Places). IsFileAt (tree_tables size q (table_chains h.reads.lists) cells) path e) same at in
         let all = file_with e placed none in
         let back : IsFileWith cells fs.mounted.places.chain tree path
         ((tables_on size fs cells h.reads.lists).start e) ((tables_on size fs cells h.reads.lists).wide e) =

@@ -47,7 +47,8 @@ module _ (size : ℕ) (split : Option ℕ) (cells new : ℕ → Cell) (m : Mount
   }
 
   -- the tables, where they stand
-  pub tables_later : tree_tables size m.places (table_chains lists) new ≡ tree_tables size m.places (table_chains lists) cells
+  pub tables_later : tree_tables size m.places (table_chains lists) new
+      ≡ tree_tables size m.places (table_chains lists) cells
   tables_later =
       let later = ap (λ (q : Places). tree_tables size q (table_chains lists) new)
       (places_at size split new m lists mount_later) in
@@ -56,8 +57,8 @@ module _ (size : ℕ) (split : Option ℕ) (cells new : ℕ → Cell) (m : Mount
       later ∙ kept.tables ∙ sym before
 
 -- in a state that a reading call left
-module _ (old mid : State) (stays : Stays old mid None) (told : IsTrue old.told) (fs : SaveFs) (lists : Holder → List ℕ)
-    (mount : IsMountOf Save old.shape.size fs.split old.cells fs.mounted lists) where
+module _ (old mid : State) (stays : Stays old mid None) (told : IsTrue old.told) (fs : SaveFs)
+    (lists : Holder → List ℕ) (mount : IsMountOf Save old.shape.size fs.split old.cells fs.mounted lists) where
   pub mount_mid : IsMountOf Save mid.shape.size fs.split mid.cells fs.mounted lists
   mount_mid = subst (λ (s : Shape). IsMountOf Save s.size fs.split mid.cells fs.mounted lists)
       (sym stays.space.shape)

@@ -149,7 +149,8 @@ module _ {S : Type 0} (states : S → State) (view : BlocksSpace S) (base : S) (
         (table_info size fs.mounted.places Dir) files) mount.files_at
 
     tables_placed : found ≡ tree_tables size p chains cells
-    tables_placed = tables_are ∙ ap (λ (q : Places). tree_tables size q chains cells) (places_at size fs.split cells fs.mounted lists mount)
+    tables_placed = tables_are ∙ ap (λ (q : Places). tree_tables size q chains cells)
+        (places_at size fs.split cells fs.mounted lists mount)
 
     layout_good : layout_fault Save fs.split size fs.mounted.info found ≡ None
     layout_good = subst (λ (t : Tables). layout_fault Save fs.split size fs.mounted.info t ≡ None) (sym tables_placed)
@@ -160,11 +161,14 @@ module _ {S : Type 0} (states : S → State) (view : BlocksSpace S) (base : S) (
     orderly = subst IsOrderly (sym tables_placed) mount.consistent.orderly
 
     info_placed : (table : EntryKind) → info_of fs.mounted.dirs fs.mounted.files table ≡ table_info size p table
-    info_placed Dir = mount.dirs_at ∙ ap (λ (q : Places). table_info size q Dir) (places_at size fs.split cells fs.mounted lists mount)
-    info_placed File = mount.files_at ∙ ap (λ (q : Places). table_info size q File) (places_at size fs.split cells fs.mounted lists mount)
+    info_placed Dir = mount.dirs_at ∙ ap (λ (q : Places). table_info size q Dir)
+        (places_at size fs.split cells fs.mounted lists mount)
+    info_placed File = mount.files_at ∙ ap (λ (q : Places). table_info size q File)
+        (places_at size fs.split cells fs.mounted lists mount)
 
     cells_placed : (laid states view).cells ≡ laid_cells size p chains cells
-    cells_placed = same_cells ∙ ap (λ (q : Places). laid_cells size q chains cells) (places_at size fs.split cells fs.mounted lists mount)
+    cells_placed = same_cells ∙ ap (λ (q : Places). laid_cells size q chains cells)
+        (places_at size fs.split cells fs.mounted lists mount)
 
     byte_at : (table : EntryKind) (x : ℕ)
         → IsNeeded table (info_of fs.mounted.dirs fs.mounted.files table) (found.table table) x

@@ -74,4 +74,5 @@ module _ (size : ℕ) (fs : SaveFs) (cells : ℕ → Cell) (tree : Tree) (h : Is
       let same : h.reads.lists ≡ lists = λ i holder. one_list Save size fs.split cells h.reads.lists lists
       h.reads.consistent consistent holder i in
       subst (λ (l : Holder → List ℕ). IsCountOf (IsLost p.chain.count l) fs.mounted.lost) same
-      (subst (λ (q : Places). IsCountOf (IsLost q.chain.count h.reads.lists) fs.mounted.lost) places_is h.mount.lost_are)
+      (subst (λ (q : Places). IsCountOf (IsLost q.chain.count h.reads.lists) fs.mounted.lost) places_is
+      h.mount.lost_are)

@@ -54,7 +54,8 @@ module _ (old mid : ℕ → Cell) (shape : Shape) (chain : ChainInfo) (table : H
   module _ (tree : Tree) (path : Names) (start size : ℕ) (save : tree.kind ≡ Save)
       (file : IsFileWith old chain tree path start size) where
     pub contents_mid : IsContentsList (table_in mid chain) chain start size file.list
-    contents_mid = subst (λ (t : ℕ → ℕ → Cell). IsContentsList t chain start size file.list) (sym table_is) file.contents
+    contents_mid = subst (λ (t : ℕ → ℕ → Cell). IsContentsList t chain start size file.list) (sym table_is)
+        file.contents
 
     stay : StayContents (table_in old chain) chain start size file.list old mid
     stay = record { contents = file.contents; space = shape.size; inside = table.region; same = same }
@@ -84,8 +85,10 @@ module _ (old mid : ℕ → Cell) (shape : Shape) (chain : ChainInfo) (table : H
 
       stands : IsReadingAt (table_in old reading.info) start (length bytes) file.list 0 reading
       stands =
-          let here = subst (λ (t : ℕ → ℕ → Cell). IsReadingAt t start size file.list 0 reading) table_is begun.stands in
-          let named = subst (λ (i : ChainInfo). IsReadingAt (table_in old i) start size file.list 0 reading) (sym info)
+          let here =
+          subst (λ (t : ℕ → ℕ → Cell). IsReadingAt t start size file.list 0 reading) table_is begun.stands in
+          let named =
+          subst (λ (i : ChainInfo). IsReadingAt (table_in old i) start size file.list 0 reading) (sym info)
           here in
           subst (λ (n : ℕ). IsReadingAt (table_in old reading.info) start n file.list 0 reading) (sym long) named
 
@@ -95,7 +98,8 @@ module _ (old mid : ℕ → Cell) (shape : Shape) (chain : ChainInfo) (table : H
         list = file.list;
         size = sym long;
         stands = stands;
-        are = λ k less. subst (λ (i : ChainInfo). contents_in i file.list old k ≡ Byte (slice_index bytes k)) (sym info)
+        are = λ k less.
+            subst (λ (i : ChainInfo). contents_in i file.list old k ≡ Byte (slice_index bytes k)) (sym info)
             (are k (omega (arith, less, long)));
       }
 
@@ -152,8 +156,8 @@ module _ (cells : ℕ → Cell) (bytes : List ℕ) (x : ℕ) (getting : Getting)
       let left = at.stands.left in
       let long : length (take n out) ≡ n = length-take-le n out (omega (arith, many)) in
       let here : IsReadingAt (table_in cells later.info) at.start (length bytes) at.list (x + n) later =
-      subst (λ (i : ChainInfo). IsReadingAt (table_in cells i) at.start (length bytes) at.list (x + n) later) (sym info)
-      read.stands in
+      subst (λ (i : ChainInfo). IsReadingAt (table_in cells i) at.start (length bytes) at.list (x + n) later)
+      (sym info) read.stands in
       record {
         many = many ∙ ap (λ (m : ℕ). min m (length out)) (omega (arith, left));
         given = piece_is n (take n out) (omega (arith, left, many)) long
@@ -163,7 +167,8 @@ module _ (cells : ℕ → Cell) (bytes : List ℕ) (x : ℕ) (getting : Getting)
           list = at.list;
           size = at.size;
           stands = here;
-          are = λ k less. subst (λ (i : ChainInfo). contents_in i at.list cells k ≡ Byte (slice_index bytes k)) (sym info)
+          are = λ k less.
+              subst (λ (i : ChainInfo). contents_in i at.list cells k ≡ Byte (slice_index bytes k)) (sym info)
               (at.are k less);
         };
       }

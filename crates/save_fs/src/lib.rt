@@ -13,3 +13,6 @@ pub use laws::a_mount_stays_over_the_same_cells;
 pub use mounted::SaveFs;
 pub use save_mount::MountFault;
 pub use tree_model::{FsFault, Listing, Refusal, Room};
+
+#[cfg(test)]
+mod tests;

@@ -19,8 +19,8 @@ impl SaveFs {
     ///
     /// # Errors
     ///
-    /// `NoMemory` where memory runs out, `Disk` where the disk below failed. Where the store does not tell its cells, or
-    /// they are no more those that were mounted, also `Damaged` and `Changed`.
+    /// `NoMemory` where memory runs out, `Disk` where the disk below failed. Where the store does not tell its cells,
+    /// or they are no more those that were mounted, also `Damaged` and `Changed`.
     pub fn list<S: Space>(&self, alloc: Global, store: &mut S) -> Result<Listing, FsFault>
         requires { StandsOn (S.state store.old).shape self.now }
         ensures rows { let s = S.state store.old in IsTrue s.told → (tree : Tree)

@@ -26,8 +26,8 @@ pub struct SaveFs {
 }
 
 impl SaveFs {
-    /// Mounts the SAVE that a store holds, `split` being where its second part begins, if there is one. All metadata that
-    /// is needed is read, and every rule on it is tried.
+    /// Mounts the SAVE that a store holds, `split` being where its second part begins, if there is one. All metadata
+    /// that is needed is read, and every rule on it is tried.
     ///
     /// # Errors
     ///

@@ -15,8 +15,8 @@ use Rattle.save_fs.proofs.mounted.SaveFs.begin_get.Goals as goal
 pub returns-in-Err-clause-begun : goal.returns-in-Err-clause-begun
 returns-in-Err-clause-begun g c told tree h =
     let old = g.S.Space.state c.args.store.now in
-    begin_refused old.cells c.args.self.now.mounted.places.chain tree c.args.path.now h.reads.read.kind_is c.in-Err.fault
-    (c.in-Err.ensures.found told tree h)
+    begin_refused old.cells c.args.self.now.mounted.places.chain tree c.args.path.now h.reads.read.kind_is
+    c.in-Err.fault (c.in-Err.ensures.found told tree h)
 
 pub begin_reading-requires : goal.begin_reading-requires
 begin_reading-requires g c =
@@ -34,8 +34,8 @@ returns-in-Ok-begin_reading-clause-begun g c told tree h =
     let file = c.in-Ok.ensures.found told tree h in
     let fields = c.in-Ok.fields in
     let table = table_at old.shape fs c.requires in
-    has_begun old.cells mid.cells old.shape chain table (stays.cells told) tree c.args.path.now fields.start fields.wide
-    h.reads.read.kind_is file c.in-Ok-begin_reading.reading c.in-Ok-begin_reading.ensures.info
+    has_begun old.cells mid.cells old.shape chain table (stays.cells told) tree c.args.path.now fields.start
+    fields.wide h.reads.read.kind_is file c.in-Ok-begin_reading.reading c.in-Ok-begin_reading.ensures.info
     (c.in-Ok-begin_reading.ensures.begun (stays.space.told told) file.list
     (contents_mid old.cells mid.cells old.shape chain table (stays.cells told) tree c.args.path.now fields.start
     fields.wide h.reads.read.kind_is file))

@@ -8,7 +8,8 @@ use Rattle.entry_tables.specs.declared.table.FileFields.{FileFields}
 use Rattle.entry_tables.specs.Causes.{bad_of}
 use Rattle.save_fs.specs.Faults.{bad_in}
 use Rattle.save_fs.specs.Mounted.{tables_on}
-use Rattle.save_fs.proofs.LookupLemmas.{stands_in, room_of, tables_stand, fields_read, fields_exact, exact_done, entry_bad}
+use Rattle.save_fs.proofs.LookupLemmas.{stands_in, room_of, tables_stand, fields_read, fields_exact}
+use Rattle.save_fs.proofs.LookupLemmas.{exact_done, entry_bad}
 use Rattle.save_fs.proofs.mounted.SaveFs.fields.Goals as goal
 
 pub new-space-requires : goal.new-space-requires
@@ -30,8 +31,8 @@ returns-in-Ok-clause-fields g c told lists mount used =
     let holds = c.new-space.ensures.holds in
     let m = c.args.self.now.mounted in
     let extra = holds.same_extra ∙ ap (extra_of m.places.chain.region_at m.places.chain.block) c.deref.ensures.value in
-    fields_read g.S.Space.state c.new-space.result c.args.store.now c.args.self.now c.requires holds.base_now extra told
-    lists mount c.args.entry used c.in-Ok.fields c.in-Ok.ensures.start c.in-Ok.ensures.wide
+    fields_read g.S.Space.state c.new-space.result c.args.store.now c.args.self.now c.requires holds.base_now extra
+    told lists mount c.args.entry used c.in-Ok.fields c.in-Ok.ensures.start c.in-Ok.ensures.wide
 
 pub returns-in-Err-clause-fields : goal.returns-in-Err-clause-fields
 returns-in-Err-clause-fields g c told lists mount used =
@@ -77,7 +78,7 @@ returns-in-Err-clause-reads g c =
     let shape = laws.keeps_shape first.base.now last.base.now (laws.keeps_hold first.base.now last.base.now kept) in
     let refusal : bad_in c.refused_entry.result ≡ bad_of {A = FileFields} (Err c.in-Err.fault) =
     ap bad_in c.refused_entry.ensures ∙ entry_bad FileFields c.in-Err.fault in
-    let reads = base_reads space.state space.keeps space.lands first last (bad_of {A = FileFields} (Err c.in-Err.fault)) room
-    shape c.in-Err.ensures.reads in
+    let reads = base_reads space.state space.keeps space.lands first last (bad_of {A = FileFields}
+    (Err c.in-Err.fault)) room shape c.in-Err.ensures.reads in
     let same = rw holds.base_now at reads in
     rw refusal (search rules)

@@ -16,6 +16,7 @@ returns-in-Ok-rows_of-clause-rows g c told tree h =
     let s = g.S.Space.state c.args.store.now in
     let p = places_of Save c.args.self.now.split (information_in s.cells) in
     let read = c.in-Ok.ensures.read told (table_chains h.reads.lists) (rw c.deref.ensures.value h.mount.blocks_are) in
-    rw c.new.ensures (c.in-Ok-rows_of.ensures s.cells h.reads.lists p (tree_tables s.shape.size p (table_chains h.reads.lists) s.cells)
+    rw c.new.ensures (c.in-Ok-rows_of.ensures s.cells h.reads.lists p
+    (tree_tables s.shape.size p (table_chains h.reads.lists) s.cells)
     tree (tables_read s.shape.size c.args.self.now s.cells tree h c.in-Ok.found read) h.reads.consistent.orderly
     h.reads.read)

@@ -9,8 +9,8 @@ use Rattle.save_mount.proofs.TableLemmas.{can_lay}
 use Rattle.save_fs.specs.Faults.{bad_in}
 use Rattle.save_fs.specs.Mounted.{tables_on}
 use Rattle.tree_paths.specs.declared.descent.Standing.{Standing}
-use Rattle.save_fs.proofs.LookupLemmas.{stands_in, room_of, tables_stand, tables_are, orderly, needed, tells, entry_bad}
-use Rattle.save_fs.proofs.LookupLemmas.{exact_done}
+use Rattle.save_fs.proofs.LookupLemmas.{stands_in, room_of, tables_stand, tables_are, orderly, needed, tells}
+use Rattle.save_fs.proofs.LookupLemmas.{entry_bad, exact_done}
 use Rattle.save_fs.proofs.mounted.SaveFs.standing.Goals as goal
 
 pub new-space-requires : goal.new-space-requires
@@ -47,7 +47,8 @@ returns-in-Err-clause-standing g c told lists mount =
     let extra = holds.same_extra ∙ ap (extra_of m.places.chain.region_at m.places.chain.block) c.deref.ensures.value in
     let space = g.S.Space in
     let first = c.new-space.result in
-    rw c.refused_entry.ensures (exact_done Standing Standing c.in-Err.fault (IsStanding (tables_on (space.state c.args.store.now).shape.size
+    rw c.refused_entry.ensures (exact_done Standing Standing c.in-Err.fault
+    (IsStanding (tables_on (space.state c.args.store.now).shape.size
     c.args.self.now (space.state c.args.store.now).cells lists) c.args.path.now) (c.in-Err.ensures.exact
     (tells space.state first c.args.store.now c.args.self.now c.requires holds.base_now extra told lists mount)
     (orderly space.state first c.args.store.now c.args.self.now c.requires holds.base_now extra told lists mount)
@@ -83,7 +84,7 @@ returns-in-Err-clause-reads g c =
     let shape = laws.keeps_shape first.base.now last.base.now (laws.keeps_hold first.base.now last.base.now kept) in
     let refusal : bad_in c.refused_entry.result ≡ bad_of {A = Standing} (Err c.in-Err.fault) =
     ap bad_in c.refused_entry.ensures ∙ entry_bad Standing c.in-Err.fault in
-    let reads = base_reads space.state space.keeps space.lands first last (bad_of {A = Standing} (Err c.in-Err.fault)) room
-    shape c.in-Err.ensures.reads in
+    let reads = base_reads space.state space.keeps space.lands first last (bad_of {A = Standing} (Err c.in-Err.fault))
+    room shape c.in-Err.ensures.reads in
     let same = rw holds.base_now at reads in
     rw refusal (search rules)
