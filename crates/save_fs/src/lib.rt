@@ -15,4 +15,6 @@ pub use save_mount::MountFault;
 pub use tree_model::{FsFault, Listing, Refusal, Room};
 
 #[cfg(test)]
+mod failing_tests;
+#[cfg(test)]
 mod tests;
