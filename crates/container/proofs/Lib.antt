@@ -9,6 +9,7 @@ pub mod LiftLemmas
 pub mod OriginLemmas
 pub mod OriginStartLemmas
 pub mod FirstLemmas
+pub mod SpareLemmas
 pub mod SecondLemmas
 pub mod CallLemmas
 pub mod AcrossLemmas

@@ -1,15 +1,22 @@
 //! What the definitions of an opening mean, for all images: the function's contract is the law, and its
 //! body is empty.
 
-ghost use Rattle.std.specs.Prelude.{◌≡◌, ◌↔◌, ℕ, List, Bool, None};
+ghost use Rattle.std.specs.Prelude.{◌≡◌, ◌↔◌, ℕ, List, Bool, IsTrue, Option, None};
+ghost use Rattle.save_bytes.specs.declared.space.Bad.{Bad};
+ghost use Rattle.save_bytes.specs.Cells.{Cell};
+ghost use Rattle.save_bytes.specs.Spots.{MovesOnly};
 ghost use Rattle.save_disk.specs.State.{State as DiskState};
 ghost use Rattle.container.specs.Signers.{Signing};
 ghost use Rattle.container.specs.Openings.{fault_of};
 ghost use Rattle.container.specs.Opens.{Opens};
 ghost use Rattle.container.specs.declared.open.Container.{Container};
 ghost use Rattle.container.specs.Containers.{IsOpenOf, IsWholeContainer};
-ghost use Rattle.container.specs.StoreHeld.{IsKept, SameContainer};
+ghost use Rattle.container.specs.declared.store.Store.{Store};
+ghost use Rattle.container.specs.StoreHeld.{IsKept, SameContainer, StoreKeeps, shown, store_lands};
+ghost use Rattle.container.specs.Origins.{AreSpared};
 ghost use Rattle.container.specs.Aborts.{WasOpenOf, AreAtOrigin};
+
+use save_disk::Disk;
 
 /// An image opens under a signer exactly where no fault of it is found, whichever condition is tried first.
 pub fn opens_exactly_where_no_fault_is_found()
@@ -39,4 +46,13 @@ pub fn what_was_written_stays_whole()
 pub fn an_opened_container_is_at_its_origin()
     ensures { (sign : Signing) (image : List ℕ) (container : Container) → IsOpenOf sign image container
         → (disk : DiskState) → AreAtOrigin disk container }
+{}
+
+/// A put, also one that is refused, spares the bytes of level 3 that a part's selector chooses, whatever part it is in.
+pub fn what_is_put_spares_the_chosen_copies<D: Disk>()
+    ensures { (old new : Store D) (at n : ℕ) (refusal : Option Bad) → let was = shown D.state old in
+        IsTrue was.shape.sound → MovesOnly (StoreKeeps D.state) (store_lands D.state) was old at n new refusal
+        → IsTrue was.told → (contents : ℕ → ℕ → Cell)
+        → AreSpared contents (D.state old.disk.now) old.container.now
+        → AreSpared contents (D.state new.disk.now) new.container.now }
 {}
