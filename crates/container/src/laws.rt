@@ -10,11 +10,12 @@ ghost use Rattle.container.specs.Signers.{Signing};
 ghost use Rattle.container.specs.Openings.{fault_of};
 ghost use Rattle.container.specs.Opens.{Opens};
 ghost use Rattle.container.specs.declared.open.Container.{Container};
+ghost use Rattle.container.specs.Parts.{HaveNoExternal};
 ghost use Rattle.container.specs.Containers.{IsOpenOf, IsWholeContainer};
 ghost use Rattle.container.specs.declared.store.Store.{Store};
 ghost use Rattle.container.specs.StoreHeld.{IsKept, SameContainer, StoreKeeps, shown, store_lands};
-ghost use Rattle.container.specs.Origins.{AreSpared};
-ghost use Rattle.container.specs.Aborts.{WasOpenOf, AreAtOrigin};
+ghost use Rattle.container.specs.Origins.{HaveCome, AreSpared};
+ghost use Rattle.container.specs.Aborts.{WasOpenOf, HaveOrigins, AreAtOrigin, contents_now};
 
 use save_disk::Disk;
 
@@ -55,4 +56,14 @@ pub fn what_is_put_spares_the_chosen_copies<D: Disk>()
         → IsTrue was.told → (contents : ℕ → ℕ → Cell)
         → AreSpared contents (D.state old.disk.now) old.container.now
         → AreSpared contents (D.state new.disk.now) new.container.now }
+{}
+
+/// Spared copies are what the parts' trees came from, where no part has external level four: so what is remembered
+/// stays true where puts and clears are dropped.
+pub fn spared_copies_are_the_origin()
+    ensures begins { (sign : Signing) (image : List ℕ) (container : Container) → IsOpenOf sign image container
+        → (disk : DiskState) → AreSpared (contents_now disk container) disk container }
+    ensures origins { (was : ℕ → ℕ → Cell) (disk : DiskState) (container : Container) → HaveNoExternal container.parts
+        → HaveCome was container.table.items disk container → AreSpared was disk container
+        → HaveOrigins was disk container }
 {}
