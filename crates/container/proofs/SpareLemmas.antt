@@ -65,8 +65,11 @@ module _ (base : State) (small : base.shape.size < 2 ^ 64) (table : List ℕ) wh
       let upper : SameUpper part.at part.difi selector bytes new =
       record { level1 = λ y h. same _ (inl (y, h, refl)); level2 = λ y h. same _ (inr (inl (y, h, refl))) } in
       let is = place_in_block base.shape part.at part.difi selector tree bytes (λ block. false) x _ below refl in
-      rw (chosen_at new part.at part.difi selector x below, chosen_at bytes part.at part.difi selector x below,
-      place_by-upper base.shape part.at part.difi selector tree bytes new upper (λ block. false) x)
+      rw (
+        chosen_at new part.at part.difi selector x below,
+        chosen_at bytes part.at part.difi selector x below,
+        place_by-upper base.shape part.at part.difi selector tree bytes new upper (λ block. false) x,
+      )
       (same _ (inr (inr (x, below, is))))
 
   module _ (grain : ℕ) where
@@ -179,7 +182,8 @@ module _ (disk disk_new : disks.State) (c d : Container) (same : SameContainer c
   second_spared leaves was (Some part) (Some next) is kept h =
       part_spared leaves was part next kept
       (second_view base c.parts.first c.table.items c.parts.second part is sound)
-      (λ x place. rw is (misses_second base small c.table.items c.image.grain c.parts.first part (rw is at sound) x place))
+      (λ x place.
+      rw is (misses_second base small c.table.items c.image.grain c.parts.first part (rw is at sound) x place))
       h
   second_spared leaves was None (Some next) is kept h = absurd kept
   second_spared leaves was (Some part) None is kept h = absurd kept

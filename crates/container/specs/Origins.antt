@@ -30,7 +30,8 @@ KeepsStoreOrigins disk container disk_new container_new refusal =
 -- the bytes of level 3 that a part's selector chooses are those of contents as they were
 abbrev pub IsPartSpared : (ℕ → Cell) → disks.State → Container → Part → Type 0
 IsPartSpared was disk container part =
-    (x : ℕ) → x < part.difi.dpfs3.size → chosen_cells (image_state disk container.image) part part.dpfs.selector x ≡ was x
+    (x : ℕ) → x < part.difi.dpfs3.size
+    → chosen_cells (image_state disk container.image) part part.dpfs.selector x ≡ was x
 
 -- so it is of each part, by its number
 pub record AreSpared (was : ℕ → ℕ → Cell) (disk : disks.State) (container : Container) : Type 0 where

@@ -1,5 +1,6 @@
 -- The parts of an image by the descriptors in its table.
-use Rattle.std.specs.Prelude.{◌≡◌, ℕ, ◌<◌, ◌≤◌, false, List, length, Option, Some, None, IfSome, Ok, ◌==◌, if◌then◌else◌}
+use Rattle.std.specs.Prelude.{◌≡◌, ℕ, ◌<◌, ◌≤◌, false, List, length, Option, Some, None, IfSome}
+use Rattle.std.specs.Prelude.{Ok, ◌==◌, if◌then◌else◌}
 use Rattle.std.specs.Option.{option_map}
 use Rattle.container_header.specs.declared.header.Header.{Header}
 use Rattle.container_header.specs.Sound.{IsSoundHeader, IsDescriptorPlace}

@@ -49,7 +49,8 @@ pub fn an_opened_container_is_at_its_origin()
         → (disk : DiskState) → AreAtOrigin disk container }
 {}
 
-/// A put, also one that is refused, spares the bytes of level 3 that a part's selector chooses, whatever part it is in.
+/// A put, also one that is refused, spares the bytes of level 3 that a part's selector chooses, whatever part it is
+/// in.
 pub fn what_is_put_spares_the_chosen_copies<D: Disk>()
     ensures { (old new : Store D) (at n : ℕ) (refusal : Option Bad) → let was = shown D.state old in
         IsTrue was.shape.sound → MovesOnly (StoreKeeps D.state) (store_lands D.state) was old at n new refusal
