@@ -42,7 +42,7 @@ unfolding chosen pick3 place_by
 chosen_at bytes part_at difi selector x below = rw (lt-ltb x difi.dpfs3.size below) refl
 
 -- the chosen places of a part
-abbrev IsChosen : (ℕ → ℕ) → Part → ℕ → Type 0
+abbrev pub IsChosen : (ℕ → ℕ) → Part → ℕ → Type 0
 IsChosen bytes part = IsChosenPlace bytes part.at part.difi part.dpfs.selector
 
 module _ (base : State) (small : base.shape.size < 2 ^ 64) (table : List ℕ) where
@@ -56,7 +56,7 @@ module _ (base : State) (small : base.shape.size < 2 ^ 64) (table : List ℕ) wh
   tree_of part view = contents_there base part (length table) small view
 
   -- where bytes at chosen places are as before, the same ones are chosen
-  chosen_spared : (part : Part) → CanView part → (new : ℕ → ℕ)
+  pub chosen_spared : (part : Part) → CanView part → (new : ℕ → ℕ)
       → ((place : ℕ) → IsChosen bytes part place → new place ≡ bytes place) → (x : ℕ) → x < part.difi.dpfs3.size
       → chosen new part.at part.difi part.dpfs.selector x ≡ chosen bytes part.at part.difi part.dpfs.selector x
   chosen_spared part view new same x below =

@@ -13,9 +13,10 @@ ghost use Rattle.container.specs.declared.open.Container.{Container};
 ghost use Rattle.container.specs.Parts.{HaveNoExternal};
 ghost use Rattle.container.specs.Containers.{IsOpenOf, IsWholeContainer};
 ghost use Rattle.container.specs.declared.store.Store.{Store};
-ghost use Rattle.container.specs.StoreHeld.{IsKept, SameContainer, StoreKeeps, shown, store_lands};
+ghost use Rattle.container.specs.StoreHeld.{IsKept, SameContainer, StoreKeeps, shown, store_lands, store_of};
+ghost use Rattle.container.specs.ImageCells.{IsHeld};
 ghost use Rattle.container.specs.Origins.{HaveCome, AreSpared};
-ghost use Rattle.container.specs.Aborts.{WasOpenOf, HaveOrigins, AreAtOrigin, contents_now};
+ghost use Rattle.container.specs.Aborts.{WasOpenOf, HaveOrigins, AreAtOrigin, AreHeld, contents_now, contents_held};
 
 use save_disk::Disk;
 
@@ -67,4 +68,15 @@ pub fn spared_copies_are_the_origin()
     ensures origins { (was : ℕ → ℕ → Cell) (disk : DiskState) (container : Container) → HaveNoExternal container.parts
         → HaveCome was container.table.items disk container → AreSpared was disk container
         → HaveOrigins was disk container }
+{}
+
+/// Spared copies are those of the image, where no part has external level four: so behind puts and clears that are
+/// dropped the cells are those of the image as it was opened.
+pub fn spared_copies_are_held()
+    ensures begins { (sign : Signing) (image : List ℕ) (container : Container) → IsOpenOf sign image container
+        → (disk : DiskState) → IsTrue (store_of disk container).shape.sound → IsHeld image disk container.image
+        → AreSpared (contents_held image container) disk container }
+    ensures held { (sign : Signing) (image : List ℕ) (was container : Container) → IsOpenOf sign image was
+        → SameContainer was container → HaveNoExternal container.parts → (disk : DiskState)
+        → AreSpared (contents_held image was) disk container → AreHeld image disk container }
 {}
