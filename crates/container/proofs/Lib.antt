@@ -8,7 +8,9 @@ pub mod OverLemmas
 pub mod LiftLemmas
 pub mod OriginLemmas
 pub mod OriginStartLemmas
+pub mod KeptHeldLemmas
 pub mod FirstLemmas
+pub mod SpareLemmas
 pub mod SecondLemmas
 pub mod CallLemmas
 pub mod AcrossLemmas

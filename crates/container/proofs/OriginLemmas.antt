@@ -1,11 +1,11 @@
 -- Where the trees of an open image's parts came from, over calls.
-use Rattle.std.proofs.Common.{◌≡◌, ℕ, ◌+◌, ◌<◌, ◌^◌, IsTrue, List, length, Option, Some, None, IfSome, refl, sym, ap, subst, arith}
+use Rattle.std.proofs.Common.{◌≡◌, ℕ, ◌<◌, ◌^◌, IsTrue, List, length, Option, Some, None, IfSome, refl, sym, ap, subst, arith}
 use Rattle.save_bytes.specs.declared.space.Bad.{Bad}
 use Rattle.save_bytes.specs.Cells.{Cell, Byte}
 use Rattle.save_bytes.specs.State.{State, CanPut}
 use Rattle.save_bytes.specs.Spots.{Place}
 use Rattle.save_bytes.specs.Reads.{Reads}
-use Rattle.save_bytes.proofs.SpaceLemmas.{UnlessDisk-map, UnlessDisk-always}
+use Rattle.save_bytes.proofs.SpaceLemmas.{UnlessDisk-always}
 use Rattle.save_disk.specs.State as disks
 use Rattle.difi.specs.declared.descriptor.Difi.{Difi}
 use Rattle.ivfc_tree.proofs.CameLemmas.{came_same}
@@ -22,7 +22,7 @@ use Rattle.container.specs.Stores.{state_of}
 use Rattle.container.specs.StoreHeld.{store_of}
 use Rattle.container.specs.StoreLaws.{first_view, second_view}
 use Rattle.container.specs.Overs.{Opened, opened_state, OpenedKeeps, opened_lands}
-use Rattle.container.specs.Origins.{HasCome, HaveCome, KeepsStoreOrigins}
+use Rattle.container.specs.Origins.{HasCome, KeepsStoreOrigins}
 use Rattle.container.proofs.TakenLemmas.{IsLeft, contents_left, taken_fits, tree_there}
 
 -- a store is put to wherever it is told

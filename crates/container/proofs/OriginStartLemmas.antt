@@ -1,6 +1,6 @@
 -- Parts of which nothing was changed came from what they hold.
-use Rattle.std.proofs.Common.{ℕ, List, Option, Some, None, IfSome, sym, ap}
-use Rattle.save_bytes.specs.Cells.{Byte}
+use Rattle.std.proofs.Common.{◌≡◌, ℕ, ◌+◌, ◌<◌, false, List, Option, Some, None, IfSome, sym, ap, arith}
+use Rattle.save_bytes.specs.Cells.{Cell, Byte}
 use Rattle.save_bytes.specs.State.{State}
 use Rattle.save_disk.specs.State as disks
 use Rattle.container_header.specs.declared.header.Header.{Header}
@@ -11,10 +11,11 @@ use Rattle.ivfc_tree.proofs.OriginLemmas.{CameFrom-none}
 use Rattle.page_image.specs.Images.{image_state}
 use Rattle.part_store.specs.declared.part.Part.{Part}
 use Rattle.part_store.specs.Parts.{contents_of, master_of}
+use Rattle.part_store.specs.Ends.{chosen_cells}
 use Rattle.container.specs.declared.open.Container.{Container}
-use Rattle.container.specs.Parts.{IsUntouched, IsPartRead}
-use Rattle.container.specs.Origins.{HasCome}
-use Rattle.container.specs.Aborts.{IsPartBack, read_of, AreAtOrigin}
+use Rattle.container.specs.Parts.{IsUntouched, IsPartRead, HaveNoExternal}
+use Rattle.container.specs.Origins.{HasCome, HaveCome, IsPartSpared, AreSpared}
+use Rattle.container.specs.Aborts.{IsPartBack, HaveOrigins, read_of, contents_now, AreAtOrigin}
 
 module _ (disk : disks.State) (c : Container) where
   abbrev base : State
@@ -26,9 +27,13 @@ module _ (disk : disks.State) (c : Container) where
       untouched.hashes
 
   -- what is read is what the selector chooses
-  back_itself : (part : Part) → IsUntouched part → IsPartBack disk c (read_of base (Some part)) part
-  back_itself part untouched x inside free =
+  chosen_itself : (part : Part) → IsUntouched part → (x : ℕ)
+      → chosen_cells base part part.dpfs.selector x ≡ read_of base (Some part) x
+  chosen_itself part untouched x =
       ap Byte (sym (place_of-chosen (bytes_of base.cells) part.at part.difi part.dpfs x untouched.contents.unmarked))
+
+  back_itself : (part : Part) → IsUntouched part → IsPartBack disk c (read_of base (Some part)) part
+  back_itself part untouched x inside free = chosen_itself part untouched x
 
   second_came : (second : Option Part) → IfSome second IsUntouched
       → IfSome second (HasCome (read_of base second) c.table.items disk c)
@@ -39,6 +44,38 @@ module _ (disk : disks.State) (c : Container) where
       → IfSome second (IsPartBack disk c (read_of base second))
   second_back None untouched = tt
   second_back (Some part) untouched = back_itself part untouched
+
+  second_chosen : (second : Option Part) → IfSome second IsUntouched
+      → IfSome second (IsPartSpared (read_of base second) disk c)
+  second_chosen None untouched = tt
+  second_chosen (Some part) untouched = λ x below. chosen_itself part untouched x
+
+  pub untouched_spared : IsUntouched c.parts.first → IfSome c.parts.second IsUntouched
+      → AreSpared (contents_now disk c) disk c
+  untouched_spared first second = record {
+    first = λ x below. chosen_itself c.parts.first first x;
+    second = second_chosen c.parts.second second;
+  }
+
+  -- without external level four all contents lie in level 3
+  spared_back : (was : ℕ → Cell) (part : Part) → part.difi.external ≡ false → IsPartSpared was disk c part
+      → IsPartBack disk c was part
+  spared_back was part none spared x inside free =
+      let there : x < part.difi.dpfs3.size + 0 = rw none at inside in
+      spared x (omega (arith, there))
+
+  second_spared : (was : ℕ → Cell) (second : Option Part) → IfSome second (λ part. part.difi.external ≡ false)
+      → IfSome second (IsPartSpared was disk c) → IfSome second (IsPartBack disk c was)
+  second_spared was None none spared = tt
+  second_spared was (Some part) none spared = spared_back was part none spared
+
+  pub spared_origin : (was : ℕ → ℕ → Cell) → HaveNoExternal c.parts → HaveCome was c.table.items disk c
+      → AreSpared was disk c → HaveOrigins was disk c
+  spared_origin was none came spared = record {
+    came = came;
+    first = spared_back (was 0) c.parts.first none.first spared.first;
+    second = second_spared (was 1) c.parts.second none.second spared.second;
+  }
 
   pub untouched_origin : IsUntouched c.parts.first → IfSome c.parts.second IsUntouched → AreAtOrigin disk c
   untouched_origin first second = record {

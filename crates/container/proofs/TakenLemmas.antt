@@ -17,6 +17,7 @@ use Rattle.difi.specs.Contents.{view_size}
 use Rattle.difi.specs.Sound.{HasSoundLevels}
 use Rattle.dpfs_tree.specs.Picks.{bytes_of, bit_of, pick1, pick2}
 use Rattle.dpfs_tree.specs.Marks.{is_marked, copy_read, place_by}
+use Rattle.dpfs_tree.specs.Spares.{IsChosenPlace}
 use Rattle.dpfs_tree.specs.View.{HasContents}
 use Rattle.dpfs_tree.specs.Held.{IsBeside, ContentsLand}
 use Rattle.dpfs_tree.specs.SameLaws.{SameUpper, bit_of-lt, copy_read-lt, in_copy, behind_level3, place_by-upper, lands_by-upper}
@@ -92,6 +93,23 @@ module _ (base : Shape) (part : Part) (selector : ℕ) (tree : HasContents base 
       let end = external_there difi external.0 in
       rw (le-ltb x difi.dpfs3.size behind) (omega arith, omega (arith, inside, behind, external.1, end)))
       (cases_lt x difi.dpfs3.size)
+
+  -- and each byte of a copy that is chosen
+  pub chosen_within : (bytes : ℕ → ℕ) (y : ℕ) → IsChosenPlace bytes part.at part.difi selector y
+      → IsWithin part.at (taken_of part).size y
+  chosen_within bytes y =
+      let difi = part.difi in
+      let first = bit_of (pick1 bytes part.at difi selector) in
+      let second = bit_of (pick2 bytes part.at difi selector) in
+      ⊎_elim
+      (λ (x, h, is). rw is (in_level difi.dpfs1.at difi.dpfs1.size selector x (omega arith) tree.one_of_two h))
+      (⊎_elim
+      (λ (x, h, is).
+      (let bit = first (x / 2 ^ difi.dpfs2.log) in
+      rw is (in_level difi.dpfs2.at difi.dpfs2.size bit x (omega arith) (bit_of-lt _ _) h)))
+      (λ (x, h, is).
+      (let bit = second (x / 2 ^ difi.dpfs3.log) in
+      rw is (in_level difi.dpfs3.at difi.dpfs3.size bit x (omega arith) (bit_of-lt _ _) h))))
 
   -- so do the chosen bytes of levels 1 and 2
   pub upper_kept : (old new : ℕ → ℕ) → ((y : ℕ) → IsWithin part.at (taken_of part).size y → new y ≡ old y)

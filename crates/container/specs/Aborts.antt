@@ -64,6 +64,14 @@ read_of base (Some part) x = (contents_of base part).cells x
 abbrev pub contents_now : disks.State → Container → ℕ → ℕ → Cell
 contents_now disk container number = read_of (image_state disk container.image) (part_at container.parts number)
 
+-- the contents that each part's selector chooses in an image, by its number
+abbrev pub chosen_in : List ℕ → Option Part → ℕ → Cell
+chosen_in image None x = Byte 0
+chosen_in image (Some part) x = Byte (chosen (λ y. slice_index image y) part.at part.difi part.difi.selector x)
+
+abbrev pub contents_held : List ℕ → Container → ℕ → ℕ → Cell
+contents_held image container number = chosen_in image (part_at container.parts number)
+
 -- each part's tree came from the contents as they are now: a transaction begins
 abbrev pub AreAtOrigin : disks.State → Container → Type 0
 AreAtOrigin disk container = HaveOrigins (contents_now disk container) disk container

@@ -1,5 +1,5 @@
 -- Where the trees of an open image's parts came from.
-use Rattle.std.specs.Prelude.{ℕ, IsTrue, List, Option, IfSome}
+use Rattle.std.specs.Prelude.{◌≡◌, ℕ, ◌<◌, IsTrue, List, Option, IfSome}
 use Rattle.save_bytes.specs.declared.space.Bad.{Bad}
 use Rattle.save_bytes.specs.Cells.{Cell}
 use Rattle.save_bytes.specs.Refusals.{UnlessDisk}
@@ -7,7 +7,7 @@ use Rattle.save_disk.specs.State as disks
 use Rattle.page_image.specs.Images.{image_state}
 use Rattle.part_store.specs.declared.part.Part.{Part}
 use Rattle.part_store.specs.Parts.{master_of}
-use Rattle.part_store.specs.Ends.{PartCameFrom}
+use Rattle.part_store.specs.Ends.{PartCameFrom, chosen_cells}
 use Rattle.container.specs.declared.open.Container.{Container}
 use Rattle.container.specs.StoreHeld.{store_of}
 
@@ -26,3 +26,14 @@ abbrev pub KeepsStoreOrigins : disks.State → Container → disks.State → Con
 KeepsStoreOrigins disk container disk_new container_new refusal =
     IsTrue (store_of disk container).told → (was : ℕ → ℕ → Cell) (was_table : List ℕ)
     → HaveCome was was_table disk container → UnlessDisk refusal (HaveCome was was_table disk_new container_new)
+
+-- the bytes of level 3 that a part's selector chooses are those of contents as they were
+abbrev pub IsPartSpared : (ℕ → Cell) → disks.State → Container → Part → Type 0
+IsPartSpared was disk container part =
+    (x : ℕ) → x < part.difi.dpfs3.size
+    → chosen_cells (image_state disk container.image) part part.dpfs.selector x ≡ was x
+
+-- so it is of each part, by its number
+pub record AreSpared (was : ℕ → ℕ → Cell) (disk : disks.State) (container : Container) : Type 0 where
+  pub first : IsPartSpared (was 0) disk container container.parts.first
+  pub second : IfSome container.parts.second (IsPartSpared (was 1) disk container)

@@ -1,5 +1,6 @@
 -- The parts of an image by the descriptors in its table.
-use Rattle.std.specs.Prelude.{◌≡◌, ℕ, ◌<◌, ◌≤◌, List, length, Option, Some, None, IfSome, Ok, ◌==◌, if◌then◌else◌}
+use Rattle.std.specs.Prelude.{◌≡◌, ℕ, ◌<◌, ◌≤◌, false, List, length, Option, Some, None, IfSome}
+use Rattle.std.specs.Prelude.{Ok, ◌==◌, if◌then◌else◌}
 use Rattle.std.specs.Option.{option_map}
 use Rattle.container_header.specs.declared.header.Header.{Header}
 use Rattle.container_header.specs.Sound.{IsSoundHeader, IsDescriptorPlace}
@@ -64,6 +65,11 @@ pub record IsWhole (header : Header) (image_len : ℕ) (table : List ℕ) (parts
   pub count : part_count parts.second ≡ header.parts
   pub first : IsPartOf header 0 parts.first
   pub second : IfSome parts.second (IsPartOf header 1)
+
+-- no part has its level four behind its double-copy tree
+pub record HaveNoExternal (parts : Parts) : Type 0 where
+  pub first : parts.first.difi.external ≡ false
+  pub second : IfSome parts.second (λ part. part.difi.external ≡ false)
 
 -- a second part stays one, or none
 abbrev pub SameSecond : (Part → Part → Type 0) → Option Part → Option Part → Type 0

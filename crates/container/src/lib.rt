@@ -18,8 +18,9 @@ mod writing;
 
 pub use fault::OpenFault;
 pub use laws::{
-    an_opened_container_is_at_its_origin, opens_exactly_where_no_fault_is_found, what_was_only_read_stays_open,
-    what_was_written_stays_whole,
+    an_opened_container_is_at_its_origin, opens_exactly_where_no_fault_is_found,
+    spared_copies_are_held, spared_copies_are_the_origin, what_is_put_spares_the_chosen_copies,
+    what_was_only_read_stays_open, what_was_written_stays_whole,
 };
 pub use open::Container;
 pub use store::Store;
