@@ -1,1 +1,2 @@
 pub mod SayingLemmas
+pub mod StoreLemmas
