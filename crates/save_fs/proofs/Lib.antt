@@ -5,3 +5,4 @@ pub mod LaterLemmas
 pub mod GetLemmas
 pub mod ReadLemmas
 pub mod TreeLaterLemmas
+pub mod NamedLemmas

@@ -72,3 +72,21 @@ abbrev pub DoneOrDisk : {A : Type 0} → Result A FsFault → (A → Type 0) →
 DoneOrDisk (Ok given) P = P given
 DoneOrDisk (Err Disk) P = ⊤
 DoneOrDisk (Err (Refused refusal)) P = ⊥
+
+-- the refusals that a store gives: a damaged cell, or, where it is no more as it was mounted, that it has changed
+abbrev pub IsStoreFault : FsFault → Type 0
+IsStoreFault Disk = ⊤
+IsStoreFault (Refused (Damaged part level block)) = ⊤
+IsStoreFault (Refused Changed) = ⊤
+IsStoreFault (Refused refusal) = ⊥
+
+-- of a listing also want of memory, and of a file that none stands at the path
+abbrev pub IsRowsFault : FsFault → Type 0
+IsRowsFault (Refused NoMemory) = ⊤
+IsRowsFault fault = IsStoreFault fault
+
+abbrev pub IsGetFault : FsFault → Type 0
+IsGetFault (Refused IsRoot) = ⊤
+IsGetFault (Refused WrongKind) = ⊤
+IsGetFault (Refused NotFound) = ⊤
+IsGetFault fault = IsStoreFault fault

@@ -1,9 +1,9 @@
 //! The bytes of a file.
 
-ghost use Rattle.std.specs.Prelude.{◌≡◌, ℕ, List, IsTrue, IfOk};
+ghost use Rattle.std.specs.Prelude.{◌≡◌, ℕ, List, IsTrue, IfOk, IfErr, drop};
 ghost use Rattle.save_bytes.specs.Reads.{Reads};
 ghost use Rattle.tree_model.specs.Trees.{Tree};
-ghost use Rattle.save_fs.specs.Faults.{disk_in};
+ghost use Rattle.save_fs.specs.Faults.{disk_in, IsStoreFault, IsGetFault};
 ghost use Rattle.save_fs.specs.Mounted.{StandsOn, IsMountedOn, tables_on};
 ghost use Rattle.save_fs.specs.Gets.{IsFileFound, AreFieldsFound, IsGetBegun, IsGettingAt, IsPieceGot};
 
@@ -37,6 +37,7 @@ impl SaveFs {
         ensures found { let s = S.state store.old in IsTrue s.told → (tree : Tree)
             → (h : IsMountedOn s.shape.size self.now s.cells tree)
             → IsFileFound (tables_on s.shape.size self.now s.cells h.reads.lists) tree path.now result }
+        ensures named { IfErr result IsGetFault }
         ensures reads { Reads S.state S.keeps S.lands store.old store.new (disk_in result) }
     {
         let standing = match self.standing(store, path) {
@@ -59,6 +60,7 @@ impl SaveFs {
         ensures found { let s = S.state store.old in IsTrue s.told → (tree : Tree)
             → IsMountedOn s.shape.size self.now s.cells tree
             → AreFieldsFound s.cells self.now.mounted.places.chain tree path.now result }
+        ensures named { IfErr result IsGetFault }
         ensures reads { Reads S.state S.keeps S.lands store.old store.new (disk_in result) }
     {
         let file = match self.file_at(store, path) {
@@ -84,6 +86,7 @@ impl SaveFs {
         ensures begun { let s = S.state store.old in IsTrue s.told → (tree : Tree)
             → IsMountedOn s.shape.size self.now s.cells tree → IsGetBegun s.cells tree path.now result }
         ensures chain { IfOk result (λ getting. getting.reading.info ≡ self.now.mounted.places.chain) }
+        ensures named { IfErr result IsGetFault }
         ensures reads { Reads S.state S.keeps S.lands store.old store.new (disk_in result) }
     {
         let fields = match self.file_fields(store, path) {
@@ -118,6 +121,8 @@ impl SaveFs {
         ensures piece { let s = S.state store.old in IsTrue s.told → (bytes : List ℕ) (x : ℕ)
             → IsGettingAt s.cells bytes x getting.old → IsPieceGot s.cells bytes x getting.new out.new result }
         ensures chain { getting.new.reading.info ≡ self.now.mounted.places.chain }
+        ensures rest { IfOk result (λ n. drop n out.new ≡ drop n out.old) }
+        ensures named { IfErr result IsStoreFault }
         ensures reads { Reads S.state S.keeps S.lands store.old store.new (disk_in result) }
     {
         match read_piece(store, &mut getting.reading, out) {

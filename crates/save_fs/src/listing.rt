@@ -1,9 +1,9 @@
 //! The rows of a mounted filesystem.
 
-ghost use Rattle.std.specs.Prelude.{◌≡◌, IsTrue};
+ghost use Rattle.std.specs.Prelude.{◌≡◌, IsTrue, IfErr};
 ghost use Rattle.save_bytes.specs.Reads.{Reads};
 ghost use Rattle.tree_model.specs.Trees.{Tree};
-ghost use Rattle.save_fs.specs.Faults.{disk_in, IsRowsReply};
+ghost use Rattle.save_fs.specs.Faults.{disk_in, IsRowsReply, IsRowsFault};
 ghost use Rattle.save_fs.specs.Mounted.{StandsOn, IsMountedOn};
 
 use crate::fault::refused_rows;
@@ -25,6 +25,7 @@ impl SaveFs {
         requires { StandsOn (S.state store.old).shape self.now }
         ensures rows { let s = S.state store.old in IsTrue s.told → (tree : Tree)
             → IsMountedOn s.shape.size self.now s.cells tree → IsRowsReply tree result }
+        ensures named { IfErr result IsRowsFault }
         ensures reads { Reads S.state S.keeps S.lands store.old store.new (disk_in result) }
     {
         let mounted = &self.mounted;

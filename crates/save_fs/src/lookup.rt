@@ -1,6 +1,6 @@
 //! What stands at a path of a mounted filesystem, and what a file's entry says.
 
-ghost use Rattle.std.specs.Prelude.{◌≡◌, ℕ, List, IsTrue};
+ghost use Rattle.std.specs.Prelude.{◌≡◌, ℕ, List, IsTrue, IfErr};
 ghost use Rattle.save_bytes.specs.Reads.{Reads};
 ghost use Rattle.entry_tables.specs.declared.table.EntryKind.TheVariants.{File};
 ghost use Rattle.entry_tables.specs.Used.{used_entries};
@@ -8,7 +8,7 @@ ghost use Rattle.tree_model.specs.declared.kind.TreeKind.TheVariants.{Save};
 ghost use Rattle.tree_rules.specs.Lists.{Holder};
 ghost use Rattle.save_mount.specs.Mounted.{IsMountOf};
 ghost use Rattle.tree_paths.specs.Standings.{IsStanding};
-ghost use Rattle.save_fs.specs.Faults.{disk_in, DoneOrDisk};
+ghost use Rattle.save_fs.specs.Faults.{disk_in, DoneOrDisk, IsStoreFault};
 ghost use Rattle.save_fs.specs.Mounted.{StandsOn, tables_on};
 
 use crate::fault::refused_entry;
@@ -26,6 +26,7 @@ impl SaveFs {
         ensures standing { let s = S.state store.old in IsTrue s.told → (lists : Holder → List ℕ)
             → IsMountOf Save s.shape.size self.now.split s.cells self.now.mounted lists
             → DoneOrDisk result (IsStanding (tables_on s.shape.size self.now s.cells lists) path.now) }
+        ensures named { IfErr result IsStoreFault }
         ensures reads { Reads S.state S.keeps S.lands store.old store.new (disk_in result) }
     {
         let mounted = &self.mounted;
@@ -44,6 +45,7 @@ impl SaveFs {
             → IsMountOf Save s.shape.size self.now.split s.cells self.now.mounted lists
             → let t = tables_on s.shape.size self.now s.cells lists in used_entries (t.table File) entry
             → DoneOrDisk result (λ fields. (fields.start ≡ t.start entry) × (fields.wide ≡ t.wide entry)) }
+        ensures named { IfErr result IsStoreFault }
         ensures reads { Reads S.state S.keeps S.lands store.old store.new (disk_in result) }
     {
         let mounted = &self.mounted;

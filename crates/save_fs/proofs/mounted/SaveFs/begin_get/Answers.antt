@@ -1,3 +1,5 @@
+use Rattle.save_fs.specs.Faults.{chain_fault}
+use Rattle.save_fs.proofs.NamedLemmas.{get_named, chain_named}
 use Rattle.std.proofs.Common.{◌≡◌, ap, sym, subst, ◌∙◌, Some}
 use Rattle.save_bytes.specs.State.{Shape}
 use Rattle.save_bytes.proofs.CallLemmas.{reads_then}
@@ -66,3 +68,8 @@ returns-in-Err-begin_reading-clause-reads g c =
     let refusal : bad_in c.refused_chain.result ≡ refusal_of (Some c.in-Err-begin_reading.fault) =
     ap bad_in c.refused_chain.ensures ∙ chain_bad c.in-Err-begin_reading.fault in
     rw refusal (reads_then g.met.S.Space.keeps_join c.in-Ok.ensures.reads c.in-Err-begin_reading.ensures.reads)
+
+pub returns-in-Err-begin_reading-clause-named : goal.returns-in-Err-begin_reading-clause-named
+returns-in-Err-begin_reading-clause-named g c =
+    rw c.refused_chain.ensures (get_named (chain_fault c.in-Err-begin_reading.fault)
+    (chain_named c.in-Err-begin_reading.fault))

@@ -1,3 +1,4 @@
+use Rattle.save_fs.proofs.NamedLemmas.{entry_named}
 use Rattle.std.proofs.Common.{ap, ◌∙◌, rules, None, Err, ◌≡◌}
 use Rattle.entry_tables.specs.declared.table.EntryKind.TheVariants.{File}
 use Rattle.chain_space.specs.Laid.{extra_of}
@@ -82,3 +83,6 @@ returns-in-Err-clause-reads g c =
     (Err c.in-Err.fault)) room shape c.in-Err.ensures.reads in
     let same = rw holds.base_now at reads in
     rw refusal (search rules)
+
+pub returns-in-Err-clause-named : goal.returns-in-Err-clause-named
+returns-in-Err-clause-named g c = rw c.refused_entry.ensures (entry_named c.in-Err.fault)

@@ -1,3 +1,4 @@
+use Rattle.save_fs.proofs.NamedLemmas.{get_named}
 use Rattle.std.proofs.Common.{arith}
 use Rattle.save_fs.proofs.GetLemmas.{found_file, found_dir, found_nothing}
 use Rattle.save_fs.proofs.mounted.SaveFs.file_at.Goals as goal
@@ -23,3 +24,6 @@ returns-in-None-None-clause-found g c told tree h =
     found_nothing s.shape.size c.args.self.now s.cells tree h c.args.path.now c.in-Ok.standing
     (c.in-Ok.ensures.standing told h.reads.lists h.mount)
     (omega (arith, c.if-len-eq0.false, c.len.ensures.len)) c.in-None-None.is-0 c.in-None-None.is-1
+
+pub returns-in-Err-clause-named : goal.returns-in-Err-clause-named
+returns-in-Err-clause-named g c = get_named c.in-Err.fault c.in-Err.ensures.named

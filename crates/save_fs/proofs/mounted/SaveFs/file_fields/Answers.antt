@@ -1,3 +1,4 @@
+use Rattle.save_fs.proofs.NamedLemmas.{get_named}
 use Rattle.std.proofs.Common.{◌≡◌, sym, subst}
 use Rattle.entry_tables.specs.declared.table.EntryKind.TheVariants.{File}
 use Rattle.entry_tables.specs.declared.table.FileFields.{FileFields}
@@ -48,3 +49,6 @@ returns-in-Err-fields-clause-found g c told tree h =
 pub returns-in-Err-fields-clause-reads : goal.returns-in-Err-fields-clause-reads
 returns-in-Err-fields-clause-reads g c =
     reads_then g.met.S.Space.keeps_join c.in-Ok.ensures.reads c.in-Err-fields.ensures.reads
+
+pub returns-in-Err-fields-clause-named : goal.returns-in-Err-fields-clause-named
+returns-in-Err-fields-clause-named g c = get_named c.in-Err-fields.fault c.in-Err-fields.ensures.named

@@ -1,3 +1,4 @@
+use Rattle.save_fs.proofs.NamedLemmas.{chain_named}
 use Rattle.std.proofs.Common.{ℕ, min, length, take, ap, sym, ◌∙◌, arith}
 use Rattle.chain_nodes.specs.Table.{table_in}
 use Rattle.file_reader.specs.Reading.{IsPieceRead}
@@ -27,3 +28,6 @@ returns-in-Err-clause-piece g c told bytes x at =
     (take m c.read_piece.new.into) c.read_piece.new.reading) c.in-Err.fault n
     (record { reading = c.read_piece.new.reading; size = getting.size }) c.read_piece.new.into
     (omega (arith, at.stands.left)) (c.in-Err.ensures.piece told at.start (length bytes) at.list x at.stands))
+
+pub returns-in-Err-clause-named : goal.returns-in-Err-clause-named
+returns-in-Err-clause-named g c = rw c.refused_chain.ensures (chain_named c.in-Err.fault)

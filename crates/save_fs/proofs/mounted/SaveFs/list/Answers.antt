@@ -1,3 +1,4 @@
+use Rattle.save_fs.proofs.NamedLemmas.{rows_named}
 use Rattle.tree_rules.specs.Information.{information_in}
 use Rattle.tree_model.specs.declared.kind.TreeKind.TheVariants.{Save}
 use Rattle.tree_rules.specs.Places.{places_of, tree_tables}
@@ -20,3 +21,6 @@ returns-in-Ok-rows_of-clause-rows g c told tree h =
     (tree_tables s.shape.size p (table_chains h.reads.lists) s.cells)
     tree (tables_read s.shape.size c.args.self.now s.cells tree h c.in-Ok.found read) h.reads.consistent.orderly
     h.reads.read)
+
+pub returns-in-Err-clause-named : goal.returns-in-Err-clause-named
+returns-in-Err-clause-named g c = rw c.refused_rows.ensures (rows_named c.in-Err.fault)

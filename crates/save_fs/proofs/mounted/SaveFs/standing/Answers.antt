@@ -1,3 +1,4 @@
+use Rattle.save_fs.proofs.NamedLemmas.{entry_named}
 use Rattle.std.proofs.Common.{ap, subst, ◌∙◌, rules, None, Err, ◌≡◌}
 use Rattle.chain_space.specs.Laid.{extra_of}
 use Rattle.chain_space.proofs.LaidHeldLemmas.{base_reads}
@@ -88,3 +89,6 @@ returns-in-Err-clause-reads g c =
     room shape c.in-Err.ensures.reads in
     let same = rw holds.base_now at reads in
     rw refusal (search rules)
+
+pub returns-in-Err-clause-named : goal.returns-in-Err-clause-named
+returns-in-Err-clause-named g c = rw c.refused_entry.ensures (entry_named c.in-Err.fault)
