@@ -8,7 +8,8 @@ ghost use Rattle.chain_nodes.specs.declared.node.Lead.{Lead};
 ghost use Rattle.chain_nodes.specs.declared.node.Lead.TheVariants.{OpensFree};
 ghost use Rattle.chain_nodes.specs.Table.{table_in, word_u, HasWords, HasAllocationTable};
 ghost use Rattle.chain_nodes.specs.Chains.{IsLead, IsInner, start_of, AreNodes, lead_after};
-ghost use Rattle.chain_nodes.specs.Edits.{KeepsEntry, IsHeadWord, AreJoinable, AreBefore, AreBehind, AreFreeAround, AreCut, AreFreeNodes, AreTaken, AreApartFrom};
+ghost use Rattle.chain_nodes.specs.Edits.{KeepsEntry, IsHeadWord, AreJoinable, AreBefore, AreBehind};
+ghost use Rattle.chain_nodes.specs.Edits.{AreFreeAround, AreCut, AreFreeNodes, AreTaken, AreApartFrom};
 ghost use Rattle.chain_links.specs.Alters.{Alters, IsOfEntries, cut_entries};
 
 use crate::words::{set_u, set_v, set_words};

@@ -1,5 +1,6 @@
 -- Calls on a part over a view of the image, as calls on the container over its disk.
-use Rattle.std.proofs.Common.{Vec, ◌≡◌, ℕ, ◌+◌, ◌-◌, ◌*◌, ◌/◌, min, replicate, div-mul-le_self, None, Result, Ok, Err, ◌<◌, ◌≤◌, IsTrue, List, length, Option, Some, refl, sym, ◌∙◌, ap, subst, arith, ⊎_elim}
+use Rattle.std.proofs.Common.{Vec, ◌≡◌, ℕ, ◌+◌, ◌-◌, ◌*◌, ◌/◌, min, replicate, div-mul-le_self, None, Result, Ok, Err}
+use Rattle.std.proofs.Common.{◌<◌, ◌≤◌, IsTrue, List, length, Option, Some, refl, sym, ◌∙◌, ap, subst, arith, ⊎_elim}
 use Rattle.std.specs.Vec.{with_items}
 use Rattle.std.proofs.lemmas.List.{with_items_is, length-replicate}
 use Rattle.std.proofs.lemmas.Bool.{cases_lt, lt-ltb, le-ltb}
@@ -108,7 +109,8 @@ module _ {D : Type 0} (states : D → disks.State) (c d : Container) (view next 
       → P (states view.disk.now) view.image.now table → P (states s) c.image c.table.items
   in_base part P h =
       subst (λ (a : D). P (states a) c.image c.table.items) disk
-      (subst (λ (i : ImageState). P (states view.disk.now) i c.table.items) image (subst (λ (t : List ℕ). P (states view.disk.now) view.image.now t) table_is h))
+      (subst (λ (i : ImageState). P (states view.disk.now) i c.table.items) image
+      (subst (λ (t : List ℕ). P (states view.disk.now) view.image.now t) table_is h))
 
   -- on part 0
   module _ (second : d.parts.second ≡ c.parts.second) where

@@ -231,7 +231,8 @@ module _ (c d : Container) (drops : DropsChanges c d) where
       rw (drops.header, drops.image, drops.table)
       (all_cells disk c.image c.table.items image c.header active c.parts.first d.parts.first c.parts.second
       d.parts.second drops.first drops.second sound
-      (held_one 0 c.parts.first d.parts.first drops.first whole.first (selects c.parts.first d.parts.first drops.first opened.parts.first.untouched.contents.selector) held.first)
+      (held_one 0 c.parts.first d.parts.first drops.first whole.first
+      (selects c.parts.first d.parts.first drops.first opened.parts.first.untouched.contents.selector) held.first)
       (second_of c.parts.second d.parts.second drops.second whole.second opened.parts.second held.second))
     where
       selects : (old new : Part) → DropsPart old new → new.dpfs.selector ≡ new.difi.selector

@@ -220,7 +220,8 @@ module _ {D : Type 0} (states : D → disks.State) (c d : Container) (view next 
         spots = λ can spot misses.
             (let own = spot_left states v w can_view spot at n hold (moves.spots (part_can can) spot)
             (λ k less there. misses k less
-            (lands_first (bytes_of (image_of states view).cells) (image_lands states view) c.parts.first c.parts.second (at + k) spot (omega (arith, less, fits)) there)) in
+            (lands_first (bytes_of (image_of states view).cells) (image_lands states view) c.parts.first c.parts.second
+            (at + k) spot (omega (arith, less, fits)) there)) in
             kept spot own.0 own.1);
         damaged = λ can. all_kept refusal (moves.damaged (part_can can));
         reach = λ can. UnlessDisk-map refusal (reach (left_by_put can)) (moves.reach (part_can can));

@@ -66,7 +66,8 @@ fn tell_in<S: Space>(
 ) -> Result<Status, Bad>
     requires view { CanViewPart (S.state image.old).shape part.old (length table.old) }
     requires there { HasBlock part.old.difi level block }
-    ensures status { IsTrue (part_state (S.state image.old) part.old table.old).told → IfOk result (λ status. status ≡ status_in (S.state image.old) part.old table.old level block) }
+    ensures status { IsTrue (part_state (S.state image.old) part.old table.old).told
+        → IfOk result (λ status. status ≡ status_in (S.state image.old) part.old table.old level block) }
     ensures plain { NeverDamaged (result_err result) }
     ensures left { ReadsPart S.state S.keeps S.lands image.old image.new part.old part.new table.old table.new (result_err result) }
 {

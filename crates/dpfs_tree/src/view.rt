@@ -15,7 +15,8 @@ ghost use Rattle.dpfs_tree.specs.Held.{shown_contents, IsContentsOf, SameContent
 ghost use Rattle.dpfs_tree.specs.Seals.{IsSealed};
 ghost use Rattle.dpfs_tree.specs.Spares.{Spares};
 ghost use Rattle.save_bytes.specs.Spots.{Frame, MovesOnly};
-ghost use Rattle.dpfs_tree.specs.ViewLaws.{true-can_view_contents, contents_tree, view_size_fits, ContentsKeep-same, ContentsKeep-join, contents_shape, contents_cells, contents_lands};
+ghost use Rattle.dpfs_tree.specs.ViewLaws.{true-can_view_contents, contents_tree, view_size_fits, ContentsKeep-same, ContentsKeep-join};
+ghost use Rattle.dpfs_tree.specs.ViewLaws.{contents_shape, contents_cells, contents_lands};
 
 use crate::places::{locate, view_len};
 use crate::seal::seal_in;
@@ -95,7 +96,8 @@ impl<S: Space> Space for DpfsView<'_, S> {
 
     ghost size_fits = { λ s. view_size_fits (S.state s.base.now) s.part_at s.difi.now s.state.now (S.size_fits s.base.now) };
 
-    ghost plain_bytes = { λ s plain told x. S.plain_bytes s.base.now plain told (place_of (bytes_of (S.state s.base.now).cells) s.part_at s.difi.now s.state.now x) };
+    ghost plain_bytes = { λ s plain told x. S.plain_bytes s.base.now plain told
+        (place_of (bytes_of (S.state s.base.now).cells) s.part_at s.difi.now s.state.now x) };
 
     ghost no_twins = { λ s single. record { apart = λ x y same. same; free = λ x. refl } };
 

@@ -87,7 +87,10 @@ impl Space for MemSpace<'_> {
 
     ghost keeps_shape = { λ s t kept. SameMemory-shape s t kept.0 };
 
-    ghost keeps_cells = { λ s t sound single told still kept. (λ x inside. ap Byte (kept (Place x)).1, record { bottom = λ x inside. refl; is_fixed = λ x inside. refl }) };
+    ghost keeps_cells = { λ s t sound single told still kept. (
+      λ x inside. ap Byte (kept (Place x)).1,
+      record { bottom = λ x inside. refl; is_fixed = λ x inside. refl },
+    ) };
 
     ghost keeps_lands = { λ s t sound single told still kept x below spot lands. lands };
 

@@ -9,7 +9,8 @@ ghost use Rattle.save_disk.specs.Keeps.{HoldsAll, Agree, Keeps, EachStop, StopsL
 
 /// Where a trace has no write, a stop leaves the image of its start and no other.
 pub fn leaves_start()
-    ensures { (grain : ℕ) (start : List ℕ) (events : List Event) (image : List ℕ) → 1 ≤ grain → HasNoWrite events → (CrashMayLeave grain start events image ↔ (image ≡ start)) }
+    ensures { (grain : ℕ) (start : List ℕ) (events : List Event) (image : List ℕ) → 1 ≤ grain → HasNoWrite events
+        → (CrashMayLeave grain start events image ↔ (image ≡ start)) }
 {}
 
 /// Where nothing was written since the last sync, a stop leaves the image that the sync kept and no other.

@@ -132,7 +132,8 @@ impl Disk for MemDesk {
         ensures failed { OnErr result (GoesOn (WriteFails sector bytes.now) (state_of self.old) (state_of self.new)) }
         ensures steady { IsSteady (state_of self.old) (state_of self.new) }
         ensures cause { HasCause (state_of self.old).counts.disk (state_of self.new).counts.disk result }
-        ensures ends { let trace = then_event (Write sector bytes.now) (memory_of self.old).trace in Ends Call.Write (λ _. trace) trace (memory_of self.old) (memory_of self.new) result }
+        ensures ends { let trace = then_event (Write sector bytes.now) (memory_of self.old).trace in
+            Ends Call.Write (λ _. trace) trace (memory_of self.old) (memory_of self.new) result }
     {
         let Ok(kept) = self.trace.keep(bytes) else {
             return Err(self.log.fall_short(Call::Write));
@@ -150,7 +151,8 @@ impl Disk for MemDesk {
         ensures failed { OnErr result (IsQuiet (state_of self.old) (state_of self.new)) }
         ensures steady { IsSteady (state_of self.old) (state_of self.new) }
         ensures cause { HasCause (state_of self.old).counts.disk (state_of self.new).counts.disk result }
-        ensures ends { let trace = (memory_of self.old).trace in Ends Call.Sync (λ _. then_event Sync trace) trace (memory_of self.old) (memory_of self.new) result }
+        ensures ends { let trace = (memory_of self.old).trace in
+            Ends Call.Sync (λ _. then_event Sync trace) trace (memory_of self.old) (memory_of self.new) result }
     {
         if self.trace.make_room(0).is_err() {
             return Err(self.log.fall_short(Call::Sync));
@@ -190,7 +192,8 @@ impl Desk for MemDesk {
         ensures steady { IsSteady (state_of self.old) (state_of self.new) }
         ensures cause { HasCause (state_of self.old).counts.sink (state_of self.new).counts.sink result }
         ensures all { IfOk result (λ n. n ≡ length bytes.now) }
-        ensures ends { let trace = (memory_of self.old).trace in Ends Call.Say (λ _. then_event (Said bytes.now) trace) trace (memory_of self.old) (memory_of self.new) result }
+        ensures ends { let trace = (memory_of self.old).trace in
+            Ends Call.Say (λ _. then_event (Said bytes.now) trace) trace (memory_of self.old) (memory_of self.new) result }
     {
         let Ok(kept) = self.trace.keep(bytes) else {
             return Err(self.log.fall_short(Call::Say));

@@ -42,7 +42,8 @@ impl Window {
     /// Gives the bytes from a place on, as many as `out` has, where the window has them all.
     pub(crate) fn get(&self, at: u64, out: &mut [u8]) -> bool
         ensures exact { IsTrue result ↔ Has at (length out.old) self.now }
-        ensures given { IsTrue result → (file : List ℕ) → IsOf file self.now → (k : ℕ) → k < length out.new → slice_index out.new k ≡ slice_index file (at + k) }
+        ensures given { IsTrue result → (file : List ℕ) → IsOf file self.now → (k : ℕ) → k < length out.new
+            → slice_index out.new k ≡ slice_index file (at + k) }
         ensures size { length out.new ≡ length out.old }
     {
         if at < self.at {

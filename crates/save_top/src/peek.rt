@@ -117,7 +117,8 @@ fn fill<D: Disk>(
     requires disk { IsDiskOf (D.state disk.old) container.old.image }
     requires inside { at + length out.old ≤ (store_of (D.state disk.old) container.old).shape.size }
     ensures read { IsRead (store_of (D.state disk.old) container.old) at (length out.old) (result_err result) }
-    ensures bytes { IsTrue (store_of (D.state disk.old) container.old).told → OnOk result (AreBytesAt (store_of (D.state disk.old) container.old).cells at out.new) }
+    ensures bytes { IsTrue (store_of (D.state disk.old) container.old).told
+        → OnOk result (AreBytesAt (store_of (D.state disk.old) container.old).cells at out.new) }
     ensures quiet { IsClean container.old.image → IsQuiet (D.state disk.old) (D.state disk.new) }
     ensures steady { IsSteady (D.state disk.old) (D.state disk.new) }
     ensures cause { OnDisk (result_err result) (Rose (D.state disk.old).counts.disk (D.state disk.new).counts.disk) }

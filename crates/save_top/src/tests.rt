@@ -142,8 +142,8 @@ fn block_is_said_whole(rt: HostRuntime) -> Result<(), Fail> {
 fn part_1_is_shown_behind_part_0(rt: HostRuntime) -> Result<(), Fail> {
     let alloc = rt.alloc();
     let image = sample(alloc, Sample::Loose)?;
-    let info =
-        "kind DISA\nactive primary\ntable 1536 604\npart A 45056 65536\npart B 4096 40960\nhash 1f2f002023c9df27c3b5c618b2f236417038727a8aafcc4e92234e278e76ecf4\n";
+    let info = "kind DISA\nactive primary\ntable 1536 604\npart A 45056 65536\npart B 4096 40960\n\
+         hash 1f2f002023c9df27c3b5c618b2f236417038727a8aafcc4e92234e278e76ecf4\n";
     let damaged = (REFUSED, "refused Damaged 0 1 0\n");
     assert_reply(&rt, alloc, &image, &ZeroSigner, "F info", (DONE, info))?;
     assert_reply(&rt, alloc, &image, &ZeroSigner, "F peek 0 0", damaged)?;

@@ -116,7 +116,8 @@ fn peek<D: Desk>(
 
 // Opens the image at the desk.
 fn open<D: Desk, G: Signer>(alloc: Global, desk: &mut D, signer: &G) -> Result<Container, Failure>
-    ensures opened { IfOk result (λ container. WhenFresh (λ told. Holds (signing G.tag_of G.is_demanding signer.now) told.start (D.state desk.new) container) (D.state desk.old)) }
+    ensures opened { IfOk result (λ container. WhenFresh (λ told. Holds (signing G.tag_of G.is_demanding signer.now)
+        told.start (D.state desk.new) container) (D.state desk.old)) }
     ensures whole { IfOk result IsWholeContainer }
     ensures disk { IfOk result (λ container. IsDiskOf (D.state desk.new) container.image) }
     ensures clean { IfOk result (λ container. IsClean container.image) }

@@ -33,7 +33,8 @@ returns-clause-puts g c = λ s t over later names.
     (later.part_now ∙ rw over.part_now refl) (rw over.part_now size) (rw (over.part_now, over.table_now) refl)
     (later.table_now ∙ rw (over.part_now, over.table_now) refl) (rw (over.part_now, over.table_now) c.requires.view.master)
     g.S.Space.lands g.met.S.Space.keeps_hold g.met.S.Space.keeps_shape
-    (rw (over.base_now, over.part_now, over.table_now) c.requires.view) c.args.at c.args.bytes.now (result_err c.put_over.result) (rw over.part_now c.put_over.ensures.moves.hold)
+    (rw (over.base_now, over.part_now, over.table_now) c.requires.view) c.args.at c.args.bytes.now
+    (result_err c.put_over.result) (rw over.part_now c.put_over.ensures.moves.hold)
     (rw over.part_now c.put_over.ensures.puts)
 
 pub returns-clause-moves : goal.returns-clause-moves
