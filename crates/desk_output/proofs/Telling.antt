@@ -7,17 +7,10 @@ use Rattle.save_disk.specs.Trace.{Event, Told, Write, Sync, Said, OnlySays, said
 use Rattle.save_disk.specs.State.{State, then_event}
 use Rattle.save_disk.specs.Stops.{AtEachMoment}
 use Rattle.save_disk.specs.Tells.{Tells}
+use Rattle.save_disk.proofs.Events.{said_of-append}
 use Rattle.desk_output.specs.Output.{IsFront, SaysFront, SaysAll, SaysBefore, HasOnlySaid}
 
 -- ---- events behind one another
-
-said_of-append : (events more : List Event) → said_of (events ++ more) ≡ said_of events ++ said_of more
-said_of-append [] more = refl
-said_of-append (Said first ∷ events) more =
-    ap (λ (l : List ℕ). first ++ l) (said_of-append events more)
-    ∙ sym (append_assoc first (said_of events) (said_of more))
-said_of-append (Write sector written ∷ events) more = said_of-append events more
-said_of-append (Sync ∷ events) more = said_of-append events more
 
 OnlySays-append : (events more : List Event) → OnlySays events → OnlySays more → OnlySays (events ++ more)
 OnlySays-append [] more only next = next
@@ -97,11 +90,6 @@ module _ (P Q R : List Event → Type 0) where
             (append_assoc told.events before.0 after.0),
       )
 
-pub tells_as : (P Q : List Event → Type 0) (one two : State) → Tells P one two
-    → ((events : List Event) → P events → Q events) → Tells Q one two
-tells_as P Q one two so_far each = λ told is.
-    let since = so_far told is in (since.0, each since.0 since.1, since.2)
-
 pub only_start : (o : Option Told) → HasOnlySaid o o
 only_start None = refl
 only_start (Some told) =
@@ -117,9 +105,6 @@ only_join (Some told) two three first second =
           (append_assoc told.events first.0 after.0),
     )
 
-pub only_quiet : (one two : Option Told) → two ≡ one → HasOnlySaid one two
-only_quiet one two same = subst (λ (o : Option Told). HasOnlySaid one o) (sym same) (only_start one)
-
 only_said : (bytes : List ℕ) (one two : Option Told) → two ≡ option_map (then_event (Said bytes)) one
     → HasOnlySaid one two
 only_said bytes None two is = is
@@ -128,10 +113,6 @@ only_said bytes (Some told) two is = (Said bytes ∷ [], tt, is)
 pub only_more : (bytes : List ℕ) (one two three : Option Told) → HasOnlySaid one two
     → three ≡ option_map (then_event (Said bytes)) two → HasOnlySaid one three
 only_more bytes one two three so_far is = only_join one two three so_far (only_said bytes two three is)
-
--- a desk that tells its trace
-pub only_tells : (one two : State) → HasOnlySaid one.told two.told → Tells OnlySays one two
-only_tells one two only = λ told is. subst (λ (o : Option Told). HasOnlySaid o two.told) is only
 
 -- ---- at each moment
 

@@ -5,11 +5,11 @@ use Rattle.std.proofs.lemmas.Bool.{ltb-false, le-ltb, eqb-true, eq-eqb, not-fals
 use Rattle.std.proofs.lemmas.Slice.Eq.{bytes_eq-Decides}
 use Rattle.std.proofs.lemmas.Bool.Decides.{nat_tests}
 use Rattle.save_bytes.specs.declared.extent.Extent.{Extent}
-use Rattle.save_bytes.specs.Extents.{lies_inside}
+use Rattle.save_bytes.specs.Extents.{is_outside, lies_inside}
 use Rattle.save_bytes.proofs.ExtentLemmas.{inside, not-lies_inside}
 use Rattle.difi.specs.Places.{some_outside}
 use Rattle.difi.specs.Sound.{IsBetween}
-use Rattle.difi.specs.Conditions.{is_outside, is_bad_part}
+use Rattle.difi.specs.Conditions.{is_bad_part}
 
 -- a range lies inside 0 to an end where its own end does
 pub ends_inside : (extent : Extent) (high : ℕ) → not (lies_inside extent 0 high) ≡ false

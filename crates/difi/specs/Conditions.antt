@@ -3,7 +3,7 @@ use Rattle.std.specs.Prelude.{ℕ, ◌+◌, Bool, ◌&&◌, ◌||◌, not, ◌==
 use Rattle.std.specs.Prelude.{Err, if◌then◌else◌}
 use Rattle.std.specs.List.{list_any}
 use Rattle.save_bytes.specs.declared.extent.Extent.{Extent}
-use Rattle.save_bytes.specs.Extents.{lies_inside, overlap, some_overlap}
+use Rattle.save_bytes.specs.Extents.{is_outside, lies_inside, overlap, some_overlap}
 use Rattle.difi.specs.declared.places.LevelPlace.{LevelPlace}
 use Rattle.difi.specs.declared.descriptor.Difi.{Difi}
 use Rattle.difi.specs.declared.fault.DifiFault.{DifiFault}
@@ -60,9 +60,6 @@ name_tests table ivfc dpfs =
     ∷ (Magic 3, not (has_name table dpfs (codes "DPFS")))
     ∷ (Version 3, not (word_at table (dpfs + 4) == 0x10000))
     ∷ []
-
-abbrev pub is_outside : ℕ → ℕ → ℕ → Bool
-is_outside low high n = nat_lt n low || nat_lt high n
 
 -- a block of DPFS level 2 or 3 has 2 ^ 7 to 2 ^ 16 bytes, one of an IVFC level 2 ^ 9 to 2 ^ 16
 unfoldable pub has_bad_log : Difi → Bool

@@ -4,7 +4,8 @@ ghost use Rattle.std.specs.Prelude.{◌≡◌, ◌+◌, ◌≤◌, length, OnOk}
 ghost use Rattle.std.specs.Bool.{OnFalse};
 ghost use Rattle.difi.specs.Fields.{has_name, ivfc_extent, dpfs_extent};
 ghost use Rattle.difi.specs.Conditions.{difi_tests, name_tests, level_tests, verdict, has_no_place, is_bad_part};
-ghost use Rattle.difi.specs.Conditions.{is_outside, has_bad_log, has_bad_copies, has_short_bitmap};
+ghost use Rattle.save_bytes.specs.Extents.{is_outside};
+ghost use Rattle.difi.specs.Conditions.{has_bad_log, has_bad_copies, has_short_bitmap};
 ghost use Rattle.difi.specs.Conditions.{has_overlapping_copies, has_bad_level, has_overlapping_levels};
 ghost use Rattle.difi.specs.Conditions.{has_bad_external, has_too_few_entries, hash_levels, inner_count, pairs};
 ghost use Rattle.difi.specs.Conditions.{parts};

@@ -3,6 +3,10 @@ use Rattle.std.specs.Prelude.{ℕ, ◌+◌, ◌<◌, ◌≤◌, Bool, false, ◌
 use Rattle.std.specs.List.{list_any}
 use Rattle.save_bytes.specs.declared.extent.Extent.{Extent}
 
+-- n is not one of the numbers from low to high
+abbrev pub is_outside : ℕ → ℕ → ℕ → Bool
+is_outside low high n = nat_lt n low || nat_lt high n
+
 -- the beginning and the end of a range lie in the range from low to high
 pub record LiesInside (extent : Extent) (low high : ℕ) : Type 0 where
   pub begins : low ≤ extent.at

@@ -17,7 +17,7 @@ image_after-push grain (Write sector bytes ∷ events) event image =
 image_after-push grain (Sync ∷ events) event image = image_after-push grain events event image
 image_after-push grain (Said bytes ∷ events) event image = image_after-push grain events event image
 
-said_of-append : (events more : List Event) → said_of (events ++ more) ≡ said_of events ++ said_of more
+pub said_of-append : (events more : List Event) → said_of (events ++ more) ≡ said_of events ++ said_of more
 said_of-append [] more = refl
 said_of-append (Write sector bytes ∷ events) more = said_of-append events more
 said_of-append (Sync ∷ events) more = said_of-append events more

@@ -1,14 +1,13 @@
 //! The conditions on where a filesystem lies, in the order in which a fault is named.
 
 ghost use Rattle.std.specs.Prelude.{◌≡◌, ◌+◌, ◌*◌, nat_lt, ◌||◌};
-ghost use Rattle.save_bytes.specs.Extents.{some_overlap};
+ghost use Rattle.save_bytes.specs.Extents.{is_outside, some_overlap};
 ghost use Rattle.container_header.specs.Conditions.{first_failing};
 ghost use Rattle.entry_tables.specs.Kinds.{entry_size};
 ghost use Rattle.entry_tables.specs.Tables.{Table, Tables};
 ghost use Rattle.tree_rules.specs.Information.{has_second, front_len, fields_on};
 ghost use Rattle.tree_rules.specs.Places.{places_of, place_from, table_lies};
 ghost use Rattle.tree_rules.specs.Layout.{
-  is_outside,
   is_block_size,
   passes_end,
   is_misplaced,

@@ -5,6 +5,7 @@ use Rattle.std.proofs.lemmas.Bool.{or_cases, ltb-false, le-ltb, leb-false, lt-le
 use Rattle.std.specs.List.{list_any, range_with_len}
 use Rattle.std.proofs.lemmas.List.Folds.{list_any_at}
 use Rattle.std.proofs.lemmas.List.FromFn.{get_or-range_with_len}
+use Rattle.save_bytes.specs.Extents.{is_outside}
 use Rattle.container_header.proofs.Soundness.{none_from, none_to}
 use Rattle.entry_tables.specs.declared.table.EntryKind.{EntryKind}
 use Rattle.entry_tables.specs.declared.table.EntryKind.TheVariants.{Dir, File}
@@ -19,7 +20,7 @@ use Rattle.tree_rules.specs.declared.information.Places.{Places}
 use Rattle.tree_rules.specs.Places.{places_of}
 use Rattle.std.proofs.Common.{List, [], ◌∷◌}
 use Rattle.container_header.specs.Conditions.{first_failing}
-use Rattle.tree_rules.specs.Layout.{of_either, is_outside, is_block_size, passes_end, is_misplaced, is_too_long}
+use Rattle.tree_rules.specs.Layout.{of_either, is_block_size, passes_end, is_misplaced, is_too_long}
 use Rattle.tree_rules.specs.Layout.{is_bad_most, place_faults, table_faults, layout_fault}
 use Rattle.tree_rules.specs.Sound.{LiesBetween, IsTablePlace, HasTableRoom, least_most, largest_most, HasPlaces}
 use Rattle.tree_rules.specs.Sound.{HasLayout}

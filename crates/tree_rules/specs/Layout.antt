@@ -3,7 +3,7 @@ use Rattle.std.specs.Prelude.{ℕ, ◌+◌, ◌*◌, ◌^◌, Bool, not, ◌||�
 use Rattle.std.specs.Prelude.{List, [], ◌∷◌, ◌++◌, Option, if◌then◌else◌}
 use Rattle.std.specs.List.{list_any, range_with_len}
 use Rattle.save_bytes.specs.declared.extent.Extent.{Extent}
-use Rattle.save_bytes.specs.Extents.{some_overlap}
+use Rattle.save_bytes.specs.Extents.{is_outside, some_overlap}
 use Rattle.container_header.specs.Conditions.{first_failing}
 use Rattle.entry_tables.specs.declared.table.EntryKind.{EntryKind}
 use Rattle.entry_tables.specs.declared.table.EntryKind.TheVariants.{Dir, File}
@@ -22,10 +22,6 @@ use Rattle.tree_rules.specs.Information.{fields_on}
 -- a test of either kind
 abbrev pub of_either : (EntryKind → Bool) → Bool
 of_either test = test Dir || test File
-
--- n is not one of the numbers from low to high
-abbrev pub is_outside : ℕ → ℕ → ℕ → Bool
-is_outside low high n = nat_lt n low || nat_lt high n
 
 -- the size of a data block: a power of two from 512 to 65,536
 abbrev pub is_block_size : ℕ → Bool
