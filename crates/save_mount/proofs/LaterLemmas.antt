@@ -23,7 +23,8 @@ use Rattle.tree_rules.specs.declared.information.TableAt.{TableAt}
 use Rattle.tree_rules.specs.declared.information.TableAt.TheVariants.{Plainly, InChain}
 use Rattle.tree_rules.specs.declared.information.Places.{Places}
 use Rattle.tree_rules.specs.Information.{front_len, has_second}
-use Rattle.tree_rules.specs.Layout.{of_either, is_outside, is_bad_most}
+use Rattle.save_bytes.specs.Extents.{is_outside}
+use Rattle.tree_rules.specs.Layout.{of_either, is_bad_most}
 use Rattle.tree_rules.specs.Layout.{is_too_long, passes_end, plain_extent, extent_from}
 use Rattle.tree_rules.specs.Layout.{place_faults, table_faults, taken_extents, layout_fault}
 use Rattle.tree_rules.specs.Places.{places_of, table_lies}
